@@ -1,0 +1,44 @@
+-- What the check of a cell list answers, as document 01's table and its order of checks have it. Assumes nothing.
+use mathlib.Core.Path.{_≡_}
+use Prim.Native.Nat.{ℕ, zero, suc, _+_, _*_, _/_, _%_, _≤_, _<_}
+use mathlib.Core.Bool.{Bool, true, false, not}
+use mathlib.Core.List.{List, [], _∷_}
+use lib.ListN.{length}
+use lib.Dec.{eqb, leb, ltb}
+use Rattle.refusal.specs.declared.Answer.{Answer}
+use Rattle.refusal.specs.declared.Answer.the-variants.{Fine, Refused}
+use Rattle.refusal.specs.Refuse.{refuse}
+use Rattle.refusal.specs.Limits.{mostCells, mostVertices}
+use Rattle.lists.specs.Words.{among, either, hasRepeat, largestOf, wordAt, firstWhere}
+
+-- which word is the first that names a vertex twice: the number of words, where none does
+abbrev pub firstRepeat : ℕ → List ℕ → ℕ → ℕ
+firstRepeat n ws count = firstWhere (λ k. hasRepeat (wordAt n ws k)) count
+
+-- the least number below the largest that no word has: the largest, where there is none
+abbrev pub leastUnused : List ℕ → ℕ
+leastUnused ws = firstWhere (λ v. not (among v ws)) (largestOf ws)
+
+-- document 01: 1, 2, 3, 4, 6, 5, in this order
+unfoldable pub answerOf : ℕ → List ℕ → Answer
+answerOf d ws =
+    let n = d + 1 in
+    let count = length ws / n in
+    refuse (ltb 3 d) 1 0
+    (refuse (eqb (length ws) 0) 2 0
+    (refuse (not (eqb (length ws % n) 0)) 2 0
+    (refuse (ltb mostCells count) 3 0
+    (refuse (ltb (firstRepeat n ws count) count) 4 (firstRepeat n ws count)
+    (refuse (leb mostVertices (largestOf ws)) 6 0
+    (refuse (ltb (leastUnused ws) (largestOf ws)) 5 (leastUnused ws)
+    Fine))))))
+
+-- what the answer Fine tells of a list: none of the six refusals applies
+pub record Passed (d : ℕ) (ws : List ℕ) : Type 0 where
+  pub small : d ≤ 3
+  pub some-words : length ws ≡ 0 → ⊥
+  pub whole : length ws % (d + 1) ≡ 0
+  pub few : length ws / (d + 1) ≤ mostCells
+  pub apart : (k : ℕ) → k < length ws / (d + 1) → hasRepeat (wordAt (d + 1) ws k) ≡ false
+  pub low : largestOf ws < mostVertices
+  pub used : (v : ℕ) → v < largestOf ws → among v ws ≡ true

@@ -1,0 +1,5 @@
+pub mod Laws
+pub mod Members
+pub mod Front
+pub mod Rows
+pub mod Words

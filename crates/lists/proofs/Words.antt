@@ -1,0 +1,126 @@
+-- Laws of `specs/Words.antt`: each function over `drop i ws`, one element at a time, and what a search has shown. Assumes nothing.
+use mathlib.Core.Path.{_≡_, refl, sym, ap, _∙_}
+use mathlib.Core.Bool.{Bool, true, false, not}
+use mathlib.Core.List.{List, [], _∷_}
+use Prim.Native.Nat.{ℕ, zero, suc, _+_, _*_, _-_, _≤_, _<_, max, zero-le, suc-le-suc}
+use native.Mathlib.Numerals.{add-one}
+use native.Mathlib.Nat.{le-of-eq, le-trans, lt-of-lt-of-le, suc-mul, mul-le-mul-right}
+use native.Mathlib.Omega.{arith}
+use lib.Dec.{eqb}
+use lib.ListN.{length, getD, take, drop, set, drop-of-length-le, length-drop, length-set, length-replicate, replicate, getD-replicate}
+use lib.Seq.{drop-cons, take-all, getD-set-same, getD-set-other, lt-length-set}
+use borrow.Author.Tests.{eq-eqb, ne-eqb, eqb-true, eqb-false}
+use Rattle.lists.specs.Words.{either, among, hasRepeat, largestOf, foundAt, firstWhere, marked}
+
+pub among-step : (v : ℕ) (ws : List ℕ) (i : ℕ) → i < length ws → among v (drop i ws) ≡ either (eqb (getD ws i 0) v) (among v (drop (i + 1) ws))
+unfolding among
+among-step v ws i h = rw add-one (ap (among v) (drop-cons ws i 0 h))
+
+pub among-end : (v : ℕ) (ws : List ℕ) (i : ℕ) → length ws ≤ i → among v (drop i ws) ≡ false
+unfolding among
+among-end v ws i h = ap (among v) (drop-of-length-le ws h)
+
+pub repeat-step : (ws : List ℕ) (i : ℕ) → i < length ws → hasRepeat (drop i ws) ≡ either (among (getD ws i 0) (drop (i + 1) ws)) (hasRepeat (drop (i + 1) ws))
+unfolding hasRepeat
+repeat-step ws i h = rw add-one (ap hasRepeat (drop-cons ws i 0 h))
+
+pub repeat-end : (ws : List ℕ) (i : ℕ) → length ws ≤ i → hasRepeat (drop i ws) ≡ false
+unfolding hasRepeat
+repeat-end ws i h = ap hasRepeat (drop-of-length-le ws h)
+
+pub largest-step : (ws : List ℕ) (i : ℕ) → i < length ws → largestOf (drop i ws) ≡ max (getD ws i 0) (largestOf (drop (i + 1) ws))
+unfolding largestOf
+largest-step ws i h = rw add-one (ap largestOf (drop-cons ws i 0 h))
+
+pub largest-end : (ws : List ℕ) (i : ℕ) → length ws ≤ i → largestOf (drop i ws) ≡ 0
+unfolding largestOf
+largest-end ws i h = ap largestOf (drop-of-length-le ws h)
+
+pub marked-step : (l ws : List ℕ) (i : ℕ) → i < length ws → marked l (drop i ws) ≡ marked (set l (getD ws i 0) 1) (drop (i + 1) ws)
+unfolding marked
+marked-step l ws i h = rw add-one (ap (marked l) (drop-cons ws i 0 h))
+
+pub marked-end : (l ws : List ℕ) (i : ℕ) → length ws ≤ i → marked l (drop i ws) ≡ l
+unfolding marked
+marked-end l ws i h = ap (marked l) (drop-of-length-le ws h)
+
+-- no number of the list is above its largest
+pub below-largest : (ws : List ℕ) (i : ℕ) → getD ws i 0 ≤ largestOf ws
+unfolding largestOf
+below-largest [] i = zero-le
+below-largest (x ∷ ws) zero = omega arith
+below-largest (x ∷ ws) (suc i) = omega (arith, below-largest ws i)
+
+-- a search that no number passes ends at its bound
+pub first-none : (p : ℕ → Bool) (m : ℕ) → ((k : ℕ) → k < m → p k ≡ false) → firstWhere p m ≡ m
+unfolding firstWhere foundAt
+first-none p zero h = refl
+first-none p (suc m) h = rw (h 0 (suc-le-suc zero-le)) (ap suc (first-none (λ k. p (suc k)) m (λ k l. h (suc k) (suc-le-suc l))))
+
+-- the first number that passes is what the search finds
+pub first-at : (p : ℕ → Bool) (m k : ℕ) → k < m → ((j : ℕ) → j < k → p j ≡ false) → p k ≡ true → firstWhere p m ≡ k
+unfolding firstWhere foundAt
+first-at p zero k l h t = omega arith
+first-at p (suc m) zero l h t = rw t
+first-at p (suc m) (suc k) l h t = rw (h 0 (suc-le-suc zero-le)) (ap suc (first-at (λ k. p (suc k)) m k (omega arith) (λ j q. h (suc j) (suc-le-suc q)) t))
+
+-- v stands at i, or it does not
+pub among-hit : (v : ℕ) (ws : List ℕ) (i : ℕ) → i < length ws → getD ws i 0 ≡ v → among v (drop i ws) ≡ true
+unfolding either
+among-hit v ws i h e = among-step v ws i h ∙ rw (eq-eqb _ _ e)
+
+pub among-miss : (v : ℕ) (ws : List ℕ) (i : ℕ) → i < length ws → (getD ws i 0 ≡ v → ⊥) → among v (drop i ws) ≡ among v (drop (i + 1) ws)
+unfolding either
+among-miss v ws i h e = among-step v ws i h ∙ rw (ne-eqb _ _ e)
+
+-- the number at i stands again after i, or it does not
+pub repeat-hit : (ws : List ℕ) (i : ℕ) → i < length ws → among (getD ws i 0) (drop (i + 1) ws) ≡ true → hasRepeat (drop i ws) ≡ true
+unfolding either
+repeat-hit ws i h e = repeat-step ws i h ∙ rw e
+
+pub repeat-miss : (ws : List ℕ) (i : ℕ) → i < length ws → among (getD ws i 0) (drop (i + 1) ws) ≡ false → hasRepeat (drop i ws) ≡ hasRepeat (drop (i + 1) ws)
+unfolding either
+repeat-miss ws i h e = repeat-step ws i h ∙ rw e
+
+-- the part &ws[i..] is what is left after the first i
+pub tail-part : (ws : List ℕ) (i : ℕ) → take (length ws - i) (drop i ws) ≡ drop i ws
+tail-part ws i = take-all (length ws - i) (drop i ws) (le-of-eq (length-drop i ws))
+
+-- word k of count words of n numbers ends within the list
+pub word-within : (k n count len : ℕ) → k < count → count * n ≤ len → k * n + n ≤ len
+word-within k n count len h f = rw (← suc-mul k n) (le-trans (mul-le-mul-right n h) f)
+
+-- two tests that agree below m find the same
+pub first-same : (p q : ℕ → Bool) (m : ℕ) → ((k : ℕ) → k < m → p k ≡ q k) → firstWhere p m ≡ firstWhere q m
+unfolding firstWhere
+first-same p q zero h = refl
+first-same p q (suc m) h =
+    rw (h 0 (suc-le-suc zero-le), first-same (λ k. p (suc k)) (λ k. q (suc k)) m (λ k l. h (suc k) (suc-le-suc l)))
+
+-- a place is empty after the marks where it was empty before them and none of them falls on it
+abbrev pub freeAfter : Bool → Bool → Bool
+freeAfter true b = false
+freeAfter false b = b
+
+free-false : (t : Bool) → freeAfter t false ≡ false
+free-false true = refl
+free-false false = refl
+
+pub marked-at : (ws l : List ℕ) (v : ℕ) → v < length l → eqb (getD (marked l ws) v 0) 0 ≡ freeAfter (among v ws) (eqb (getD l v 0) 0)
+unfolding marked among either
+marked-at [] l v h = refl
+marked-at (x ∷ ws) l v h = marked-at ws (set l x 1) v (lt-length-set l x 1 h) ∙ go (eqb x v) refl
+  where
+    go : (t : Bool) → eqb x v ≡ t → freeAfter (among v ws) (eqb (getD (set l x 1) v 0) 0) ≡ freeAfter (either t (among v ws)) (eqb (getD l v 0) 0)
+    go true e = rw (eqb-true x v e, getD-set-same l v 1 0 h) (free-false (among v ws))
+    go false e = rw (getD-set-other l x v 1 0 (λ s. eqb-false x v e (sym s)))
+
+-- over an empty table the free places are the numbers that are not among those marked
+pub free-unused : (n : ℕ) (ws : List ℕ) (m : ℕ) → m ≤ n → firstWhere (λ v. eqb (getD (marked (replicate n 0) ws) v 0) 0) m ≡ firstWhere (λ v. not (among v ws)) m
+free-unused n ws m h = first-same _ _ m λ k l.
+    let b : k < n = lt-of-lt-of-le l h in
+    marked-at ws (replicate n 0) k (rw length-replicate b) ∙ rw (getD-replicate {A = ℕ} n k 0 0 b) (free-not (among k ws))
+  where
+    free-not : (t : Bool) → freeAfter t true ≡ not t
+    free-not true = refl
+    free-not false = refl

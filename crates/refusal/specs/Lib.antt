@@ -1,0 +1,5 @@
+pub mod Limits
+pub mod Table
+pub mod Refuse
+pub mod Lent
+pub mod Call

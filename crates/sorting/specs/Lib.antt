@@ -1,0 +1,4 @@
+pub mod Bucket
+pub mod Order
+pub mod Distinct
+pub mod Gather
