@@ -1,0 +1,120 @@
+-- A grid with glued axes, and when it is refused (document 01, "Numbers that bound the work"). Assumes nothing.
+use Prim.Native.Nat.{ℕ, _+_, _*_, _%_}
+use mathlib.Core.Bool.{Bool, true, false, cond, _&&_, _||_}
+use lib.Dec.{leb, ltb, eqb}
+use mathlib.Core.List.{List, [], _∷_}
+use lib.ListN.{getD}
+use Rattle.quotient.specs.declared.Glue.{Glue}
+use Rattle.quotient.specs.declared.Glue.the-variants.{Open, Periodic, Twisted}
+use Rattle.quotient.specs.declared.Axis.{Axis}
+use Rattle.quotient.specs.declared.Grid.{Grid}
+use Rattle.refusal.specs.declared.Answer.{Answer}
+use Rattle.refusal.specs.declared.Answer.the-variants.{Fine, Refused}
+use Rattle.quotient.specs.declared.Parity.{Parity}
+use Rattle.quotient.specs.declared.Parity.the-variants as Parity
+use Rattle.quotient.specs.Fold.{least, product, factorial, member, some, count}
+
+-- no axis: what stands past the third
+abbrev pub noAxis : Axis
+noAxis = record { count = 0; glue = Open }
+
+-- axis i of the grid, from 0 to 2
+unfoldable pub axisOf : Grid → ℕ → Axis
+axisOf g i = getD (g .first ∷ g .second ∷ g .third ∷ []) i noAxis
+
+abbrev pub closedOf : Glue → Bool
+closedOf Open = false
+closedOf Periodic = true
+closedOf (Twisted m) = true
+
+-- the set of axes that a gluing reflects, as a mask
+abbrev pub maskOf : Glue → ℕ
+maskOf Open = 0
+maskOf Periodic = 0
+maskOf (Twisted m) = m
+
+-- cells on axis i, whether it is closed, the set that it reflects
+abbrev pub cellsOn : Grid → ℕ → ℕ
+cellsOn g i = axisOf g i .count
+
+abbrev pub closedAt : Grid → ℕ → Bool
+closedAt g i = closedOf (axisOf g i .glue)
+
+abbrev pub maskAt : Grid → ℕ → ℕ
+maskAt g i = maskOf (axisOf g i .glue)
+
+-- j is in the set of the mask m, and is axis i itself or outside a grid of dimension d
+abbrev pub badMember : ℕ → ℕ → ℕ → ℕ → Bool
+badMember d i m j = member m j && (eqb j i || leb d j)
+
+-- the set of the mask m, at axis i of a grid of dimension d, has i itself or an axis outside the grid. A mask is a byte, so its axes are below 8
+unfoldable pub badSet : ℕ → ℕ → ℕ → Bool
+badSet d i m = some (badMember d i m) 8
+
+-- too few cells: under 3 on a closed axis, under 1 on an open one
+abbrev pub tooFew : Axis → Bool
+tooFew a = ltb (a .count) (cond (closedOf (a .glue)) 3 1)
+
+-- points on an axis after gluing: n on a closed axis of n cells, n + 1 on an open one
+abbrev pub gluedPoints : Axis → ℕ
+gluedPoints a = cond (closedOf (a .glue)) (a .count) (a .count + 1)
+
+-- points on axis i of the glued shape, and of the grid
+abbrev pub gluedOn : Grid → ℕ → ℕ
+gluedOn g i = gluedPoints (axisOf g i)
+
+abbrev pub pointsOn : Grid → ℕ → ℕ
+pointsOn g i = cellsOn g i + 1
+
+-- how many cells, and how many vertices after gluing
+abbrev pub cellsOf : Grid → ℕ
+cellsOf g = factorial (g .d) * product (cellsOn g) (g .d)
+
+abbrev pub verticesOf : Grid → ℕ
+verticesOf g = product (gluedOn g) (g .d)
+
+-- axis i reflects itself or an axis outside the grid; it has too few cells
+abbrev pub reflectsBadly : Grid → ℕ → Bool
+reflectsBadly g i = badSet (g .d) i (maskAt g i)
+
+abbrev pub fallsShort : Grid → ℕ → Bool
+fallsShort g i = tooFew (axisOf g i)
+
+-- the least axis that refusal 9 names, and that 8 names; d if there is none
+abbrev pub badReflection : Grid → ℕ
+badReflection g = least (reflectsBadly g) (g .d)
+
+abbrev pub shortAxis : Grid → ℕ
+shortAxis g = least (fallsShort g) (g .d)
+
+-- the table's order for an entry without sides: 1, 9, 8, 3, 6
+unfoldable pub checkOf : Grid → Answer
+checkOf g =
+    cond (ltb (g .d) 1) (Refused 1 0)
+    (cond (ltb 3 (g .d)) (Refused 1 0)
+    (cond (ltb (badReflection g) (g .d)) (Refused 9 (badReflection g))
+    (cond (ltb (shortAxis g) (g .d)) (Refused 8 (shortAxis g))
+    (cond (ltb 4096 (cellsOf g)) (Refused 3 0)
+    (cond (ltb 4096 (verticesOf g)) (Refused 6 0)
+    Fine)))))
+
+-- ---- orientation
+
+-- how many axes the set of the mask m has, and whether that number is odd
+abbrev pub sizeOf : ℕ → ℕ
+sizeOf m = count (member m) 8
+
+unfoldable pub oddSet : ℕ → Bool
+oddSet m = eqb (sizeOf m % 2) 1
+
+abbrev pub reflectsOdd : Grid → ℕ → Bool
+reflectsOdd g i = oddSet (maskAt g i)
+
+-- a refusal stands as it is, and where there is none the answer is x
+abbrev pub parityAfter : Answer → Parity → Parity
+parityAfter Fine x = x
+parityAfter (Refused n p) x = Parity.Refused n p
+
+-- even where each axis below d reflects an even number of axes
+unfoldable pub parityOf : Grid → Parity
+parityOf g = parityAfter (checkOf g) (cond (some (reflectsOdd g) (g .d)) Parity.Odd Parity.Even)
