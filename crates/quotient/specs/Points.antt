@@ -1,9 +1,11 @@
 -- Grid points by their coordinates (document 01, "Gluing"): axis 0 varies fastest. Assumes nothing.
+use mathlib.Core.Path.{_≡_}
+use mathlib.Core.Bool.{true}
 use Prim.Native.Nat.{ℕ, zero, suc, _+_, _*_, _≤_, _<_}
 use Rattle.quotient.specs.declared.Grid.{Grid}
 use Rattle.quotient.specs.Fold.{product}
-use Rattle.quotient.specs.Shape.{pointsOn}
-use Rattle.quotient.specs.Reduce.{coordAt}
+use Rattle.quotient.specs.Shape.{cellsOn, closedAt, pointsOn}
+use Rattle.quotient.specs.Reduce.{coordAt, vertexOf}
 
 -- the number that the digits c 0, c 1, .. below k make, where place i has f i values
 unfoldable pub numberOf : (ℕ → ℕ) → (ℕ → ℕ) → ℕ → ℕ
@@ -24,3 +26,10 @@ pub record InBox (g : Grid) (p q : ℕ) : Type 0 where
   pub second : q < pointsOf g
   pub rising : (k : ℕ) → k < g .d → coordAt g p k ≤ coordAt g q k
   pub near : (k : ℕ) → k < g .d → coordAt g q k ≤ coordAt g p k + 1
+
+-- a point of vertex x whose closed coordinates are all below n
+pub record Found (g : Grid) (x : ℕ) : Type 0 where
+  pub point : ℕ
+  pub within : point < pointsOf g
+  pub below : (k : ℕ) → k < g .d → closedAt g k ≡ true → coordAt g point k < cellsOn g k
+  pub vertex : vertexOf g point ≡ x
