@@ -1,54 +1,48 @@
 -- Grids that say the same are answered alike, so a twist with the empty set behaves as periodic; and a grid that reflects nothing preserves orientation. Assumes nothing.
-use mathlib.Core.Path.{_≡_, refl, sym, ap, subst, _∙_}
+use mathlib.Core.Path.{_≡_, refl, sym, ap, _∙_}
 use mathlib.Core.Bool.{Bool, true, false, cond, _&&_}
 use Prim.Native.Nat.{ℕ, zero, suc, _+_, _-_, _*_, _/_, _%_, _<_}
-use lib.Dec.{eqb, leb, ltb}
+use lib.Dec.{eqb, ltb}
 use borrow.Author.Tests.{eqb-true, eqb-false}
-use Rattle.quotient.specs.declared.Glue.{Glue}
 use Rattle.quotient.specs.declared.Glue.the-variants.{Periodic, Twisted}
 use Rattle.quotient.specs.declared.Axis.{Axis}
 use Rattle.quotient.specs.declared.Grid.{Grid}
 use Rattle.quotient.specs.declared.GridVertex.{GridVertex}
-use Rattle.refusal.specs.declared.Answer.{Answer}
-use Rattle.refusal.specs.declared.Answer.the-variants.{Fine, Refused}
+use Rattle.refusal.specs.declared.Answer.the-variants.{Fine}
 use Rattle.quotient.specs.declared.Parity.{Parity}
 use Rattle.quotient.specs.declared.Parity.the-variants as Parity
 use Rattle.quotient.specs.declared.Reduced.{Reduced}
 use Rattle.quotient.specs.declared.Reduced.the-variants as Reduced
 use Rattle.quotient.specs.Fold.{least, product, factorial, some, count, member}
-use Rattle.quotient.specs.Shape.{axisOf, closedOf, maskOf, cellsOn, closedAt, maskAt, gluedOn, pointsOn, verticesOf, badSet, oddSet, reflectsOdd, checkOf, parityOf, parityAfter}
-use Rattle.quotient.specs.Reduce.{restAt, coordAt, wrappedAt, flipsAt, reflectedBy, foldedAt, numberTo, vertexOf, reduceOf, reducedAfter}
+use Rattle.quotient.specs.Shape.{axisOf, closedOf, maskOf, maskAt, gluedOn, pointsOn, badReflection, shortAxis, cellsOf, verticesOf, badSet, oddSet, reflectsOdd, checkOf, parityOf, parityAfter}
+use Rattle.quotient.specs.Reduce.{restAt, coordAt, flipsAt, reflectedBy, foldedAt, numberTo, vertexOf, reduceOf, reducedAfter}
+use Rattle.quotient.specs.Points.{pointsOf}
 use Rattle.quotient.specs.Chain.{Alike}
 use Rattle.quotient.proofs.Checks.{parity-even}
 use Rattle.quotient.proofs.Chain.{some-false}
 
--- the checks read the dimension, the counts, which axes are closed and what they reflect
-checkFor : ℕ → (ℕ → ℕ) → (ℕ → Bool) → (ℕ → ℕ) → Answer
-checkFor d n c m =
-    let nine : ℕ = least (λ i. badSet d i (m i)) d in
-    let eight : ℕ = least (λ i. ltb (n i) (cond (c i) 3 1)) d in
-    cond (ltb d 1) (Refused 1 0)
-    (cond (ltb 3 d) (Refused 1 0)
-    (cond (ltb nine d) (Refused 9 nine)
-    (cond (ltb eight d) (Refused 8 eight)
-    (cond (ltb 4096 (factorial d * product n d)) (Refused 3 0)
-    (cond (ltb 4096 (product (λ i. cond (c i) (n i) (n i + 1)) d)) (Refused 6 0)
-    Fine)))))
-
-check-for : (g : Grid) → checkOf g ≡ checkFor (g .d) (cellsOn g) (closedAt g) (maskAt g)
-unfolding checkOf checkFor
-check-for g = refl
-
 module _ (g h : Grid) (alike : Alike g h) where
-  pub check-alike : checkOf g ≡ checkOf h
-  check-alike =
-      check-for g
-      ∙ (λ i. checkFor (alike .dimension i) (λ k. alike .cells k i) (λ k. alike .closed k i) (λ k. alike .masks k i))
-      ∙ sym (check-for h)
+  -- the tests of 9, 8, 3 and 6
+  nine-alike : badReflection g ≡ badReflection h
+  nine-alike = λ i. least (λ k. badSet (alike .dimension i) k (alike .masks k i)) (alike .dimension i)
 
-  -- each axis has as many points after gluing, and before
+  eight-alike : shortAxis g ≡ shortAxis h
+  eight-alike = λ i. least (λ k. ltb (alike .cells k i) (cond (alike .closed k i) 3 1)) (alike .dimension i)
+
+  cells-alike : cellsOf g ≡ cellsOf h
+  cells-alike = λ i. factorial (alike .dimension i) * product (λ k. alike .cells k i) (alike .dimension i)
+
+  -- each axis has as many points after gluing
   glued-alike : (k : ℕ) → product (gluedOn g) k ≡ product (gluedOn h) k
   glued-alike k = λ i. product (λ j. cond (alike .closed j i) (alike .cells j i) (alike .cells j i + 1)) k
+
+  pub vertices-alike : verticesOf g ≡ verticesOf h
+  vertices-alike = glued-alike (g .d) ∙ ap (product (gluedOn h)) (alike .dimension)
+
+  -- so the checks say one thing
+  pub check-alike : checkOf g ≡ checkOf h
+  unfolding checkOf
+  check-alike = rw (nine-alike, eight-alike, cells-alike, vertices-alike, alike .dimension)
 
   points-alike : (k : ℕ) → product (pointsOn g) k ≡ product (pointsOn h) k
   points-alike k = λ i. product (λ j. alike .cells j i + 1) k
@@ -80,15 +74,16 @@ module _ (g h : Grid) (alike : Alike g h) where
   number-alike v zero = refl
   number-alike v (suc k) = λ i. number-alike v k i + glued-alike k i * folded-alike v k i
 
+  all-points : pointsOf g ≡ pointsOf h
+  all-points = points-alike (g .d) ∙ ap (product (pointsOn h)) (alike .dimension)
+
+  all-numbered : (v : ℕ) → numberTo g v (g .d) ≡ numberTo h v (h .d)
+  all-numbered v = number-alike v (g .d) ∙ ap (numberTo h v) (alike .dimension)
+
   pub vertex-alike : (v : ℕ) → vertexOf g v ≡ vertexOf h v
-  vertex-alike v =
-      (λ i. cond (leb (points-alike (g .d) i) v) 4294967295 (number-alike v (g .d) i))
-      ∙ ap (λ (d : ℕ). cond (leb (product (pointsOn h) d) v) 4294967295 (numberTo h v d)) (alike .dimension)
+  vertex-alike v = rw (all-points, all-numbered v)
 
-  -- the three questions get one answer
-  pub vertices-alike : verticesOf g ≡ verticesOf h
-  vertices-alike = glued-alike (g .d) ∙ ap (product (gluedOn h)) (alike .dimension)
-
+  -- the questions of a point and of the parity get one answer
   pub reduce-alike : (v : GridVertex) → reduceOf g v ≡ reduceOf h v
   unfolding reduceOf
   reduce-alike v = λ i. reducedAfter (check-alike i) (Reduced.At (record { 0 = vertex-alike (v .0) i }))
