@@ -7,7 +7,7 @@ use lib.Dec.{ltb}
 use lib.Ieee.{Float}
 use borrow.Author.Tests.{lt-ltb, le-ltb}
 use Rattle.sides.specs.declared.Sides.{Sides}
-use Rattle.sides.specs.Counts.{sideOf, firstBad, longestOf, countOf}
+use Rattle.sides.specs.Counts.{sideOf, firstBad, longestOf, countOf, sidesBelow}
 use Rattle.sides.proofs.Longest.{count-le}
 use Rattle.quotient.specs.declared.Glue.{Glue}
 use Rattle.quotient.specs.declared.Glues.{Glues}
@@ -46,10 +46,10 @@ pub axis-none : (s : Sides) (d i n : ℕ) (g : Glue) → d ≤ i → noAxis ≡ 
 unfolding quasiAxis
 axis-none s d i n g h = rw (le-ltb i d h)
 
-pub grid-made : (d : ℕ) (s : Sides) (g : Glues) (n : ℕ) (a b c : Axis) → a ≡ quasiAxis s d 0 (g .first) n → b ≡ quasiAxis s d 1 (g .second) n → c ≡ quasiAxis s d 2 (g .third) n
-    → record { d = d; first = a; second = b; third = c } ≡ quasiGrid d s g n
+pub grid-made : (d : ℕ) (s : Sides) (g : Glues) (n : ℕ) (a b c : Axis) (x : Sides) → a ≡ quasiAxis s d 0 (g .first) n → b ≡ quasiAxis s d 1 (g .second) n → c ≡ quasiAxis s d 2 (g .third) n → x ≡ sidesBelow s d
+    → record { d = d; first = a; second = b; third = c; sides = x } ≡ quasiGrid d s g n
 unfolding quasiGrid
-grid-made d s g n a b c ha hb hc = rw (ha, hb, hc)
+grid-made d s g n a b c x ha hb hc hx = rw (ha, hb, hc, hx)
 
 module _ (d : ℕ) (s : Sides) (g : Glues) (n : ℕ) where
   pub made-1 : d < 1 → Refused 1 0 ≡ quasiOf d s g n

@@ -17,7 +17,7 @@ use Rattle.quotient.specs.Shape.{axisOf, closedOf, tooFew, fallsShort, c
 use Rattle.quotient.specs.declared.GridVertex.{GridVertex}
 use Rattle.quotient.specs.declared.Reduced.{Reduced}
 use Rattle.quotient.specs.declared.Reduced.the-variants as Reduced
-use Rattle.quotient.specs.Reduce.{restAt, reflectedBy, flipsAt, foldedAt, numberTo, reduceOf}
+use Rattle.quotient.specs.Reduce.{restAt, reflectedBy, flipsAt, foldedAt, numberTo, vertexOf, reduceOf}
 use Rattle.quotient.proofs.Laws.{none-found, product-mono, product-pos, product-more, place, lt-or-ge}
 use Rattle.quotient.proofs.Points.{coord-le, turn-le}
 
@@ -117,15 +117,18 @@ outside g v k n =
     (lt-or-ge v (product (pointsOn g) k))
 
 -- ---- the answer
+module _ (g : Grid) (v : ℕ) where
+  pub vertex-inside : (n : ℕ) → restAt g v (g .d) ≡ 0 → n ≡ numberTo g v (g .d) → n ≡ vertexOf g v
+  vertex-inside n h q = rw (inside g v (g .d) h, q)
+
+  pub vertex-outside : (restAt g v (g .d) ≡ 0 → ⊥) → 4294967295 ≡ vertexOf g v
+  vertex-outside h = rw (outside g v (g .d) h)
+
 module _ (g : Grid) (v : GridVertex) where
   pub reduced-refused : (n p : ℕ) → Refused n p ≡ checkOf g → Reduced.Refused n p ≡ reduceOf g v
   unfolding reduceOf
   reduced-refused n p e = rw (← e)
 
-  pub reduced-inside : (n : ℕ) → Fine ≡ checkOf g → restAt g (v .0) (g .d) ≡ 0 → n ≡ numberTo g (v .0) (g .d) → Reduced.At (record { 0 = n }) ≡ reduceOf g v
+  pub reduced-at : (n : ℕ) → Fine ≡ checkOf g → n ≡ vertexOf g (v .0) → Reduced.At (record { 0 = n }) ≡ reduceOf g v
   unfolding reduceOf
-  reduced-inside n e h q = rw (← e, inside g (v .0) (g .d) h, q)
-
-  pub reduced-outside : Fine ≡ checkOf g → (restAt g (v .0) (g .d) ≡ 0 → ⊥) → Reduced.At (record { 0 = 4294967295 }) ≡ reduceOf g v
-  unfolding reduceOf
-  reduced-outside e h = rw (← e, outside g (v .0) (g .d) h)
+  reduced-at n e q = rw (← e, q)

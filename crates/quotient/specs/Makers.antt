@@ -5,7 +5,7 @@ use lib.Dec.{ltb}
 use lib.IntN.{pos}
 use lib.Ieee.{Float, fin}
 use Rattle.sides.specs.declared.Sides.{Sides}
-use Rattle.sides.specs.Counts.{sideOf, firstBad, longestOf, countOf}
+use Rattle.sides.specs.Counts.{sideOf, firstBad, longestOf, countOf, sidesBelow}
 use Rattle.quotient.specs.declared.Glue.{Glue}
 use Rattle.quotient.specs.declared.Glue.the-variants.{Open, Periodic, Twisted}
 use Rattle.quotient.specs.declared.Glues.{Glues}
@@ -26,7 +26,7 @@ unfoldable pub quasiAxis : Sides → ℕ → ℕ → Glue → ℕ → Axis
 quasiAxis s d i g n = cond (ltb i d) (record { count = countOf (sideOf s i) (longestOf s d) n (floorOf g); glue = g }) noAxis
 
 unfoldable pub quasiGrid : ℕ → Sides → Glues → ℕ → Grid
-quasiGrid d s g n = record { d = d; first = quasiAxis s d 0 (g .first) n; second = quasiAxis s d 1 (g .second) n; third = quasiAxis s d 2 (g .third) n }
+quasiGrid d s g n = record { d = d; first = quasiAxis s d 0 (g .first) n; second = quasiAxis s d 1 (g .second) n; third = quasiAxis s d 2 (g .third) n; sides = sidesBelow s d }
 
 -- a refusal stands as it is, and where there is none the answer is x
 abbrev pub madeAfter : Answer → Made → Made

@@ -4,7 +4,7 @@ ghost use Prim.Native.Nat.{ℕ, suc, _+_, _*_, _<_, _≤_, _%_, min};
 ghost use Prim.Native.Nat.{_-_};
 ghost use mathlib.Core.Bool.{cond};
 ghost use lib.Count as Count;
-ghost use Rattle.quotient.specs.Reduce.{restAt, coordAt, wrappedAt, flipsAt, reflectedBy, foldedAt, numberTo, reduceOf};
+ghost use Rattle.quotient.specs.Reduce.{restAt, coordAt, wrappedAt, flipsAt, reflectedBy, foldedAt, numberTo, vertexOf, reduceOf};
 ghost use Rattle.quotient.specs.Fold.{least, product, factorial, member, some};
 ghost use Rattle.quotient.specs.Shape.{axisOf, closedOf, maskOf, cellsOn, closedAt, maskAt, badMember, badSet, reflectsBadly, fallsShort, tooFew, gluedOn, pointsOn, cellsOf, verticesOf, badReflection, shortAxis, checkOf, oddSet, reflectsOdd, parityOf};
 ghost use Rattle.sides.specs.Counts.{firstBad};
@@ -24,11 +24,13 @@ pub struct Axis {
     pub glue: Glue,
 }
 
+// A grid of dimension d: its axes and their sides. Entries past d are not looked at.
 pub struct Grid {
     pub d: u32,
     pub first: Axis,
     pub second: Axis,
     pub third: Axis,
+    pub sides: Sides,
 }
 
 // The number of a point of the grid, and of a vertex after gluing.
@@ -435,22 +437,28 @@ impl Grid {
         x
     }
 
+    // The number of the vertex that grid point v is glued to, in a grid that is taken; 4294967295 past the last point. For the crates above.
+    pub fn vertex(self, v: u32) -> u32
+        requires { ⌜ checkOf self ≡ Answer.Fine ⌝ }
+        ensures { λ r. ⌜ r ≡ vertexOf self v ⌝ }
+    {
+        let d = self.d;
+        if self.rest(v, d) == 0 {
+            self.number(v) as u32
+        } else {
+            4294967295
+        }
+    }
+
     // The vertex that point v is glued to.
     pub fn reduce(self, v: GridVertex) -> Reduced
         ensures { λ r. ⌜ r ≡ reduceOf self v ⌝ }
     {
         let a = self.check();
         let w = v.0;
-        let d = self.d;
         match a {
             Answer::Refused(n, p) => Reduced::Refused(n, p),
-            Answer::Fine => {
-                if self.rest(w, d) == 0 {
-                    Reduced::At(GluedVertex(self.number(w) as u32))
-                } else {
-                    Reduced::At(GluedVertex(4294967295))
-                }
-            }
+            Answer::Fine => Reduced::At(GluedVertex(self.vertex(w))),
         }
     }
 }
@@ -508,11 +516,13 @@ impl Grid {
         let first = Grid::quasi_axis(s, d, 0, x, n);
         let second = Grid::quasi_axis(s, d, 1, y, n);
         let third = Grid::quasi_axis(s, d, 2, z, n);
+        let sides = s.below(d);
         Grid {
             d,
             first,
             second,
             third,
+            sides,
         }
     }
 
