@@ -48,19 +48,22 @@ some-none p n h e = rw add-one (or-false (some p n) (p n) h e)
 pub lt-or-ge : (k n : ℕ) → (k < n) ⊎ (n ≤ k)
 lt-or-ge k n = elim (decLt k n) [ yes l ↦ inl l | no l ↦ inr (omega arith) ]
 
-cap-large : (x b : ℕ) → 4097 ≤ x → min (4097 * b) 4097 ≡ min (x * b) 4097
-cap-large x zero l = rw (mul-zero x)
-cap-large x (suc b) l = let h : 4097 * suc b ≤ x * suc b = mul-le-mul-right (suc b) l in omega arith
+cap-large : (C x b : ℕ) → C ≤ x → min (C * b) C ≡ min (x * b) C
+cap-large C x zero l = rw (mul-zero x, mul-zero C)
+cap-large C x (suc b) l =
+    let h : C * suc b ≤ x * suc b = mul-le-mul-right (suc b) l in
+    let k : C * suc b ≡ C * b + C = mul-suc C b in
+    omega arith
 
--- the cap goes through a product
-pub cap-mul : (x b : ℕ) → min (min x 4097 * b) 4097 ≡ min (x * b) 4097
-cap-mul x b = ⊎-elim
-    (λ (l : x < 4097). rw (min-eq-left (le-of-lt l)))
-    (λ (l : 4097 ≤ x). rw (min-eq-right l) (cap-large x b l))
-    (lt-or-ge x 4097)
+-- the cap C goes through a product
+pub cap-mul : (C x b : ℕ) → min (min x C * b) C ≡ min (x * b) C
+cap-mul C x b = ⊎-elim
+    (λ (l : x < C). rw (min-eq-left (le-of-lt l)))
+    (λ (l : C ≤ x). rw (min-eq-right l) (cap-large C x b l))
+    (lt-or-ge x C)
 
-pub cap-right : (a b : ℕ) → min (a * min b 4097) 4097 ≡ min (a * b) 4097
-cap-right a b = rw (mul-comm a (min b 4097), cap-mul, mul-comm b a)
+pub cap-right : (C a b : ℕ) → min (a * min b C) C ≡ min (a * b) C
+cap-right C a b = rw (mul-comm a (min b C), cap-mul, mul-comm b a)
 
 -- the search from i up to d: at a number that passes, past one that does not, and at the end
 less-one : (d i : ℕ) → i < d → d - i ≡ suc (d - (i + 1))
@@ -89,20 +92,26 @@ product-more f i = rw (add-one i)
 pub sub-none : (d : ℕ) → d - 0 ≡ d
 sub-none d = omega arith
 
-pub cap-step : (f : ℕ → ℕ) (i p s r : ℕ) → p ≡ min (product f i) 4097 → s ≡ f i → r ≡ min (p * s) 4097 → r ≡ min (product f (i + 1)) 4097
-cap-step f i p s r hp hs hr = rw (hr, hp, hs, product-more f i) (cap-mul (product f i) (f i))
+pub cap-step : (C : ℕ) (f : ℕ → ℕ) (i p s r : ℕ) → p ≡ min (product f i) C → s ≡ f i → r ≡ min (p * s) C → r ≡ min (product f (i + 1)) C
+cap-step C f i p s r hp hs hr = rw (hr, hp, hs, product-more f i) (cap-mul C (product f i) (f i))
 
 -- F * P * (n * k), in the order of the two products
 regroup : (F P n k : ℕ) → F * P * (n * k) ≡ F * k * (P * n)
 regroup F P n k = rw (mul-comm n k, mul-assoc F P (k * n), ← (mul-assoc P k n), mul-comm P k, mul-assoc k P n, ← (mul-assoc F k (P * n)))
 
-pub cells-step : (f : ℕ → ℕ) (i p n q r : ℕ) → p ≡ min (product suc i * product f i) 4097 → n ≡ f i → q ≡ min (p * n) 4097 → r ≡ min (q * (i + 1)) 4097
-    → r ≡ min (product suc (i + 1) * product f (i + 1)) 4097
-cells-step f i p n q r hp hn hq hr =
-    let one : r ≡ min (p * n * (i + 1)) 4097 = hr ∙ rw hq (cap-mul (p * n) (i + 1)) in
-    let two : r ≡ min (p * (n * (i + 1))) 4097 = one ∙ rw (mul-assoc p n (i + 1)) in
-    let three : r ≡ min (product suc i * product f i * (n * (i + 1))) 4097 = two ∙ rw hp (cap-mul (product suc i * product f i) (n * (i + 1))) in
-    three ∙ rw (hn, product-more suc i, product-more f i, add-one i) (ap (λ (x : ℕ). min x 4097) (regroup (product suc i) (product f i) (f i) (suc i)))
+pub cells-step : (C : ℕ) (f : ℕ → ℕ) (i p n q r : ℕ) → p ≡ min (product suc i * product f i) C → n ≡ f i → q ≡ min (p * n) C → r ≡ min (q * (i + 1)) C
+    → r ≡ min (product suc (i + 1) * product f (i + 1)) C
+cells-step C f i p n q r hp hn hq hr =
+    let one : r ≡ min (p * n * (i + 1)) C = hr ∙ rw hq (cap-mul C (p * n) (i + 1)) in
+    let two : r ≡ min (p * (n * (i + 1))) C = one ∙ rw (mul-assoc p n (i + 1)) in
+    let three : r ≡ min (product suc i * product f i * (n * (i + 1))) C = two ∙ rw hp (cap-mul C (product suc i * product f i) (n * (i + 1))) in
+    three ∙ rw (hn, product-more suc i, product-more f i, add-one i) (ap (λ (x : ℕ). min x C) (regroup (product suc i) (product f i) (f i) (suc i)))
+
+-- searches for what passes one of two tests that agree find the same
+pub first-same : (p q : ℕ → Bool) → ((i : ℕ) → p i ≡ q i) → (n j : ℕ) → firstFrom p n j ≡ firstFrom q n j
+unfolding firstFrom
+first-same p q e zero j = refl
+first-same p q e (suc n) j = rw (e j, first-same p q e n (suc j))
 
 -- ---- what a search that found nothing says
 
