@@ -1,25 +1,26 @@
 -- The pattern written base by base: the whole is what the bases give one after the other. Assumes nothing.
 use mathlib.Core.Path.{_≡_, refl, sym, ap, _∙_, subst}
 use mathlib.Core.Bool.{Bool, true, false}
-use mathlib.Core.List.{List, [], _∷_, _++_, map, append-assoc, append-nil, List·Memᴰ, List·Memᴰ·head, List·Memᴰ·tail}
-use Prim.Native.Nat.{ℕ, zero, suc, _+_, _*_, _-_, _^_, _≤_, _<_}
+use mathlib.Core.List.{List, [], _∷_, _++_, map, append-assoc}
+use Prim.Native.Nat.{ℕ, suc, _+_, _-_, _^_, _≤_, _<_}
 use native.Mathlib.Numerals.{add-one}
-use native.Mathlib.Nat.{le-of-eq, suc-mul, zero-mul}
+use native.Mathlib.Nat.{le-of-eq}
 use native.Mathlib.Omega.{arith}
 use lib.ListN.{length, getD, take, drop, replicate, length-append, length-drop}
 use lib.Seq.{take-at, length-take-le}
 use Rattle.refusal.specs.Lent.{onto}
 use Rattle.multiindex.specs.Permutation.{gather, orders}
-use Rattle.multiindex.specs.Cartesian.{digits, raised}
+use Rattle.multiindex.specs.Cartesian.{raised}
 use Rattle.multiindex.proofs.Digits.{raised-length}
 use Rattle.multiindex.proofs.Runs.{digits-first, digits-next}
-use Rattle.lattice.specs.Lattice.{weights, chain, Child}
-use Rattle.lattice.specs.Children.{bases, qualifies, every, pick, select, chains, children}
+use Rattle.lattice.specs.Lattice.{weights, chain}
+use Rattle.lattice.specs.Children.{bases, qualifies, every, pick, select}
 use Rattle.lattice.specs.Pattern.{flat, patternOf}
-use Rattle.lattice.proofs.Enumerate.{child-of-mem, of-digits}
-use Rattle.lattice.proofs.Count.{count, length-digits}
+use Rattle.lattice.proofs.Enumerate.{of-digits}
+use Rattle.lattice.proofs.Count.{length-digits}
+use Rattle.lattice.proofs.Pattern.{flat-count}
 use Rattle.pattern.specs.Chains.{keeps, weighed, ofBase, Ready}
-use Rattle.pattern.proofs.Chains.{weighed-length, mem-getD}
+use Rattle.pattern.proofs.Chains.{mem-getD}
 use Rattle.pattern.proofs.Written.{Written, written-none, written-length, written-room, written-tail, written-end}
 use Rattle.pattern.proofs.Placed.{gather-step, gather-end}
 
@@ -70,26 +71,6 @@ by-bases d R (s ∷ l) =
 pub pattern-bases : (d R : ℕ) → flat (patternOf d R) ≡ gather (ofBase d R) (bases d R)
 pattern-bases d R = by-bases d R (bases d R)
 
--- R^d children with d + 1 corners of d + 1 weights
-all-long : (R n : ℕ) (l : List (List (List ℕ))) → ((c : List (List ℕ)) → List·Memᴰ c l → length (weighed R c) ≡ n)
-    → length (flat (gather (map (weights R)) l)) ≡ length l * n
-all-long R n [] h = sym (zero-mul n)
-all-long R n (c ∷ l) h =
-    ap length (flat-append (map (weights R) c) (gather (map (weights R)) l))
-    ∙ length-append (weighed R c) (flat (gather (map (weights R)) l))
-    ∙ omega (arith, h c (List·Memᴰ·head refl), all-long R n l (λ x m. h x (List·Memᴰ·tail m)), suc-mul (length l) n)
-
-child-long : (d R : ℕ) (c : List (List ℕ)) → Child d R c → length (weighed R c) ≡ suc d * suc d
-child-long d R c k =
-    ap (λ (x : List (List ℕ)). length (weighed R x)) (k .steps)
-    ∙ weighed-length R (k .base) (k .order)
-    ∙ ap (λ (n : ℕ). suc n * suc (length (k .base))) (k .axes .long)
-    ∙ ap (λ (n : ℕ). suc d * suc n) (k .long)
-
-pub pattern-length : (d R : ℕ) → length (flat (patternOf d R)) ≡ R ^ d * (suc d * suc d)
-pattern-length d R =
-    all-long R (suc d * suc d) (children d R) (λ c m. child-long d R c (child-of-mem d R c m)) ∙ ap (λ (n : ℕ). n * (suc d * suc d)) (count d R)
-
 -- The children of the first b bases are written, and `base` holds base number b in its front.
 pub record Filled (d R : ℕ) (before : List ℕ) (b : ℕ) (base : List ℕ) (at : ℕ) (to : List ℕ) : Type 0 where
   pub turn : b ≤ length (bases d R)
@@ -99,7 +80,7 @@ pub record Filled (d R : ℕ) (before : List ℕ) (b : ℕ) (base : List ℕ) (a
 
 module _ (d R : ℕ) (before : List ℕ) (pre : Ready d R (length before)) where
   fits : length (flat (patternOf d R)) ≤ length before
-  fits = subst (λ (n : ℕ). n ≤ length before) (sym (pattern-length d R)) (pre .room)
+  fits = subst (λ (n : ℕ). n ≤ length before) (sym (flat-count d R)) (pre .room)
 
   pub filled-none : (base : List ℕ) → d ≤ length base → take d base ≡ replicate d 0 → Filled d R before 0 base 0 before
   filled-none base w e = record {

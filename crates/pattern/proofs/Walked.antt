@@ -1,17 +1,17 @@
 -- A kept chain walked and written: after i steps the points before the one reached are written. Assumes nothing.
-use mathlib.Core.Path.{_≡_, refl, sym, ap, _∙_, subst}
+use mathlib.Core.Path.{_≡_, sym, ap, _∙_, subst}
 use mathlib.Core.Bool.{true}
 use mathlib.Core.List.{List, [], _∷_, _++_}
-use Prim.Native.Nat.{ℕ, zero, suc, _+_, _*_, _-_, _≤_, _<_}
+use Prim.Native.Nat.{ℕ, suc, _+_, _*_, _-_, _≤_, _<_}
 use native.Mathlib.Nat.{le-of-eq}
 use native.Mathlib.Omega.{arith}
-use lib.ListN.{length, getD, take, drop, set, length-append, length-drop, length-set}
+use lib.ListN.{length, getD, take, drop, set, length-append, length-set}
 use lib.Seq.{length-take-le}
 use Rattle.multiindex.specs.Permutation.{orderOf}
 use Rattle.lattice.specs.Lattice.{weights, bump, chain}
 use Rattle.lattice.specs.Children.{qualifies}
 use Rattle.pattern.specs.Chains.{keeps, weighed, Kept}
-use Rattle.pattern.proofs.Points.{weights-length}
+use Rattle.lattice.proofs.Weights.{length-weights}
 use Rattle.pattern.proofs.Chains.{order-long, order-below, keeps-first, keeps-step, weighed-step, weighed-end, weighed-length, coordinate}
 use Rattle.pattern.proofs.Written.{Written, written-none, written-length, written-room, written-part, written-whole}
 
@@ -23,8 +23,8 @@ pub record Walked (d R k : ℕ) (base before : List ℕ) (i : ℕ) (s : List ℕ
 
 -- the first point of a chain is a part of it
 head-room : (R : ℕ) (t p : List ℕ) → suc (length t) ≤ length (weighed R (chain t p))
-head-room R t [] = omega (arith, weights-length R t, length-append (weights R t) [])
-head-room R t (j ∷ p) = omega (arith, weights-length R t, length-append (weights R t) (weighed R (chain (bump t j) p)))
+head-room R t [] = omega (arith, length-weights R t, length-append (weights R t) [])
+head-room R t (j ∷ p) = omega (arith, length-weights R t, length-append (weights R t) (weighed R (chain (bump t j) p)))
 
 module _ (d R k : ℕ) (base before : List ℕ) (pre : Kept d R base k (length before)) (wide-base : d ≤ length base) where
   exact : length before ≡ length (weighed R (chain (take d base) (orderOf d k)))
@@ -75,7 +75,7 @@ module _ (d R k : ℕ) (base before : List ℕ) (pre : Kept d R base k (length b
             (take at to ++ (ys ++ drop n (drop at to))))
             m
             (written-part _ _ _ _ _ fits (w .written) (weights R (take d s)) _ (weighed-step d R s (orderOf d k) i j inside is walked-axis) n ys e
-            (omega (arith, weights-length R (take d s), walked-point)));
+            (omega (arith, length-weights R (take d s), walked-point)));
       }
         where
           inside : i < length (orderOf d k)
@@ -86,7 +86,7 @@ module _ (d R k : ℕ) (base before : List ℕ) (pre : Kept d R base k (length b
       rest-long =
           ap length (weighed-end R (take d s) (orderOf d k) i (omega (arith, order-long d k (pre .along .order))))
           ∙ length-append (weights R (take d s)) []
-          ∙ omega (arith, weights-length R (take d s), walked-point)
+          ∙ omega (arith, length-weights R (take d s), walked-point)
 
       pub walked-left : length to - at ≡ d + 1
       walked-left =
@@ -106,4 +106,4 @@ module _ (d R k : ℕ) (base before : List ℕ) (pre : Kept d R base k (length b
           written-whole _ before (at + n) _ exact
           (written-part _ _ _ _ _ fits (w .written) (weights R (take d s)) []
           (weighed-end R (take d s) (orderOf d k) i (omega (arith, order-long d k (pre .along .order)))) n ys e
-          (omega (arith, weights-length R (take d s), walked-point)))
+          (omega (arith, length-weights R (take d s), walked-point)))

@@ -1,7 +1,7 @@
 -- What the pattern's inner functions write: the chains of one base, and what each asks. Assumes nothing.
 use mathlib.Core.Path.{_≡_}
-use mathlib.Core.Bool.{Bool, true, false}
-use mathlib.Core.List.{List, [], _∷_, _++_, map}
+use mathlib.Core.Bool.{Bool, true}
+use mathlib.Core.List.{List, [], map}
 use Prim.Native.Nat.{ℕ, suc, _*_, _^_, _≤_, _<_}
 use lib.ListN.{length, take}
 use Rattle.refusal.specs.Limits.{mostDimension, mostRefinement}

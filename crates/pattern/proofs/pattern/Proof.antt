@@ -1,15 +1,14 @@
 -- The children of the first b bases are written, and `base` holds base number b. Assumes nothing.
-use mathlib.Core.Path.{_≡_, refl, sym, ap, _∙_, subst}
-use mathlib.Core.List.{List, [], _∷_, _++_}
-use Prim.Native.Nat.{ℕ, zero, suc, _+_, _*_, _^_, _≤_, _<_, _-_}
+use mathlib.Core.Path.{_≡_, refl, sym, ap, _∙_}
+use mathlib.Core.List.{[], _∷_}
+use Prim.Native.Nat.{ℕ, zero, suc, _^_, _≤_, _<_, _-_}
 use native.Mathlib.Numerals.{add-one}
 use native.Mathlib.Omega.{arith}
 use borrow.Author.Needs.{needs}
-use lib.ListN.{length, getD, take, drop, replicate, length-drop}
-use lib.Seq.{length-take-le, take-all}
+use lib.ListN.{length, take, replicate}
+use lib.Seq.{length-take-le}
 use Rattle.multiindex.specs.Cartesian.{raised}
 use Rattle.lattice.specs.Children.{bases}
-use Rattle.pattern.specs.Chains.{ofBase}
 use Rattle.pattern.proofs.Filled.{Filled, filled-none, filled-long, filled-at, filled-room, filled-part, filled-digits, filled-next, filled-end, bases-length}
 use Rattle.pattern.proofs.pattern.Statement.{statement}
 use Rattle.pattern.proofs.pattern.Tie as tie

@@ -1,6 +1,6 @@
 -- The chains of the first k orders that are kept are written. Assumes nothing.
-use mathlib.Core.Path.{_≡_, refl, sym, ap, _∙_}
-use mathlib.Core.Bool.{true, false}
+use mathlib.Core.Path.{_≡_, sym, ap, _∙_}
+use mathlib.Core.Bool.{true}
 use Prim.Native.Nat.{ℕ, suc, _+_, _*_, _≤_, _<_, _-_}
 use native.Mathlib.Numerals.{add-one}
 use native.Mathlib.Omega.{arith}
@@ -15,7 +15,7 @@ use Rattle.multiindex.specs.Permutation.{orders, orderOf}
 use Rattle.multiindex.proofs.Tables.{count-most}
 use Rattle.lattice.specs.Lattice.{chain}
 use Rattle.pattern.specs.Chains.{keeps}
-use Rattle.pattern.proofs.Placed.{Placed, placed-none, placed-long, placed-at, placed-skip, placed-room, placed-next, placed-count, placed-end}
+use Rattle.pattern.proofs.Placed.{Placed, placed-none, placed-long, placed-skip, placed-room, placed-next, placed-count, placed-end}
 use Rattle.pattern.proofs.write_base.Statement.{statement}
 use Rattle.pattern.proofs.write_base.Tie as tie
 
