@@ -56,7 +56,7 @@ pub record Kept (d R : ℕ) (c : Cursor) (n : ℕ) : Type 0 where
   pub room : n ≡ suc d * suc d
 
 -- a cursor, and room for what its chain gives
-pub record Roomy (d R : ℕ) (c : Cursor) (n : ℕ) : Type 0 where
+pub record Fits (d R : ℕ) (c : Cursor) (n : ℕ) : Type 0 where
   pub stands : Stands d R c
   pub room : length (given R (chainAt d c)) ≤ n
 

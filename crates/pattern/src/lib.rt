@@ -13,7 +13,7 @@ ghost use Rattle.refusal.specs.Lent.{onto};
 ghost use Rattle.lattice.specs.Lattice.{weights};
 ghost use Rattle.lattice.specs.Children.{qualifies};
 ghost use Rattle.lattice.specs.Pattern.{flat, patternOf};
-ghost use Rattle.pattern.specs.Chains.{chainAt, keeps, weighed, given, stepOf, Stands, Steps, Kept, Roomy, Ready};
+ghost use Rattle.pattern.specs.Chains.{chainAt, keeps, weighed, given, stepOf, Stands, Steps, Kept, Fits, Ready};
 use multiindex::cartesian;
 use multiindex::permutation;
 use refusal::MOST_DIMENSION;
@@ -101,7 +101,7 @@ fn write(d: usize, r: u32, c: Cursor, to: &mut [u32])
 
 // Writes what the cursor's chain gives, and says how many numbers that took: none where the chain is not kept.
 fn give(d: usize, r: u32, c: Cursor, to: &mut [u32]) -> usize
-    requires { ⌜ Roomy d r c (length (now to)) ⌝ }
+    requires { ⌜ Fits d r c (length (now to)) ⌝ }
     ensures used { λ n. ⌜ n ≡ length (given r (chainAt d c)) ⌝ }
     ensures list { λ _. ⌜ now (to .exit) ≡ onto (given r (chainAt d c)) (now (to .entry)) ⌝ }
 {
