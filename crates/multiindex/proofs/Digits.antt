@@ -9,6 +9,7 @@ use native.Mathlib.Omega.{arith}
 use lib.ListN.{length, getD, drop, set, replicate, length-append, length-drop, length-replicate, replicate-append-replicate, drop-of-length-le}
 use lib.Seq.{drop-cons, append-snoc, getD-at}
 use borrow.Author.Tests.{lt-ltb, le-ltb}
+use lib.Dec.{ltb}
 use Rattle.lists.proofs.Front.{put}
 use Rattle.multiindex.specs.Cartesian.{carry, raised}
 
@@ -79,3 +80,11 @@ top (suc (suc (suc j))) h = absurd (omega arith)
 
 pub power-fits : (j n : ℕ) → j < 3 → n ≤ 65536 → n ^ j * n ≤ 281474976710656
 power-fits j n h l = le-trans (le-of-eq (sym (pow-suc n j))) (le-trans (pow-le-pow-left l (suc j)) (top j h))
+
+carry-length : (b : Bool) (x : ℕ) (s t : List ℕ) → length s ≡ length t → length (carry b x s t) ≡ suc (length s)
+carry-length true x s t e = refl
+carry-length false x s t e = ap suc (sym e)
+
+pub raised-length : (n : ℕ) (s : List ℕ) → length (raised n s) ≡ length s
+raised-length n [] = refl
+raised-length n (x ∷ s) = carry-length (ltb (suc x) n) x s (raised n s) (sym (raised-length n s))

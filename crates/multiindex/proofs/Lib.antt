@@ -3,3 +3,4 @@ pub mod WordsLaws
 pub mod Sign
 pub mod Tables
 pub mod Digits
+pub mod Runs

@@ -4,7 +4,6 @@ use mathlib.Core.Bool.{Bool, true, false, _&&_}
 use mathlib.Core.List.{List, [], _∷_}
 use Prim.Native.Nat.{ℕ, zero, suc, _+_, _*_, _-_, _≤_, _<_, suc-le-suc}
 use native.Mathlib.Nat.{not-suc-le-zero, le-of-suc-le-suc}
-use native.Mathlib.Omega.{arith}
 use lib.Dec.{eqb, ltb}
 use lib.ListN.{length, getD}
 use borrow.Author.Tests.{eqb-true, ltb-true}
@@ -14,11 +13,11 @@ abbrev pub allBelow : ℕ → (ℕ → Bool) → Bool
 allBelow zero t = true
 allBelow (suc n) t = t zero && allBelow n (λ i. t (suc i))
 
-first-of : (a b : Bool) → (a && b) ≡ true → a ≡ true
+pub first-of : (a b : Bool) → (a && b) ≡ true → a ≡ true
 first-of true b h = refl
 first-of false b h = h
 
-second-of : (a b : Bool) → (a && b) ≡ true → b ≡ true
+pub second-of : (a b : Bool) → (a && b) ≡ true → b ≡ true
 second-of true b h = h
 second-of false true h = refl
 second-of false false h = h

@@ -1,6 +1,6 @@
 -- All lists of digits, as one list, and the step from each to the next. Assumes nothing.
 use mathlib.Core.Bool.{Bool, true, false}
-use mathlib.Core.List.{List, [], _∷_, _++_, map}
+use mathlib.Core.List.{List, [], _∷_, map}
 use Prim.Native.Nat.{ℕ, zero, suc}
 use lib.Dec.{ltb}
 use Rattle.multiindex.specs.Permutation.{upto, gather}

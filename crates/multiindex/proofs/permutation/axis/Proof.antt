@@ -1,7 +1,7 @@
 -- The table of three axes holds the orders of fewer in front, raised by the axes that are not there. Assumes nothing.
 use native.Mathlib.Omega.{arith}
 use borrow.Author.Needs.{needs}
-use Prim.Native.Nat.{_*_, _+_, _<_}
+use Prim.Native.Nat.{_*_, _+_}
 use Rattle.multiindex.proofs.Tables.{count-most, axis-at, small}
 use Rattle.multiindex.proofs.permutation.axis.Statement.{statement}
 use Rattle.multiindex.proofs.permutation.axis.Tie as tie
