@@ -1,0 +1,1 @@
+// The Jacobian of a child in its parent's local coordinates: definitions in specs/.
