@@ -1,3 +1,4 @@
 pub mod Words
 pub mod Listed
 pub mod Facets
+pub mod Arranged
