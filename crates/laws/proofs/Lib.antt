@@ -2,3 +2,4 @@ pub mod Words
 pub mod Listed
 pub mod Facets
 pub mod Arranged
+pub mod Checked
