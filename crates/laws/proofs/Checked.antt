@@ -44,14 +44,14 @@ times-append (x ∷ a) b v = omega (arith, times-append a b v)
 pub times-parts : (n : ℕ) (ws : List ℕ) (v : ℕ) → times ws v ≡ times (take n ws) v + times (drop n ws) v
 times-parts n ws v = ap (λ (w : List ℕ). times w v) (sym (take-append-drop n ws)) ∙ times-append (take n ws) (drop n ws) v
 
-cut-times : (n count : ℕ) (ws w : List ℕ) → List·Memᴰ w (cut n count ws) → (v : ℕ) → times w v ≤ times ws v
+pub cut-times : (n count : ℕ) (ws w : List ℕ) → List·Memᴰ w (cut n count ws) → (v : ℕ) → times w v ≤ times ws v
 unfolding cut
 cut-times n zero ws w m v = absurd (List·Memᴰ·not-nil m)
 cut-times n (suc count) ws w m v =
     ⊎-elim (λ e. omega (arith, ap (λ (u : List ℕ). times u v) e, times-parts n ws v))
     (λ q. omega (arith, cut-times n count (drop n ws) w q v, times-parts n ws v)) (List·Memᴰ·cases-cons m)
 
-cut-has : (n count : ℕ) (ws : List ℕ) → count * n ≡ length ws → (v : ℕ) → 0 < times ws v
+pub cut-has : (n count : ℕ) (ws : List ℕ) → count * n ≡ length ws → (v : ℕ) → 0 < times ws v
     → (w : List ℕ) × List·Memᴰ w (cut n count ws) × (0 < times w v)
 unfolding cut
 cut-has n zero [] e v h = absurd (omega arith)

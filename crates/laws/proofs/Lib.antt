@@ -3,3 +3,4 @@ pub mod Listed
 pub mod Facets
 pub mod Arranged
 pub mod Checked
+pub mod Flat
