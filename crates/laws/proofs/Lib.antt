@@ -4,3 +4,4 @@ pub mod Facets
 pub mod Arranged
 pub mod Checked
 pub mod Flat
+pub mod Renaming
