@@ -5,3 +5,5 @@ pub mod Arranged
 pub mod Checked
 pub mod Flat
 pub mod Renaming
+pub mod Again
+pub mod Composition
