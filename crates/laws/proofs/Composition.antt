@@ -8,6 +8,7 @@ use native.Mathlib.Decide.{ℕ-discrete}
 use native.Mathlib.Omega.{arith}
 use lib.Dec.{ltb, lt→ltb}
 use lib.ListN.{length, getD}
+use Rattle.refusal.specs.Limits.{mostCells}
 use Rattle.complex.specs.Cells.{inOrder, cellsOf}
 use Rattle.complex.specs.Check.{Passed}
 use Rattle.complex.specs.Facets.{Crowded}
@@ -115,3 +116,110 @@ module _ (d a b n : ℕ) (ks : List (List ℕ)) (pa : 0 < a) (pb : 0 < b) (stage
   same-words =
       renamed d n n₂ (vertices d (a * b) n ks) (refinedWords d b n₁ ks₁) (refinedWords d (a * b) n ks) (through n₁ outer inner) (share d (a * b) n ks)
       (tower .sound .complex) (tower .sound .used) (single .sound .complex) (single .sound .used) alike (omega arith) (omega arith) fixed
+
+  -- the limits: what the single refinement keeps, the tower keeps
+  module _ (fit : Refines d (a * b) n ks) where
+    first-fits : Refines d a n ks
+    first-fits = record {
+      least = pa;
+      most = omega (arith, fit .most, mul-le-mul-left a pb);
+      cells =
+          omega (
+            arith,
+            fit .cells,
+            mul-le-mul-left (length ks) (pow-le-pow-left {n = a} {m = a * b} (omega (arith, mul-le-mul-left a pb)) d),
+          );
+      corners = omega (arith, fit .corners, as-many);
+    }
+
+    second-fits : Refines d b n₁ ks₁
+    second-fits = record {
+      least = pb;
+      most = omega (arith, fit .most, mul-le-mul-right b pa);
+      cells =
+          omega (
+            arith,
+            fit .cells,
+            ap (λ (z : ℕ). z * b ^ d) (sorted-many d a n ks pa stage),
+            length-words d (a * b) n ks,
+            tower-words d a b n ks,
+            length-words d b n₁ (words d a n ks),
+            ap (λ (z : ℕ). z * b ^ d) (length-words d a n ks),
+          );
+      corners = omega (arith, fit .corners, as-many);
+    }
+
+    -- the cells handed out by the first call, and their words
+    abbrev cs₁ : List (List ℕ)
+    cs₁ = refinedCells d a n ks
+
+    listed₁ : Listed d n₁ cs₁ ks₁
+    listed₁ = refined-listed d a n ks pa stage
+
+    module _ (small : d ≤ 3) (some : 0 < n) where
+      some-cells : 0 < length cs₁
+      unfolding Used
+      some-cells =
+          let (k, m, p) = middle .sound .used 0 (omega arith) in
+          let (c, h, e) = number-of d n₁ cs₁ ks₁ listed₁ k m in
+          omega arith
+
+      few-cells : length cs₁ ≤ mostCells
+      few-cells = omega (arith, first-fits .cells, sorted-many d a n ks pa stage, listed₁ .many)
+
+      passed : Passed d (flat cs₁)
+      passed = flat-passed d n₁ cs₁ ks₁ listed₁ some-cells (middle .sound .used) small few-cells (first-fits .corners)
+
+      same-cells : cellsOf d (flat cs₁) ≡ cs₁
+      same-cells = flat-cells d n₁ cs₁ ks₁ listed₁ (order-rising (suc d) (words d a n ks))
+
+      same-order : orderWords d (flat cs₁) (flat ks₁) ≡ ks₁
+      same-order = flat-words d n₁ cs₁ ks₁ listed₁ (order-rising (suc d) (words d a n ks))
+
+      counted : coarse (flat cs₁) ≡ n₁
+      counted = flat-coarse d n₁ cs₁ ks₁ listed₁ some-cells (middle .sound .used)
+
+      pub composed : Composes d a b n ks (flat (refinedCells d a n ks)) (flat (refinedWords d a n ks))
+      composed = record {
+        first = first-fits;
+        accepted = record {
+          fine = passed-fine d (flat cs₁) passed;
+          uncrowded =
+              subst (λ (cs : List (List ℕ)). Crowded d cs → ⊥) (sym same-cells) (listed-uncrowded d n₁ cs₁ ks₁ listed₁ (middle .sound .thin));
+        };
+        ordered = record {
+          orders = subst (λ (cs : List (List ℕ)). Orders d cs (flat ks₁)) (sym same-cells) (flat-orders d n₁ cs₁ ks₁ listed₁);
+          agrees =
+              subst (λ (ws : List (List ℕ)). order.AgreeOnFacets d (cellsOf d (flat cs₁)) ws) (sym same-order)
+              (subst (λ (cs : List (List ℕ)). order.AgreeOnFacets d cs ks₁) (sym same-cells)
+              (listed-agree-back d n₁ cs₁ ks₁ listed₁ (facets-of d (In ks₁) (middle .facewise))));
+        };
+        counted = counted;
+        second = subst (λ (ws : List (List ℕ)). Refines d b (coarse (flat cs₁)) ws) (sym same-order) (subst (λ (m : ℕ). Refines d b m ks₁) (sym counted) second-fits);
+        same =
+            subst
+            (λ (ws : List (List ℕ)).
+            Renamed n (vertices d b (coarse (flat cs₁)) ws) (vertices d (a * b) n ks) (refinedWords d b (coarse (flat cs₁)) ws) (refinedWords d (a * b) n ks)
+            (through (coarse (flat cs₁)) (share d a n ks) (share d b (coarse (flat cs₁)) ws)) (share d (a * b) n ks))
+            (sym same-order)
+            (subst
+            (λ (m : ℕ).
+            Renamed n (vertices d b m ks₁) (vertices d (a * b) n ks) (refinedWords d b m ks₁) (refinedWords d (a * b) n ks)
+            (through m (share d a n ks) (share d b m ks₁)) (share d (a * b) n ks))
+            (sym counted) same-words);
+      }
+
+-- DEMAND 3, for an order that agrees on every shared facet
+pub composition : (d a b : ℕ) (ws os : List ℕ) → Law d a b ws os
+unfolding Law
+composition d a b ws os acc ord pa pb fit =
+    let p : Passed d ws = fine-passed d ws (acc .fine) in
+    let ks : List (List ℕ) = orderWords d ws os in
+    composed d a b (coarse ws) ks pa pb (stage-of d ws p ks (order-listed d ws p os (ord .orders)) (acc .uncrowded) (ord .agrees)) fit (p .small) (omega arith)
+
+-- and where no order is given
+pub composition-sorted : (d a b : ℕ) (ws : List ℕ) → LawSorted d a b ws
+unfolding LawSorted
+composition-sorted d a b ws acc pa pb fit =
+    let p : Passed d ws = fine-passed d ws (acc .fine) in
+    composed d a b (coarse ws) (cellsOf d ws) pa pb (stage-sorted d ws p (acc .uncrowded)) fit (p .small) (omega arith)
