@@ -17,6 +17,7 @@ use Rattle.multiindex.proofs.Tables.{first-of, second-of}
 use Rattle.complex.specs.Cells.{inOrder}
 use Rattle.complex.specs.Facets.{cellAt}
 use Rattle.ordering.specs.Order.{sameWord, wordIf, wordOf, byCell}
+use Rattle.ordering.proofs.Orders.{same-true, true-same, by-cell-at, by-cell-length}
 use Rattle.cells.proofs.Words.{Word, Each, Rising, each-in, each-of, in-at, at-in, one-list}
 use Rattle.cells.proofs.Words as cells
 use Rattle.cells.proofs.Order.{Colex, colex-irr, colex-trans, order-rising, order-from, order-has}
@@ -28,18 +29,6 @@ use Rattle.laws.proofs.Words.{to-mem, of-mem, sort-times, rises-sort, s
 use Rattle.laws.proofs.Listed.{Listed, number-of, counts-at}
 
 -- ---- the word of a cell
-same-eq : (w v : List ℕ) → sameWord w v ≡ true → w ≡ v
-unfolding sameWord
-same-eq [] [] e = refl
-same-eq [] (y ∷ v) e = let z : _≡_ {A = ℕ} 0 1 = cc in absurd (omega arith)
-same-eq (x ∷ w) [] e = let z : _≡_ {A = ℕ} 0 1 = cc in absurd (omega arith)
-same-eq (x ∷ w) (y ∷ v) e = cc (eqb-true x y (first-of (eqb x y) (sameWord w v) e), same-eq w v (second-of (eqb x y) (sameWord w v) e))
-
-eq-same : (w : List ℕ) → sameWord w w ≡ true
-unfolding sameWord
-eq-same [] = refl
-eq-same (x ∷ w) = rw (eq-eqb x x refl, eq-same w)
-
 -- where some word sorts to the cell, the cell's word is one of them
 pub word-found : (ows : List (List ℕ)) (cell w : List ℕ) → List·Memᴰ w ows → sortWord w ≡ cell
     → List·Memᴰ (wordOf ows cell) ows × (sortWord (wordOf ows cell) ≡ cell)
@@ -51,28 +40,11 @@ word-found (x ∷ ows) cell w m e =
     go : (t : Bool) → sameWord (sortWord x) cell ≡ t → (w ≡ x) ⊎ List·Memᴰ w ows
         → (List·Memᴰ w ows → List·Memᴰ (wordOf ows cell) ows × (sortWord (wordOf ows cell) ≡ cell))
         → List·Memᴰ (wordIf t x (wordOf ows cell)) (x ∷ ows) × (sortWord (wordIf t x (wordOf ows cell)) ≡ cell)
-    go true p q r = (List·Memᴰ·head refl, same-eq (sortWord x) cell p)
+    go true p q r = (List·Memᴰ·head refl, same-true (sortWord x) cell p)
     go false p (inl q) r =
-        let s : sameWord (sortWord x) cell ≡ true = rw (ap sortWord (sym q) ∙ e) (eq-same cell) in
+        let s : sameWord (sortWord x) cell ≡ true = true-same (sortWord x) cell (ap sortWord (sym q) ∙ e) in
         let z : _≡_ {A = ℕ} 0 1 = cc in absurd (omega arith)
     go false p (inr q) r = let (a, b) = r q in (List·Memᴰ·tail a, b)
-
-pub by-length : (ows cs : List (List ℕ)) → length (byCell ows cs) ≡ length cs
-unfolding byCell
-by-length ows [] = refl
-by-length ows (c ∷ cs) = ap suc (by-length ows cs)
-
-pub by-at : (ows cs : List (List ℕ)) (c : ℕ) → c < length cs → cellAt (byCell ows cs) c ≡ wordOf ows (cellAt cs c)
-unfolding byCell
-by-at ows [] c h = absurd (not-suc-le-zero h)
-by-at ows (x ∷ cs) zero h = refl
-by-at ows (x ∷ cs) (suc c) h = by-at ows cs c (le-of-suc-le-suc h)
-
--- one list of words by cell, where two word lists give each cell the same word
-pub by-same : (ows vs cs : List (List ℕ)) → ((c : List ℕ) → List·Memᴰ c cs → wordOf ows c ≡ wordOf vs c) → byCell ows cs ≡ byCell vs cs
-unfolding byCell
-by-same ows vs [] f = refl
-by-same ows vs (c ∷ cs) f = cc (f c (List·Memᴰ·head refl), by-same ows vs cs (λ x m. f x (List·Memᴰ·tail m)))
 
 -- ---- the cells of a list of words
 rising-apart : (n : ℕ) (cs : List Word) → Rising (Colex n) cs → (i j : ℕ) → i < j → j < length cs → Colex n (getD cs i []) (getD cs j [])
@@ -126,10 +98,10 @@ module _ (d n : ℕ) (ws : List (List ℕ)) (x : Complex d n (In ws)) where
   -- a word for each cell from the words themselves
   pub listed-by : Listed d n (inOrder (suc d) ws) (byCell ws (inOrder (suc d) ws))
   listed-by =
-      listed (byCell ws (inOrder (suc d) ws)) (by-length ws (inOrder (suc d) ws))
+      listed (byCell ws (inOrder (suc d) ws)) (by-cell-length ws (inOrder (suc d) ws))
       (λ c h.
       let (w, m, e) = from-word c h in
-      ap sortWord (by-at ws (inOrder (suc d) ws) c h) ∙ word-found ws (cellAt (inOrder (suc d) ws) c) w m e .1)
+      ap sortWord (by-cell-at ws (inOrder (suc d) ws) c h) ∙ word-found ws (cellAt (inOrder (suc d) ws) c) w m e .1)
 
   -- the cells themselves
   pub listed-cells : Listed d n (inOrder (suc d) ws) (inOrder (suc d) ws)
@@ -152,11 +124,11 @@ module _ (d n : ℕ) (ws : List (List ℕ)) (x : Complex d n (In ws)) where
     pub in-by : (w : List ℕ) → List·Memᴰ w ws → List·Memᴰ w (byCell ws (inOrder (suc d) ws))
     in-by w m =
         let (c, h, e) = to-cell w m in
-        Memᴰ·cast (sym (by-at ws (inOrder (suc d) ws) c h ∙ ap (wordOf ws) e ∙ word-back w m))
-        (mem-at (byCell ws (inOrder (suc d) ws)) c (omega (arith, by-length ws (inOrder (suc d) ws))))
+        Memᴰ·cast (sym (by-cell-at ws (inOrder (suc d) ws) c h ∙ ap (wordOf ws) e ∙ word-back w m))
+        (mem-at (byCell ws (inOrder (suc d) ws)) c (omega (arith, by-cell-length ws (inOrder (suc d) ws))))
 
     pub of-by : (w : List ℕ) → List·Memᴰ w (byCell ws (inOrder (suc d) ws)) → List·Memᴰ w ws
     of-by w m =
         let (c, h, e) = number-of d n (inOrder (suc d) ws) (byCell ws (inOrder (suc d) ws)) listed-by w m in
         let (u, k, f) = from-word c h in
-        Memᴰ·cast (sym e ∙ by-at ws (inOrder (suc d) ws) c h) (word-found ws (cellAt (inOrder (suc d) ws) c) u k f .0)
+        Memᴰ·cast (sym e ∙ by-cell-at ws (inOrder (suc d) ws) c h) (word-found ws (cellAt (inOrder (suc d) ws) c) u k f .0)

@@ -34,7 +34,8 @@ use Rattle.refine.specs.Refined.{coarse, orderWords}
 use Rattle.laws.proofs.Words.{of-mem, sort-times, times-among, plain-of}
 use Rattle.laws.proofs.Listed.{Listed, counts-at, number-of, word-in, listed-complex, listed-distinct}
 use Rattle.laws.proofs.Facets.{listed-nodup, listed-thin, listed-agree}
-use Rattle.laws.proofs.Arranged.{by-length, by-at, to-cell, from-word, listed, listed-cells}
+use Rattle.ordering.proofs.Orders.{by-cell-length, by-cell-at}
+use Rattle.laws.proofs.Arranged.{to-cell, from-word, listed, listed-cells}
 
 -- ---- a flat list and its words
 pub times-append : (a b : List ℕ) (v : ℕ) → times (a ++ b) v ≡ times a v + times b v
@@ -146,8 +147,8 @@ module _ (d : ℕ) (ws : List ℕ) (p : Passed d ws) where
 
   pub order-listed : (os : List ℕ) → Orders d (cellsOf d ws) os → Listed d (coarse ws) (cellsOf d ws) (orderWords d ws os)
   order-listed os o =
-      words-of (orderWords d ws os) (by-length (rows (suc d) os) (cellsOf d ws))
-      (λ c h. ap sortWord (by-at (rows (suc d) os) (cellsOf d ws) c h) ∙ o .words .each c h)
+      words-of (orderWords d ws os) (by-cell-length (rows (suc d) os) (cellsOf d ws))
+      (λ c h. ap sortWord (by-cell-at (rows (suc d) os) (cellsOf d ws) c h) ∙ o .words .each c h)
 
   module _ (ks : List (List ℕ)) (l : Listed d (coarse ws) (cellsOf d ws) ks) where
     cell-used : (v : ℕ) → v < coarse ws → (c : ℕ) × (c < length (cellsOf d ws)) × (0 < times (cellAt (cellsOf d ws) c) v)

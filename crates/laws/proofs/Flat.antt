@@ -29,7 +29,8 @@ use Rattle.lattice.proofs.Refines.{mem-at}
 use Rattle.refine.specs.Refined.{coarse, orderWords}
 use Rattle.laws.proofs.Words.{to-mem, of-mem, sort-times, sort-fixed, rises-plain, repeat-none, among-some}
 use Rattle.laws.proofs.Listed.{Listed, counts-at, long-at, number-of, word-in, listed-complex, listed-distinct}
-use Rattle.laws.proofs.Arranged.{word-found, by-length, by-at}
+use Rattle.ordering.proofs.Orders.{by-cell-length, by-cell-at}
+use Rattle.laws.proofs.Arranged.{word-found}
 use Rattle.laws.proofs.Checked.{cut-times, cut-has, largest-times, at-most}
 
 -- ---- words of n numbers one after the other
@@ -142,10 +143,10 @@ module _ (d n : ℕ) (cs ks : List (List ℕ)) (l : Listed d n cs ks) where
   by-cell : byCell ks cs ≡ ks
   unfolding Distinct
   by-cell =
-      ext-getD [] (byCell ks cs) ks (by-length ks cs ∙ sym (l .many))
+      ext-getD [] (byCell ks cs) ks (by-cell-length ks cs ∙ sym (l .many))
       (λ c h.
-      let b : c < length cs = omega (arith, by-length ks cs) in
-      by-at ks cs c b
+      let b : c < length cs = omega (arith, by-cell-length ks cs) in
+      by-cell-at ks cs c b
       ∙ listed-distinct d n cs ks l (wordOf ks (cellAt cs c)) (cellAt ks c) (found c b .0) (word-in d n cs ks l c b)
       (λ v.
       sym (sort-times (wordOf ks (cellAt cs c)) v)
