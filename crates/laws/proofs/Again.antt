@@ -11,9 +11,9 @@ use Rattle.lattice.specs.Complex.{Words, Complex, Apart, Refined, Within, Alike
 use Rattle.lattice.specs.Refine.{words, vertices, share, In}
 use Rattle.lattice.specs.Conform.{Used, Distinct, Thin, Sound, Facewise}
 use Rattle.lattice.proofs.Count.{Nodup, no-longer}
-use Rattle.lattice.proofs.Fits.{Stage, length-words}
+use Rattle.lattice.proofs.Whole.{sound-words, nodup-words}
+use Rattle.lattice.proofs.Fits.{Stage, facewise-words, length-words}
 use Rattle.lattice.proofs.Refines.{refined}
-use Rattle.lattice.proofs.Final.{again}
 use Rattle.refine.specs.Refined.{refinedCells, refinedWords}
 use Rattle.laws.proofs.Listed.{Listed, listed-complex, listed-distinct}
 use Rattle.laws.proofs.Facets.{listed-nodup}
@@ -47,55 +47,47 @@ refined-along d R K M N share f g r = record {
   one = λ m m′ h h′. r .one m m′ (g m h) (g m′ h′);
 }
 
-pub alike-along : (d : ℕ) (T C T′ C′ : Words) (share share′ : ℕ → ℕ → ℕ) → ((w : List ℕ) → T w → T′ w) → ((w : List ℕ) → T′ w → T w)
-    → ((w : List ℕ) → C w → C′ w) → ((w : List ℕ) → C′ w → C w) → Alike d T C share share′ → Alike d T′ C′ share share′
-unfolding Apart Within
-alike-along d T C T′ C′ share share′ f g f′ g′ a = record {
-  forth = λ w h. let (y, m, s) = a .forth w (g w h) in (y, f′ y m, s);
-  back = λ w h. let (y, m, s) = a .back w (g′ w h) in (y, f y m, s);
-  apart = λ w z h l. a .apart w z (g w h) (g z l);
-  apart′ = λ w z h l. a .apart′ w z (g′ w h) (g′ z l);
-}
-
 -- agreement on facets, however it is given
 pub facets-of : (d : ℕ) (K : Words) → Facewise d K → AgreeOnFacets d K
 unfolding Facewise AgreeOnFacets AgreeOnFaces
 facets-of d K f = ⊎-elim (λ h. h .1) (λ h k l a b e. h k l a b) f
 
--- ---- a complex refined by R
-module _ (d R n : ℕ) (ks : List (List ℕ)) (pos-R : 0 < R) (stage : Stage d n ks) where
+-- ---- a complex refined by R, whether its words agree or not
+module _ (d R n : ℕ) (ks : List (List ℕ)) (pos-R : 0 < R) (sound : Sound d n (In ks)) (nodup : Nodup ks) where
   abbrev N : ℕ
   N = vertices d R n ks
 
   abbrev ws : List (List ℕ)
   ws = words d R n ks
 
-  pub visited : Stage d (vertices d R n ks) (words d R n ks)
-  visited = again d R n ks pos-R stage
+  pub visited : Sound d (vertices d R n ks) (In (words d R n ks))
+  visited = sound-words d R n ks pos-R sound
+
+  pub visited-nodup : Nodup (words d R n ks)
+  visited-nodup = nodup-words d R n ks pos-R (sound .complex) nodup (sound .distinct)
 
   -- the cells in colex order, with their words
   pub refined-listed : Listed d (vertices d R n ks) (refinedCells d R n ks) (refinedWords d R n ks)
-  refined-listed = listed-by d N ws (visited .sound .complex)
+  refined-listed = listed-by d N ws (visited .complex)
 
   pub to-sorted : (w : List ℕ) → In (words d R n ks) w → In (refinedWords d R n ks) w
-  to-sorted = in-by d N ws (visited .sound .complex) (visited .sound .distinct)
+  to-sorted = in-by d N ws (visited .complex) (visited .distinct)
 
   pub of-sorted : (w : List ℕ) → In (refinedWords d R n ks) w → In (words d R n ks) w
-  of-sorted = of-by d N ws (visited .sound .complex) (visited .sound .distinct)
+  of-sorted = of-by d N ws (visited .complex) (visited .distinct)
 
   -- they are a complex that is taken again
-  pub sorted-stage : Stage d (vertices d R n ks) (refinedWords d R n ks)
-  sorted-stage = record {
-    sound = sound-along d N (In ws) (In (refinedWords d R n ks)) to-sorted of-sorted (visited .sound);
-    facewise = facewise-along d (In ws) (In (refinedWords d R n ks)) of-sorted (visited .facewise);
-    nodup = listed-nodup d N (refinedCells d R n ks) (refinedWords d R n ks) refined-listed;
-  }
+  pub sorted-sound : Sound d (vertices d R n ks) (In (refinedWords d R n ks))
+  sorted-sound = sound-along d N (In ws) (In (refinedWords d R n ks)) to-sorted of-sorted visited
+
+  pub sorted-nodup : Nodup (refinedWords d R n ks)
+  sorted-nodup = listed-nodup d N (refinedCells d R n ks) (refinedWords d R n ks) refined-listed
 
   -- and the complex refined by R
   pub sorted-refined : Refined d R (In ks) (In (refinedWords d R n ks)) (share d R n ks)
   sorted-refined =
       refined-along d R (In ks) (In ws) (In (refinedWords d R n ks)) (share d R n ks) to-sorted of-sorted
-      (refined d R n ks (stage .sound .complex .long) (stage .sound .complex .below))
+      (refined d R n ks (sound .complex .long) (sound .complex .below))
 
   -- each cell has R ^ d children, no two of them the same: so many cells there are
   pub sorted-many : length (refinedWords d R n ks) ≡ length ks * R ^ d
@@ -103,9 +95,19 @@ module _ (d R n : ℕ) (ks : List (List ℕ)) (pos-R : 0 < R) (stage : Stage d n
       omega (
         arith,
         length-words d R n ks,
-        no-longer (λ (x y : List ℕ). x ≡ y) ws (refinedWords d R n ks) (visited .nodup) (λ w m. (w, to-sorted w m, refl)) (λ x x′ y e e′. e ∙ sym e′),
-        no-longer (λ (x y : List ℕ). x ≡ y) (refinedWords d R n ks) ws (sorted-stage .nodup) (λ w m. (w, of-sorted w m, refl)) (λ x x′ y e e′. e ∙ sym e′),
+        no-longer (λ (x y : List ℕ). x ≡ y) ws (refinedWords d R n ks) visited-nodup (λ w m. (w, to-sorted w m, refl)) (λ x x′ y e e′. e ∙ sym e′),
+        no-longer (λ (x y : List ℕ). x ≡ y) (refinedWords d R n ks) ws sorted-nodup (λ w m. (w, of-sorted w m, refl)) (λ x x′ y e e′. e ∙ sym e′),
       )
 
   pub cells-many : length (refinedCells d R n ks) ≡ length ks * R ^ d
   cells-many = omega (arith, sorted-many, refined-listed .many)
+
+-- and where they agree they agree again
+pub sorted-stage : (d R n : ℕ) (ks : List (List ℕ)) → 0 < R → Stage d n ks → Stage d (vertices d R n ks) (refinedWords d R n ks)
+sorted-stage d R n ks pos-R s = record {
+  sound = sorted-sound d R n ks pos-R (s .sound) (s .nodup);
+  facewise =
+      facewise-along d (In (words d R n ks)) (In (refinedWords d R n ks)) (of-sorted d R n ks pos-R (s .sound) (s .nodup))
+      (facewise-words d R n ks pos-R (s .sound) (s .facewise));
+  nodup = sorted-nodup d R n ks pos-R (s .sound) (s .nodup);
+}

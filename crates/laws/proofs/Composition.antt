@@ -30,7 +30,7 @@ use Rattle.laws.proofs.Facets.{listed-uncrowded, listed-agree-back}
 use Rattle.laws.proofs.Checked.{cells-listed, order-listed, stage-of, stage-sorted}
 use Rattle.laws.proofs.Flat.{flat-cells, flat-coarse, flat-passed, flat-orders, flat-words}
 use Rattle.laws.proofs.Renaming.{renamed}
-use Rattle.laws.proofs.Again.{alike-along, facets-of, visited, refined-listed, to-sorted, of-sorted, sorted-stage, sorted-refined, sorted-many}
+use Rattle.laws.proofs.Again.{facets-of, refined-listed, sorted-stage, sorted-refined, sorted-many}
 
 -- a coarse vertex keeps its whole share
 share-old : (d R n : ℕ) (ks : List (List ℕ)) (x : ℕ) → x < n → (v : ℕ) → share d R n ks x v ≡ R * same x v
@@ -84,11 +84,11 @@ module _ (d a b n : ℕ) (ks : List (List ℕ)) (pa : 0 < a) (pb : 0 < b) (stage
   alike =
       ⊎-elim
       (λ f. by-facets d a b n n₁ (In ks) (In ks₁) (In (refinedWords d b n₁ ks₁)) (In (refinedWords d (a * b) n ks)) outer inner (share d (a * b) n ks)
-      (stage .sound .complex) (middle .sound .complex .below) (sorted-refined d a n ks pa stage) (sorted-refined d b n₁ ks₁ pb middle)
-      (sorted-refined d (a * b) n ks pab stage) (f .0) (f .1))
+      (stage .sound .complex) (middle .sound .complex .below) (sorted-refined d a n ks pa (stage .sound) (stage .nodup)) (sorted-refined d b n₁ ks₁ pb (middle .sound) (middle .nodup))
+      (sorted-refined d (a * b) n ks pab (stage .sound) (stage .nodup)) (f .0) (f .1))
       (λ f. by-faces d a b n n₁ (In ks) (In ks₁) (In (refinedWords d b n₁ ks₁)) (In (refinedWords d (a * b) n ks)) outer inner (share d (a * b) n ks)
-      (stage .sound .complex) (middle .sound .complex .below) (sorted-refined d a n ks pa stage) (sorted-refined d b n₁ ks₁ pb middle)
-      (sorted-refined d (a * b) n ks pab stage) f)
+      (stage .sound .complex) (middle .sound .complex .below) (sorted-refined d a n ks pa (stage .sound) (stage .nodup)) (sorted-refined d b n₁ ks₁ pb (middle .sound) (middle .nodup))
+      (sorted-refined d (a * b) n ks pab (stage .sound) (stage .nodup)) f)
       (stage .facewise)
 
   -- as many vertices
@@ -140,7 +140,7 @@ module _ (d a b n : ℕ) (ks : List (List ℕ)) (pa : 0 < a) (pb : 0 < b) (stage
           omega (
             arith,
             fit .cells,
-            ap (λ (z : ℕ). z * b ^ d) (sorted-many d a n ks pa stage),
+            ap (λ (z : ℕ). z * b ^ d) (sorted-many d a n ks pa (stage .sound) (stage .nodup)),
             length-words d (a * b) n ks,
             tower-words d a b n ks,
             length-words d b n₁ (words d a n ks),
@@ -154,7 +154,7 @@ module _ (d a b n : ℕ) (ks : List (List ℕ)) (pa : 0 < a) (pb : 0 < b) (stage
     cs₁ = refinedCells d a n ks
 
     listed₁ : Listed d n₁ cs₁ ks₁
-    listed₁ = refined-listed d a n ks pa stage
+    listed₁ = refined-listed d a n ks pa (stage .sound) (stage .nodup)
 
     module _ (small : d ≤ 3) (some : 0 < n) where
       some-cells : 0 < length cs₁
@@ -165,7 +165,7 @@ module _ (d a b n : ℕ) (ks : List (List ℕ)) (pa : 0 < a) (pb : 0 < b) (stage
           omega arith
 
       few-cells : length cs₁ ≤ mostCells
-      few-cells = omega (arith, first-fits .cells, sorted-many d a n ks pa stage, listed₁ .many)
+      few-cells = omega (arith, first-fits .cells, sorted-many d a n ks pa (stage .sound) (stage .nodup), listed₁ .many)
 
       passed : Passed d (flat cs₁)
       passed = flat-passed d n₁ cs₁ ks₁ listed₁ some-cells (middle .sound .used) small few-cells (first-fits .corners)

@@ -6,4 +6,5 @@ pub mod Checked
 pub mod Flat
 pub mod Renaming
 pub mod Again
+pub mod Parents
 pub mod Composition

@@ -36,7 +36,7 @@ placed d N T c u x h =
     record { w = w; in-T = m; i = i; below = omega (arith, c .long w m); at = e }
 
 -- vertices with the same shares are one
-told : (d N : ℕ) (T : Words) (share : ℕ → ℕ → ℕ) → Complex d N T → Used N T → Apart d T share → (x x′ : ℕ) → x < N → x′ < N
+pub told : (d N : ℕ) (T : Words) (share : ℕ → ℕ → ℕ) → Complex d N T → Used N T → Apart d T share → (x x′ : ℕ) → x < N → x′ < N
     → ((v : ℕ) → share x v ≡ share x′ v) → x ≡ x′
 unfolding Apart
 told d N T share c u apart x x′ h h′ e =

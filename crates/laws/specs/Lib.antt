@@ -1,1 +1,2 @@
+pub mod Refinement
 pub mod Composition
