@@ -6,7 +6,6 @@ use Prim.Native.Nat.{ℕ, zero, suc, _+_, _*_, _^_, _≤_, _<_}
 use native.Mathlib.Nat.{mul-le-mul-left, mul-le-mul-right, pow-le-pow-left}
 use native.Mathlib.Decide.{ℕ-discrete}
 use native.Mathlib.Omega.{arith}
-use lib.Dec.{ltb, lt→ltb}
 use lib.ListN.{length, getD}
 use Rattle.refusal.specs.Limits.{mostCells}
 use Rattle.complex.specs.Cells.{inOrder, cellsOf}
@@ -21,7 +20,6 @@ use Rattle.lattice.specs.Refine.{births, words, vertices, share, In}
 use Rattle.lattice.specs.Conform.{Used, Sound, Facewise}
 use Rattle.lattice.proofs.Sums.{same-self, same-yes, same-no, sum-ext, sum-scale, sum-pick}
 use Rattle.lattice.proofs.Faces.{by-facets, by-faces}
-use Rattle.lattice.proofs.Refines.{yes-pick, refined}
 use Rattle.lattice.proofs.Fits.{Stage, fits, length-words, tower-words}
 use Rattle.refine.specs.Refined.{coarse, orderWords, refinedCells, refinedWords}
 use Rattle.laws.specs.Composition.{Accepted, Ordered, Refines, Renamed, Composes, Law, LawSorted}
@@ -30,11 +28,8 @@ use Rattle.laws.proofs.Facets.{listed-uncrowded, listed-agree-back}
 use Rattle.laws.proofs.Checked.{cells-listed, order-listed, stage-of, stage-sorted}
 use Rattle.laws.proofs.Flat.{flat-cells, flat-coarse, flat-passed, flat-orders, flat-words}
 use Rattle.laws.proofs.Renaming.{renamed}
+use Rattle.laws.proofs.Refinement.{share-old}
 use Rattle.laws.proofs.Again.{facets-of, refined-listed, sorted-stage, sorted-refined, sorted-many}
-
--- a coarse vertex keeps its whole share
-share-old : (d R n : ℕ) (ks : List (List ℕ)) (x : ℕ) → x < n → (v : ℕ) → share d R n ks x v ≡ R * same x v
-share-old d R n ks x h v = yes-pick (ltb x n) (R * same x v) _ (lt→ltb x n h)
 
 same-turn : (x y : ℕ) → same x y ≡ same y x
 same-turn x y =

@@ -7,4 +7,5 @@ pub mod Flat
 pub mod Renaming
 pub mod Again
 pub mod Parents
+pub mod Refinement
 pub mod Composition
