@@ -1,0 +1,62 @@
+"""compare.py LIBRARY ORACLE SEED COUNT: the same requests to the planner's library and to the Rust."""
+import random
+import sys
+
+import calls
+import inputs
+from judge import Judge, Rust
+from port import Port
+
+
+def cell_lists(j, lists):
+    for d, ws in lists:
+        c = calls.Cells(j, d, ws)
+        for call in calls.CELL_CALLS:
+            call(j, c)
+
+
+def grids(j, rnd, all_grids):
+    for d, axes in all_grids:
+        calls.questions(j, d, axes)
+        if calls.m.check_grid(d, axes) is None and calls.m.points(d, axes) <= 60:
+            calls.reduce_all(j, d, axes)
+        else:
+            calls.reduce(j, d, axes, rnd.randrange(9000))
+
+
+def run(port, oracle, seed, count):
+    rnd = random.Random(seed)
+    j = Judge(port, Rust(oracle), rnd)
+    cell_lists(j, inputs.small_lists())
+    cell_lists(j, inputs.limit_lists())
+    grids(j, rnd, inputs.small_grids())
+    grids(j, rnd, inputs.limit_grids())
+    begun = j.requests
+    while j.requests - begun < count:
+        cell_lists(j, [inputs.random_list(rnd)])
+        d, axes = inputs.random_grid(rnd)
+        calls.questions(j, d, axes)
+        for _ in range(2):
+            calls.reduce(j, d, axes, rnd.randrange(2 * max(1, calls.m.points(min(d, 3), axes)) + 2) % 2 ** 32)
+        n = rnd.choice((0, 1, 2, 3, 4, 5, 8, 30, 64, 4095, 4096, 4097, 2 ** 32 - 1, rnd.randrange(100)))
+        glues = [rnd.choice((0, 256, 512 + (rnd.randrange(8) & ~(1 << i)), 512 + rnd.randrange(16))) for i in range(rnd.choice((2, 3, 3, 3)))]
+        calls.makers(j, rnd.choice((0, 1, 2, 2, 3, 3, 4)), inputs.random_sides(rnd, 3), n, glues)
+        if not j.requests:
+            break
+    return j
+
+
+def main():
+    library, oracle, seed, count = sys.argv[1], sys.argv[2], int(sys.argv[3]), int(sys.argv[4])
+    j = run(Port(library), oracle, seed, count)
+    for name in sorted(j.by_call):
+        print("%-36s %8d" % (name, j.by_call[name]))
+    print("answers: " + ", ".join("%s %d" % ("fine" if k == 0 else k, n) for k, n in sorted(j.by_answer.items())))
+    if j.missing:
+        print("not in the library: " + " ".join(sorted(j.missing)))
+    print("compared %d requests, %d differences" % (j.requests, j.differences))
+    sys.exit(1 if j.differences or j.missing or not j.requests else 0)
+
+
+if __name__ == "__main__":
+    main()
