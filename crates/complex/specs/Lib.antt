@@ -1,3 +1,4 @@
 pub mod Check
+pub mod Room
 pub mod Cells
 pub mod Facets

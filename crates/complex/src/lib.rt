@@ -2,6 +2,7 @@
 use refusal::Answer;
 use refusal::MOST_CELLS;
 use refusal::MOST_VERTICES;
+use refusal::Room;
 ghost use mathlib.Core.Path.{_≡_};
 ghost use Prim.Native.Nat.{ℕ, _+_, _*_, _<_, _≤_};
 ghost use lib.ListN.{length, getD};
@@ -9,6 +10,7 @@ ghost use lib.Dec.{eqb};
 ghost use Rattle.refusal.specs.Limits.{mostVertices};
 ghost use Rattle.lists.specs.Words.{among, hasRepeat, largestOf, firstWhere, marked};
 ghost use Rattle.complex.specs.Check.{firstRepeat, answerOf};
+ghost use Rattle.complex.specs.Room.{keyRoom, needOf};
 
 const LAST_VERTEX: u32 = MOST_VERTICES as u32 - 1;
 
@@ -138,4 +140,28 @@ pub fn check_cells(d: u32, words: &[u32]) -> Answer
         return Answer::Refused(5, gap);
     }
     Answer::Fine
+}
+
+// How many numbers the facet rows of words with len corners need for their keys.
+fn key_room(d: usize, len: usize) -> usize
+    requires { ⌜ (d ≤ 3) × (len < 65536) ⌝ }
+    ensures { λ r. ⌜ r ≡ keyRoom d len ⌝ }
+{
+    if d == 0 {
+        return len;
+    }
+    d * len
+}
+
+// What a call on words with len corners needs of its working lists.
+pub fn need(d: usize, len: usize) -> Room
+    requires { ⌜ (d ≤ 3) × (len < 65536) ⌝ }
+    ensures { λ r. ⌜ r ≡ needOf d len ⌝ }
+{
+    Room {
+        keys: key_room(d, len),
+        rows: len,
+        spare: len,
+        counts: len,
+    }
 }

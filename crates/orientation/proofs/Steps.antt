@@ -1,0 +1,142 @@
+-- The work of `orientation`, step by step: what each call asks follows from what the calls before it gave. Assumes nothing.
+use mathlib.Core.Bool.{Bool, true, false}
+use mathlib.Core.List.{List, [], _∷_, _++_}
+use mathlib.Core.Path.{_≡_, refl, sym, ap, _∙_, subst}
+use Prim.Native.Nat.{ℕ, zero, suc, _+_, _*_, _<_, _≤_}
+use native.Mathlib.Nat.{mul-comm, mul-zero, suc-mul, mul-suc, mul-le-mul-left, mul-le-mul-right, le-trans}
+use native.Mathlib.Omega.{arith}
+use lib.IntN.{ℤ}
+use lib.ListN.{length, getD, take, drop}
+use lib.Seq.{length-take-le}
+use Rattle.refusal.specs.declared.Counted.{Counted}
+use Rattle.refusal.specs.declared.Counted.the-variants.{Count, Refused}
+use Rattle.refusal.specs.Table.{crowdedFacet, tooShort, noSigns}
+use Rattle.refusal.specs.Lent.{onto}
+use Rattle.complex.specs.Check.{Passed}
+use Rattle.lists.specs.Rows.{cut}
+use Rattle.complex.specs.Cells.{cellsOf}
+use Rattle.lists.proofs.Rows.{cut-length}
+use Rattle.complex.specs.Facets.{Crowded, Cells, slots}
+use Rattle.facets.specs.Table.{none, MateTable, Meeting}
+use Rattle.facets.proofs.Meeting.{slots-most}
+use Rattle.cells.specs.Made.{Making, Made}
+use Rattle.multiindex.specs.Sign.{Sign, signNumber}
+use Rattle.signs.specs.Signs.{Coherent, Oriented, signList}
+use Rattle.signs.specs.Found.{signOf, numberOf, handedOut, Finding, Found}
+use Rattle.signs.proofs.Linking.{not-crowded}
+use Rattle.complex.specs.Room.{keyRoom}
+use Rattle.orientation.specs.Promise.{Ends, crowded, one-sided, short, signed}
+use Rattle.orientation.specs.Work.{Working, Worked}
+
+pub room-least : (d n : ℕ) → n ≤ keyRoom d n
+room-least zero n = omega arith
+room-least (suc d) n = omega (arith, suc-mul d n)
+
+room-rows : (d m n : ℕ) → m * suc d ≤ n → m * slots d * d ≤ keyRoom d n
+room-rows zero m n h = omega (arith, mul-zero (m * 0))
+room-rows (suc d) m n h = omega (arith, mul-le-mul-right (suc d) h, mul-comm n (suc d))
+
+-- ---- the sign list
+pub length-signs : (σ : ℕ → Sign) (n : ℕ) → length (signList σ n) ≡ n
+length-signs σ zero = refl
+length-signs σ (suc n) = ap suc (length-signs (λ c. σ (suc c)) n)
+
+number-sign : (n : ℕ) → numberOf n ≡ signNumber (signOf n)
+number-sign zero = refl
+number-sign (suc zero) = refl
+number-sign (suc (suc n)) = refl
+
+pub handed-signs : (marks : List ℕ) (m : ℕ) → m ≤ length marks → handedOut (take m marks) ≡ signList (λ c. signOf (getD marks c 0)) m
+handed-signs marks zero h = refl
+handed-signs [] (suc m) h = absurd (omega arith)
+handed-signs (x ∷ xs) (suc m) h =
+    let e : numberOf x ≡ signNumber (signOf x) = number-sign x in
+    let r : handedOut (take m xs) ≡ signList (λ c. signOf (getD xs c 0)) m = handed-signs xs m (omega arith) in
+    cc
+
+-- there are no more cells than corners
+pub cells-fit : (d : ℕ) (ws : List ℕ) (m : ℕ) (rows : List ℕ) → Made d ws m rows → m < 4294967296
+cells-fit d ws m rows a = omega (arith, a .most, a .corners, mul-suc m d)
+
+module _ (d : ℕ) (ws keys rows spare counts : List ℕ) (w : Working d ws keys rows spare counts) where
+  pub making : Making d ws keys rows spare counts
+  making =
+      record {
+        passed = w .passed;
+        keys-long = omega (arith, w .keys-long, room-least d (length ws));
+        rows-long = omega (arith, w .rows-long);
+        spare-long = omega (arith, w .spare-long);
+        counts-long = omega (arith, w .counts-long);
+      }
+
+  module _ (m : ℕ) (keys′ rows′ spare′ counts′ : List ℕ) (lk : length keys′ ≡ length keys) (lr : length rows′ ≡ length rows) (ls : length spare′ ≡ length spare) (lc : length counts′ ≡ length counts) (a : Made d ws m rows′) where
+    pub meeting : Meeting d m (length ws) keys′ rows′ spare′ counts′
+    meeting =
+        record {
+          cells = a .cells;
+          rows-long = omega (arith, a .most, w .rows-long);
+          keys-long = omega (arith, room-rows d m (length ws) (a .most), w .keys-long);
+          spare-long = omega (arith, a .most, w .spare-long);
+          counts-long = omega (arith, a .most, w .counts-long);
+          buckets = omega (arith, w .counts-long);
+          few = omega (arith, a .most, a .corners);
+          small = omega (arith, w .passed .small);
+          below = a .below;
+        }
+
+    cells-many : length (cellsOf d ws) ≡ m
+    cells-many = ap length (sym (a .same)) ∙ cut-length (suc d) m rows′
+
+    -- 7
+    pub worked-crowded : (out : List ℤ) → Crowded d (cut (suc d) m rows′) → Worked d ws (Refused crowdedFacet 0) out out
+    worked-crowded out x = record { handed = []; ends = crowded (subst (λ (cs : List (List ℕ)). Crowded d cs) (a .same) x); result = refl }
+
+    module _ (keys″ rows″ spare″ counts″ : List ℕ) (lk″ : length keys″ ≡ length keys′) (lr″ : length rows″ ≡ length rows′) (ls″ : length spare″ ≡ length spare′) (lc″ : length counts″ ≡ length counts′) (t : MateTable d (cut (suc d) m rows′) rows″) where
+      slots-fit : m * slots d ≤ length ws
+      slots-fit = omega (arith, mul-le-mul-left m (slots-most d), a .most)
+
+      pub finding : Finding d m rows″ keys″ spare″ counts″
+      finding =
+          record {
+            cs = cut (suc d) m rows′;
+            many = cut-length (suc d) m rows′;
+            mates = t;
+            rows-long = omega (arith, slots-fit, w .rows-long);
+            keys-long = omega (arith, slots-fit, w .keys-long, room-least d (length ws));
+            spare-long = omega (arith, slots-fit, w .spare-long);
+            counts-long = omega (arith, a .most, mul-suc m d, w .counts-long);
+            stack-long = omega (arith, a .most, mul-suc m d, w .rows-long);
+            few = omega (arith, a .most, a .corners);
+            small = omega (arith, w .passed .small);
+          }
+
+      free : Crowded d (cellsOf d ws) → ⊥
+      free x = not-crowded d m (cut (suc d) m rows′) (cut-length (suc d) m rows′) rows″ t (omega (arith, a .most, a .corners)) (subst (λ (cs : List (List ℕ)). Crowded d cs) (sym (a .same)) x)
+
+      module _ (ok : Bool) (marks : List ℕ) (lm : length marks ≡ length counts″) (f : (cs : List (List ℕ)) → length cs ≡ m → MateTable d cs rows″ → Found d cs ok marks) where
+        f′ : Found d (cut (suc d) m rows′) ok marks
+        f′ = f (cut (suc d) m rows′) (cut-length (suc d) m rows′) t
+
+        -- 13
+        pub worked-one-sided : (out : List ℤ) → ok ≡ false → Worked d ws (Refused noSigns 0) out out
+        worked-one-sided out e = record { handed = []; ends = one-sided free (λ σ p. f′ .no e σ (subst (λ (cs : List (List ℕ)). Coherent d cs σ) (sym (a .same)) p)); result = refl }
+
+        signs-are : ok ≡ true → Oriented d (cellsOf d ws) (λ c. signOf (getD marks c 0))
+        signs-are e = subst (λ (cs : List (List ℕ)). Oriented d cs (λ c. signOf (getD marks c 0))) (a .same) (f′ .yes e)
+
+        -- 12
+        pub worked-short : (out : List ℤ) → ok ≡ true → length out < m → Worked d ws (Refused tooShort 0) out out
+        worked-short out e h = record { handed = []; ends = short free (λ c. signOf (getD marks c 0)) (signs-are e) (omega (arith, cells-many)); result = refl }
+
+        pub marks-long : m ≤ length marks
+        marks-long = omega (arith, a .most, mul-suc m d, w .counts-long)
+
+        -- the signs
+        pub worked-signed : (out part : List ℤ) → ok ≡ true → m ≤ length out → part ≡ handedOut (take (length (take m out)) marks) → Worked d ws (Count m) out (part ++ drop m out)
+        worked-signed out part e h p =
+            record {
+              handed = signList (λ c. signOf (getD marks c 0)) (length (cellsOf d ws));
+              ends = subst (λ (n : ℕ). Ends d (cellsOf d ws) (length out) (Count n) (signList (λ c. signOf (getD marks c 0)) (length (cellsOf d ws)))) cells-many
+                  (signed free (λ c. signOf (getD marks c 0)) (signs-are e) (omega (arith, cells-many)));
+              result = rw (cells-many, length-signs (λ c. signOf (getD marks c 0)) m, p, length-take-le m out h, handed-signs marks m marks-long);
+            }

@@ -1,0 +1,113 @@
+// Coherent signs. A facet of two cells has an induced sign from each; signs of cells are coherent if the products of cell sign and induced sign are opposite on each such
+// facet. On a facet-connected piece one sign decides all others, so signs that are + at the lowest cell of each piece are the only ones, or there are none.
+//
+// What the working lists hold, one phase after the other:
+//   keys     sorted words     facet rows     the cell across each slot
+//   rows     cells            mates          the stack of the walk
+//   spare    first rows       first rows     whether signs differ across each slot
+//   counts   buckets          classes        signs, 1 for + and 2 for -
+use refusal::Answer;
+use refusal::CROWDED_FACET;
+use refusal::Counted;
+use refusal::NO_SIGNS;
+use refusal::Room;
+use refusal::TOO_SHORT;
+ghost use mathlib.Core.Path.{_≡_};
+ghost use Prim.Native.Nat.{_*_, _<_, _≤_};
+ghost use lib.ListN.{length};
+ghost use Rattle.lists.specs.Zero.{AllZero};
+ghost use Rattle.orientation.specs.Promise.{Orientation};
+ghost use Rattle.orientation.specs.Work.{Working, Worked};
+
+// The work, in working lists of just the sizes that are needed. Nothing is promised of them.
+fn work(
+    d: usize,
+    words: &[u32],
+    signs: &mut [i32],
+    keys: &mut [u32],
+    rows: &mut [u32],
+    spare: &mut [u32],
+    counts: &mut [u32],
+) -> Counted
+    requires { ⌜ Working d (now words) (now keys) (now rows) (now spare) (now counts) ⌝ }
+    ensures { λ r. ⌜ Worked d (now (words .entry)) r (now (signs .entry)) (now (signs .exit)) ⌝ }
+{
+    let m = cells::cells(d, words, keys, rows, spare, counts);
+    if !facets::mates(d, m, words.len(), keys, rows, spare, counts) {
+        return Counted::Refused(CROWDED_FACET, 0);
+    }
+    if !signs::coherent(d, m, rows, keys, spare, counts) {
+        return Counted::Refused(NO_SIGNS, 0);
+    }
+    if signs.len() < m {
+        return Counted::Refused(TOO_SHORT, 0);
+    }
+    signs::hand_out(counts, &mut signs[..m]);
+    Counted::Count(m as u32)
+}
+
+// The work, and then the working lists are all zero.
+fn cleared(
+    d: usize,
+    words: &[u32],
+    signs: &mut [i32],
+    keys: &mut [u32],
+    rows: &mut [u32],
+    spare: &mut [u32],
+    counts: &mut [u32],
+) -> Counted
+    requires { ⌜ Working d (now words) (now keys) (now rows) (now spare) (now counts) ⌝ }
+    ensures work { λ r. ⌜ Worked d (now (words .entry)) r (now (signs .entry)) (now (signs .exit)) ⌝ }
+    ensures room { λ _.
+        ⌜ AllZero (now (keys .entry)) (now (keys .exit)) (now (rows .entry)) (now (rows .exit)) (now (spare .entry)) (now (spare .exit)) (now (counts .entry))
+        (now (counts .exit)) ⌝ }
+{
+    let said = work(d, words, signs, keys, rows, spare, counts);
+    lists::clear_four(keys, rows, spare, counts);
+    said
+}
+
+// One sign a cell, +1 or -1, coherent, +1 at the lowest cell of each piece. Refused: 1, 2, 3, 4, 6, 5, then 12 where a working list is too short (`needOf`), then 7,
+// 13 where no coherent signs exist, 12 where the sign list is too short. A refusal changes no sign; from the room's test on what is needed of the working lists is zero at the end.
+pub fn orientation(
+    d: u32,
+    words: &[u32],
+    signs: &mut [i32],
+    keys: &mut [u32],
+    rows: &mut [u32],
+    spare: &mut [u32],
+    counts: &mut [u32],
+) -> Counted
+    ensures { λ r.
+        ⌜ Orientation d (now (words .entry)) r (now (signs .entry)) (now (signs .exit)) (now (keys .entry)) (now (keys .exit)) (now (rows .entry)) (now (rows .exit))
+        (now (spare .entry)) (now (spare .exit)) (now (counts .entry)) (now (counts .exit)) ⌝ }
+{
+    let checked = complex::check_cells(d, words);
+    if let Answer::Refused(number, place) = checked {
+        return Counted::Refused(number, place);
+    }
+    let dim = d as usize;
+    let need = complex::need(dim, words.len());
+    let have = Room {
+        keys: keys.len(),
+        rows: rows.len(),
+        spare: spare.len(),
+        counts: counts.len(),
+    };
+    if !refusal::has_room(need, have) {
+        return Counted::Refused(TOO_SHORT, 0);
+    }
+    let k = need.keys;
+    let r = need.rows;
+    let s = need.spare;
+    let c = need.counts;
+    cleared(
+        dim,
+        words,
+        signs,
+        &mut keys[..k],
+        &mut rows[..r],
+        &mut spare[..s],
+        &mut counts[..c],
+    )
+}
