@@ -1,8 +1,8 @@
--- `quotient::bad_member` meets its contract. Assumes nothing.
+-- `quotient::mask::bad_member` meets its contract. Assumes nothing.
 use borrow.Author.Needs.{needs}
 use borrow.Author.Tests.{eq-eqb, ne-eqb}
-use Rattle.quotient.proofs.bad_member.Statement.{statement}
-use Rattle.quotient.proofs.bad_member.Tie as tie
+use Rattle.quotient.proofs.mask.bad_member.Statement.{statement}
+use Rattle.quotient.proofs.mask.bad_member.Tie as tie
 
 member-of-requires : tie.Need-member-of-requires
 member-of-requires c κs = search needs

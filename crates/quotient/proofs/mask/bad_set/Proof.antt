@@ -1,4 +1,4 @@
--- `quotient::bad_set` meets its contract. The loop's invariant: no axis passed is both in the set and bad. Assumes nothing.
+-- `quotient::mask::bad_set` meets its contract. The loop's invariant: no axis passed is both in the set and bad. Assumes nothing.
 use borrow.Author.Needs.{needs}
 use mathlib.Core.Path.{_≡_, refl, sym, subst, _∙_}
 use mathlib.Core.Bool.{Bool, true, false}
@@ -7,8 +7,8 @@ use native.Mathlib.Omega.{arith}
 use Rattle.quotient.specs.Fold.{some}
 use Rattle.quotient.specs.Shape.{badMember, badSet}
 use Rattle.quotient.proofs.Laws.{some-true, some-none}
-use Rattle.quotient.proofs.bad_set.Statement.{statement}
-use Rattle.quotient.proofs.bad_set.Tie as tie
+use Rattle.quotient.proofs.mask.bad_set.Statement.{statement}
+use Rattle.quotient.proofs.mask.bad_set.Tie as tie
 
 abbrev Inv-loop : tie.InvT-loop
 Inv-loop d i m j₀ j = (j ≤ 8) × (some (badMember d i m) j ≡ false)
