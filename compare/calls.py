@@ -133,7 +133,7 @@ def makers(j, d, sides, n, glues):
         counts = m.counts_from([m.unbits(c), m.unbits(w)], [3, 1], n)
         band = [counts[0], m.TWISTED + 2, counts[1], 0]
         early = m.check_grid(2, band, [c, w], longest=n)
-    made(j, "planner_moebius", "maker moebius x%016x x%016x %d" % (c, w, n), 2, n, early, band, [m.unbits(c), m.unbits(w), n], None)
+    made(j, "planner_moebius", "maker moebius x%016x x%016x %d" % (c, w, n), 2, n, early, band, [n, m.unbits(c), m.unbits(w)], None)
     early = (1, 0) if not 1 <= d <= 3 else m.bad_side(d, sides)
     quasi = [0] * 6
     if early is None:

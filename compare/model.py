@@ -3,7 +3,7 @@
 Values come from the Rust wherever it answers; this model decides where the Rust has no limits, panics, or has no such list."""
 import math
 import struct
-from itertools import permutations
+from itertools import combinations, permutations
 
 CELLS, VERTICES, MOST_D, MOST_R, NO_VERTEX = 4096, 4096, 3, 64, 4294967295
 LEAST_SIDE, MOST_SIDE = 2.0 ** -100, 2.0 ** 100
@@ -235,3 +235,121 @@ def grid_text(d, axes, sides=None):
     if sides is not None:
         t += " | " + " ".join("x%016x" % sides[i] for i in range(d))
     return t
+
+
+def words_of(d, axes):
+    """the glued words, in the order of the sorted grid cells"""
+    table = [reduce(d, axes, v) for v in range(points(d, axes))]
+    return [tuple(table[v] for v in w) for w in grid_cells(d, axes)]
+
+
+def edge_values(d, axes, sides):
+    """glued edge -> the squared lengths met for it, in visiting order"""
+    ns = [axis(axes, i)[0] for i in range(d)]
+    spacing = [side(sides, i) / float(ns[i]) for i in range(d)]
+    table = [reduce(d, axes, v) for v in range(points(d, axes))]
+
+    def place(v):
+        out = []
+        for n in ns:
+            out.append(v % (n + 1))
+            v //= n + 1
+        return out
+    met = {}
+    for w in grid_cells(d, axes):
+        for k in range(d + 1):
+            for i in range(k):
+                p, q = place(w[i]), place(w[k])
+                total = 0.0
+                for a in range(d):
+                    x = float(abs(q[a] - p[a])) * spacing[a]
+                    total = total + x * x if a else x * x
+                u, v = table[w[i]], table[w[k]]
+                met.setdefault((min(u, v), max(u, v)), []).append(total)
+    return met
+
+
+def length_of(values):
+    """("length", x), or ("clash", earlier, later) of the first two that clash"""
+    known = values[0]
+    for later in values[1:]:
+        if not abs(known - later) <= 1e-12 * later:
+            return ("clash", known, later)
+        known = later
+    return ("length", known)
+
+
+# ---- refinement
+
+def lattice_children(d, r):
+    """for each child of a cell, for each of its corners, the weights over the places of the cell's word"""
+    orders = [tuple(reversed(o)) for o in permutations(range(d))]       # the Rust's sequence
+    out = []
+
+    def weights(s):
+        return tuple((r if i == 0 else s[i - 1]) - (s[i] if i < d else 0) for i in range(d + 1))
+
+    for base in ([()] if d == 0 else product_axis_0_fastest(r + 1, d)):
+        for order in orders:
+            s, chain = list(base), [tuple(base)]
+            for a in order:
+                s[a] += 1
+                chain.append(tuple(s))
+            if all(r >= (p[0] if d else 0) and all(p[k] >= p[k + 1] for k in range(d - 1)) for p in chain):
+                out.append([weights(p) for p in chain])
+    return out
+
+
+def product_axis_0_fastest(n, d):
+    for k in range(n ** d):
+        yield tuple(k // n ** i % n for i in range(d))
+
+
+class Refined:
+    """births: the supports of the new vertices, ((vertex, weight), ..) with the vertices rising. cells, words, parents, jacobians stand in the colex order of
+    the refined cells; a whole-number Jacobian is d*d numbers by column."""
+
+    def __init__(self, d, cells, words, r):
+        coarse = max(v for w in cells for v in w) + 1
+        number, self.births, rows = {}, [], []
+        pattern = lattice_children(d, r)
+        for parent, word in enumerate(words):
+            for child in pattern:
+                corners = []
+                for ws in child:
+                    support = tuple(sorted((v, w) for v, w in zip(word, ws) if w))
+                    if len(support) == 1:
+                        v = support[0][0]
+                    elif support in number:
+                        v = number[support]
+                    else:
+                        v = number[support] = coarse + len(self.births)
+                        self.births.append(support)
+                    corners.append((v, dict(support)))
+                sorted_corners = sorted(corners, key=lambda c: c[0])
+                places = cells[parent][1:]
+                jacobian = [sorted_corners[j + 1][1].get(p, 0) - sorted_corners[0][1].get(p, 0) for j in range(d) for p in places]
+                shares = [(sorted_corners[j + 1][1].get(p, 0), sorted_corners[0][1].get(p, 0)) for j in range(d) for p in places]
+                rows.append((tuple(c[0] for c in sorted_corners), tuple(c[0] for c in corners), parent, jacobian, shares))
+        rows.sort(key=lambda row: colex(row[0]))
+        self.coarse, self.r = coarse, r
+        self.cells = [row[0] for row in rows]
+        self.words = [row[1] for row in rows]
+        self.parents = [row[2] for row in rows]
+        self.jacobians = [row[3] for row in rows]
+        self.floats = [[share(a, r) - share(b, r) for a, b in row[4]] for row in rows]
+
+
+def share(weight, r):
+    return float(weight) * (1.0 / float(r))
+
+
+def refinement_count(d, cells, r):
+    """how many new vertices a refinement has: supports with two or more vertices, over all faces"""
+    total = 0
+    for k in range(1, d + 1):
+        faces = set()
+        for w in cells:
+            faces.update(combinations(w, k + 1))
+        total += len(faces) * math.comb(r - 1, k)
+    return total

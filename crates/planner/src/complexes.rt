@@ -1,0 +1,23 @@
+// The calls on cell lists.
+use crate::said;
+ghost use Rattle.orientation.specs.Promise.{Orientation};
+ghost use Rattle.planner.specs.Said.{Said, countedCode};
+
+// One sign a cell, +1 or -1, coherent, +1 at the lowest cell of each piece: how many. Refused: 1, 2, 3, 4, 6, 5, then 12 where a working list is too short, then 7,
+// 13 where no coherent signs exist, 12 where the sign list is too short.
+#[no_mangle]
+pub extern "C" fn planner_orientation(
+    d: u32,
+    words: &[u32],
+    signs: &mut [i32],
+    keys: &mut [u32],
+    rows: &mut [u32],
+    spare: &mut [u32],
+    counts: &mut [u32],
+) -> u64
+    ensures { λ r.
+        ⌜ Said countedCode (λ a. Orientation d (now (words .entry)) a (now (signs .entry)) (now (signs .exit)) (now (keys .entry)) (now (keys .exit)) (now (rows .entry)) (now (rows .exit))
+        (now (spare .entry)) (now (spare .exit)) (now (counts .entry)) (now (counts .exit))) r ⌝ }
+{
+    said::counted(orientation::orientation(d, words, signs, keys, rows, spare, counts))
+}
