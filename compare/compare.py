@@ -17,14 +17,26 @@ def cell_lists(j, lists):
 
 def grids(j, rnd, all_grids):
     for d, axes in all_grids:
-        calls.questions(j, d, axes)
-        if calls.m.check_grid(d, axes) is None and calls.m.points(d, axes) <= 60:
-            calls.reduce_all(j, d, axes)
-        else:
-            calls.reduce(j, d, axes, rnd.randrange(9000))
+        g = calls.Grid(j, d, axes, inputs.random_sides(rnd, d))
+        calls.questions(j, g)
+        calls.cell_words(j, g)
+        calls.triangulate_ordered(j, g)
+        calls.lengths(j, g)
+        n = calls.m.points(d, axes) if g.early is None else 0
+        for v in list(range(n)) if 0 < n <= 40 else [rnd.randrange(2 * n + 5) for _ in range(3)]:
+            calls.reduce(j, g, v)
+        for v in (n, n + 1, 2 ** 32 - 1):
+            calls.reduce(j, g, v)
+
+
+def makers(j, rnd):
+    n = rnd.choice((0, 1, 2, 3, 4, 5, 8, 30, 64, 4095, 4096, 4097, 2 ** 32 - 1, rnd.randrange(100)))
+    glues = [rnd.choice((0, 256, 512 + (rnd.randrange(8) & ~(1 << i)), 512 + rnd.randrange(16))) for i in range(rnd.choice((2, 3, 3, 3)))]
+    calls.makers(j, rnd.choice((0, 1, 2, 2, 3, 3, 4)), inputs.random_sides(rnd, 3), n, glues)
 
 
 def run(port, oracle, seed, count):
+    """every small input, the inputs around each limit, and then at least COUNT random requests"""
     rnd = random.Random(seed)
     j = Judge(port, Rust(oracle), rnd)
     cell_lists(j, inputs.small_lists())
@@ -32,17 +44,12 @@ def run(port, oracle, seed, count):
     grids(j, rnd, inputs.small_grids())
     grids(j, rnd, inputs.limit_grids())
     begun = j.requests
-    while j.requests - begun < count:
-        cell_lists(j, [inputs.random_list(rnd)])
-        d, axes = inputs.random_grid(rnd)
-        calls.questions(j, d, axes)
+    while j.requests - begun < count and (j.requests or not j.missing):
         for _ in range(2):
-            calls.reduce(j, d, axes, rnd.randrange(2 * max(1, calls.m.points(min(d, 3), axes)) + 2) % 2 ** 32)
-        n = rnd.choice((0, 1, 2, 3, 4, 5, 8, 30, 64, 4095, 4096, 4097, 2 ** 32 - 1, rnd.randrange(100)))
-        glues = [rnd.choice((0, 256, 512 + (rnd.randrange(8) & ~(1 << i)), 512 + rnd.randrange(16))) for i in range(rnd.choice((2, 3, 3, 3)))]
-        calls.makers(j, rnd.choice((0, 1, 2, 2, 3, 3, 4)), inputs.random_sides(rnd, 3), n, glues)
-        if not j.requests:
-            break
+            cell_lists(j, [inputs.random_list(rnd)])
+        grids(j, rnd, [inputs.random_grid(rnd)])
+        for _ in range(3):
+            makers(j, rnd)
     return j
 
 

@@ -1,16 +1,35 @@
 """Inputs: small ones all of them, random ones of every kind, damaged copies, and ones around each limit."""
-from itertools import product
+from itertools import combinations, permutations, product
 
 import model as m
 
 
 def small_lists():
-    """every word list of a few corners over a few vertices"""
-    for d, most, top in ((0, 4, 3), (1, 3, 3), (2, 2, 4), (3, 1, 5)):
-        n = d + 1
-        for words in range(most + 1):
-            for ws in product(range(top), repeat=words * n):
-                yield d, list(ws)
+    """every short word list over a few vertices: all words one at a time, words without repeats in twos and threes, every set of sorted cells"""
+    for d, top in ((0, 4), (1, 4), (2, 4), (3, 4)):
+        yield d, []
+        for w in product(range(top), repeat=d + 1):
+            yield d, list(w)
+            yield d, list(w) + [v for v in range(d + 1)]
+    for d, top, most in ((0, 3, 4), (1, 3, 3), (1, 4, 2), (2, 3, 3), (2, 4, 2), (3, 4, 2)):
+        words = list(permutations(range(top), d + 1))
+        for k in range(2, most + 1):
+            for ws in product(words, repeat=k):
+                yield d, [v for w in ws for v in w]
+    for d, top in ((1, 5), (2, 5), (3, 5)):
+        cells = list(combinations(range(top), d + 1))
+        for chosen in range(1, 1 << len(cells)):
+            yield d, [v for i, w in enumerate(cells) if chosen >> i & 1 for v in w]
+
+
+def one_sided():
+    """complexes without coherent signs: bands, a bottle, the projective plane, a solid bottle, and each beside a two-sided piece"""
+    band = [0, 1, 2, 1, 2, 3, 0, 1, 4, 0, 3, 4, 2, 3, 4]
+    plane = [v for w in ("012", "023", "034", "045", "015", "124", "235", "134", "245", "135") for v in map(int, w)]
+    found = [(2, band), (2, plane), (2, band + [5, 6, 7]), (2, [0, 1, 2] + [v + 3 for v in band])]
+    for d, axes in ((2, [3, 512 + 2, 3, 256]), (2, [4, 512 + 2, 2, 0]), (3, [3, 512 + 2, 3, 256, 1, 0]), (3, [4, 512 + 4, 3, 256, 3, 256]), (1, [3, 256])):
+        found.append((d, [m.reduce(d, axes, v) for w in m.grid_cells(d, axes) for v in w]))
+    return found
 
 
 def limit_lists():
@@ -45,6 +64,7 @@ def limit_lists():
     yield 1, [0, 1, 1, 0, 0, 1]                                                    # one cell named three times
     yield 2, [0, 0, 1]
     yield 2, [0, 1, 3]
+    yield from one_sided()
 
 
 def random_axes(rnd, d, most):
@@ -143,7 +163,7 @@ def damaged(rnd, d, ws):
 
 
 def random_list(rnd, most=24):
-    d, ws = rnd.choice((sheet, grown, grown, loose))(rnd, most)
+    d, ws = rnd.choice(one_sided()) if rnd.random() < 0.1 else rnd.choice((sheet, grown, grown, loose))(rnd, most)
     d, ws = mixed(rnd, d, ws)
     if rnd.random() < 0.35:
         d, ws = damaged(rnd, d, ws)
