@@ -233,9 +233,6 @@ def makers(j, d, sides, n, glues):
         if early is None:
             quasi = [v for i in range(d) for v in (counts[i], canonical(gs[i]))]
     ids = " ".join(m.grid_text(d, quasi).split()[2::2]) if early is None else ""
-    if not j.port.has("planner_quasi_uniform"):
-        j.missing.add("planner_quasi_uniform")
-        return
     if early is None:
         f = j.rust.fields("maker quasi %d %d %s %s" % (n, d, ids, x))
         j.agree("quasi", ",".join(str(a) for a in quasi[::2]), f["counts"] if f else None)
