@@ -63,10 +63,10 @@ module _ (n count : ℕ) (ws rest : List ℕ) (whole : count * n ≡ length ws) 
   row-in : (r : ℕ) → r < count → r * n + n ≤ length ws
   row-in r h = omega (arith, suc-mul r n, mul-le-mul-right n h)
 
-  key-length : length (sortWords n count (ws ++ rest)) ≡ length ws + length rest
+  pub key-length : length (sortWords n count (ws ++ rest)) ≡ length ws + length rest
   key-length = words-length n count (ws ++ rest) ∙ length-append ws rest
 
-  key-row : (r : ℕ) → r < count → row (sortWords n count (ws ++ rest)) n r ≡ sortWord (row ws n r)
+  pub key-row : (r : ℕ) → r < count → row (sortWords n count (ws ++ rest)) n r ≡ sortWord (row ws n r)
   key-row r h = sorted-row n count (ws ++ rest) r h (omega (arith, length-append ws rest)) ∙ ap sortWord (front-part ws rest (r * n) n (row-in r h))
 
   word-length : (r : ℕ) → r < count → length (row ws n r) ≡ n

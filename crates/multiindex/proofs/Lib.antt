@@ -1,3 +1,6 @@
 pub mod SortLaws
 pub mod WordsLaws
 pub mod Sign
+pub mod Tables
+pub mod Digits
+pub mod Runs

@@ -1,3 +1,5 @@
 pub mod Sort
 pub mod Swaps
 pub mod Sign
+pub mod Permutation
+pub mod Cartesian

@@ -115,17 +115,17 @@ by-opposed : (d s s′ : ℕ) (a b : Sign) → s ≤ d → s′ ≤ d → times 
 by-opposed d s s′ a b h h′ e = forced a b (induced (d - s)) (induced (d - s′)) e ∙ across-sign d s s′ a h h′
 
 -- ---- rows
-row-in : (c s m k : ℕ) → c < m → s < k → c * k + s < m * k
+pub row-in : (c s m k : ℕ) → c < m → s < k → c * k + s < m * k
 row-in c s m k hc hs = omega (arith, suc-mul c k, mul-le-mul-right k hc)
 
-row-div : (c s k : ℕ) → s < k → (c * k + s) / k ≡ c
+pub row-div : (c s k : ℕ) → s < k → (c * k + s) / k ≡ c
 row-div c s k h = mul-add-div-right (omega arith) c s ∙ ap (λ (x : ℕ). c + x) (div-eq-of-lt h) ∙ add-zero c
 
-row-mod : (c s k : ℕ) → s < k → (c * k + s) % k ≡ s
+pub row-mod : (c s k : ℕ) → s < k → (c * k + s) % k ≡ s
 row-mod c s k h = mul-add-mod-self-right c k s ∙ mod-eq-of-lt h
 
 -- mates, said of equal numbers
-moved : (d : ℕ) (cs : List (List ℕ)) {c i c′ i′ : ℕ} (c₁ i₁ c₂ i₂ : ℕ) → c ≡ c₁ → i ≡ i₁ → c′ ≡ c₂ → i′ ≡ i₂ → Mates d cs c i c′ i′ → Mates d cs c₁ i₁ c₂ i₂
+pub moved : (d : ℕ) (cs : List (List ℕ)) {c i c′ i′ : ℕ} (c₁ i₁ c₂ i₂ : ℕ) → c ≡ c₁ → i ≡ i₁ → c′ ≡ c₂ → i′ ≡ i₂ → Mates d cs c i c′ i′ → Mates d cs c₁ i₁ c₂ i₂
 moved d cs {c} {i} {c′} {i′} c₁ i₁ c₂ i₂ e f g h u =
     subst (λ (z : ℕ). Mates d cs z i₁ c₂ i₂) e
     (subst (λ (z : ℕ). Mates d cs c z c₂ i₂) f
@@ -135,7 +135,7 @@ moved d cs {c} {i} {c′} {i′} c₁ i₁ c₂ i₂ e f g h u =
 turned-round : {d : ℕ} {cs : List (List ℕ)} {c i c′ i′ : ℕ} → Mates d cs c i c′ i′ → Mates d cs c′ i′ c i
 turned-round u = record { this = u .that; that = u .this; apart = λ e. u .apart (sym e); one = sym (u .one) }
 
-slots-pos : (d : ℕ) → 0 < d → slots d ≡ suc d
+pub slots-pos : (d : ℕ) → 0 < d → slots d ≡ suc d
 slots-pos zero h = absurd (omega arith)
 slots-pos (suc d) h = refl
 
@@ -143,14 +143,14 @@ module _ (d m : ℕ) (cs : List (List ℕ)) (many : length cs ≡ m) (mates : Li
   in-cs : (x : ℕ) → x < m * slots d → x < length cs * slots d
   in-cs x h = rw many h
 
-  rows-few : m * slots d < none
+  pub rows-few : m * slots d < none
   rows-few = omega (arith, mul-le-mul-left m (slots-most d))
 
-  mate-below : (x : ℕ) → x < m * slots d → (getD mates x 0 ≡ none → ⊥) → getD mates x 0 < m * slots d
+  pub mate-below : (x : ℕ) → x < m * slots d → (getD mates x 0 ≡ none → ⊥) → getD mates x 0 < m * slots d
   mate-below x h s = subst (λ (z : ℕ). getD mates x 0 < z * slots d) many (t .below x (in-cs x h) s)
 
   -- the row of a facet
-  facet-row : {c i : ℕ} → FacetOf d cs c i → (c * slots d + (d - i) < m * slots d) × ((c * slots d + (d - i)) / slots d ≡ c) × ((c * slots d + (d - i)) % slots d ≡ d - i) × (d - (c * slots d + (d - i)) % slots d ≡ i)
+  pub facet-row : {c i : ℕ} → FacetOf d cs c i → (c * slots d + (d - i) < m * slots d) × ((c * slots d + (d - i)) / slots d ≡ c) × ((c * slots d + (d - i)) % slots d ≡ d - i) × (d - (c * slots d + (d - i)) % slots d ≡ i)
   facet-row {c} {i} u =
       let z : slots d ≡ suc d = slots-pos d (u .some) in
       let l : d - i < slots d = omega arith in
@@ -159,7 +159,7 @@ module _ (d m : ℕ) (cs : List (List ℕ)) (many : length cs ≡ m) (mates : Li
       (row-in c (d - i) m (slots d) (omega (arith, u .cell)) l, row-div c (d - i) (slots d) l, g, omega arith)
 
   -- mates are in the table
-  mates-row : {c i c′ i′ : ℕ} → Mates d cs c i c′ i′ → getD mates (c * slots d + (d - i)) 0 ≡ c′ * slots d + (d - i′)
+  pub mates-row : {c i c′ i′ : ℕ} → Mates d cs c i c′ i′ → getD mates (c * slots d + (d - i)) 0 ≡ c′ * slots d + (d - i′)
   mates-row {c} {i} {c′} {i′} u =
       let x = facet-row (u .this) in
       let y = facet-row (u .that) in

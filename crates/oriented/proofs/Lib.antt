@@ -1,0 +1,5 @@
+pub mod Marks
+pub mod Slots
+pub mod Steps
+pub mod Entry
+pub mod Determined

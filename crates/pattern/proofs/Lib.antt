@@ -1,0 +1,6 @@
+pub mod Written
+pub mod Points
+pub mod Chains
+pub mod Walked
+pub mod Placed
+pub mod Filled
