@@ -4,6 +4,8 @@ use Prim.Native.Nat.{ℕ, _+_, _*_}
 use Rattle.refusal.specs.declared.Counted.{Counted}
 use Rattle.refusal.specs.declared.Counted.the-variants as Counted
 use mathlib.Core.List.{List}
+use Rattle.refusal.specs.declared.Verdict.{Verdict}
+use Rattle.refusal.specs.declared.Verdict.the-variants as Verdict
 use Rattle.quotient.specs.declared.Made.{Made}
 use Rattle.quotient.specs.declared.Made.the-variants as Made
 use Rattle.quotient.specs.declared.Parity.{Parity}
@@ -21,6 +23,12 @@ refusedCode number place = number * 4294967296 + place
 abbrev pub countedCode : Counted → ℕ
 countedCode (Counted.Count n) = n
 countedCode (Counted.Refused number place) = refusedCode number place
+
+-- 1 for yes, 0 for no
+abbrev pub verdictCode : Verdict → ℕ
+verdictCode Verdict.Yes = 1
+verdictCode Verdict.No = 0
+verdictCode (Verdict.Refused number place) = refusedCode number place
 
 -- 1 where orientation is preserved, 0 where it is not
 abbrev pub parityCode : Parity → ℕ

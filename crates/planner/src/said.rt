@@ -4,9 +4,10 @@ use quotient::Made;
 use quotient::Parity;
 use quotient::Reduced;
 use refusal::Counted;
+use refusal::Verdict;
 ghost use mathlib.Core.Path.{_≡_};
 ghost use Prim.Native.Nat.{_+_, _*_};
-ghost use Rattle.planner.specs.Said.{refusedCode, countedCode, parityCode, reducedCode, madeCode, madeAxes};
+ghost use Rattle.planner.specs.Said.{refusedCode, countedCode, verdictCode, parityCode, reducedCode, madeCode, madeAxes};
 
 // A refusal.
 pub(crate) fn refused(number: u32, place: u32) -> u64
@@ -22,6 +23,17 @@ pub(crate) fn counted(said: Counted) -> u64
     match said {
         Counted::Count(n) => n as u64,
         Counted::Refused(number, place) => refused(number, place),
+    }
+}
+
+// A verdict: 1 for yes.
+pub(crate) fn verdict(said: Verdict) -> u64
+    ensures { λ r. ⌜ r ≡ verdictCode said ⌝ }
+{
+    match said {
+        Verdict::Yes => 1,
+        Verdict::No => 0,
+        Verdict::Refused(number, place) => refused(number, place),
     }
 }
 
