@@ -1,4 +1,4 @@
-"""compare.py LIBRARY ORACLE SEED COUNT: the same requests to the planner's library and to the Rust."""
+"""compare.py LIBRARY ORACLE SEED COUNT [FILE]: the same requests to the planner's library and to the Rust. FILE gets the calls for lent.c."""
 import random
 import sys
 
@@ -55,7 +55,7 @@ def run(port, oracle, seed, count):
 
 def main():
     library, oracle, seed, count = sys.argv[1], sys.argv[2], int(sys.argv[3]), int(sys.argv[4])
-    j = run(Port(library), oracle, seed, count)
+    j = run(Port(library, sys.argv[5] if len(sys.argv) > 5 else None), oracle, seed, count)
     for name in sorted(j.by_call):
         print("%-36s %8d" % (name, j.by_call[name]))
     print("answers: " + ", ".join("%s %d" % ("fine" if k == 0 else k, n) for k, n in sorted(j.by_answer.items())))

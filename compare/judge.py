@@ -81,13 +81,9 @@ class Judge:
         lens = self.lengths([len(v) for _, v in want.results], kinds, refused)
         outs = [(k, filled(k, n)) for k, n in zip(kinds, lens)]
         room = []
-        if want.need is not None or want.early:
-            have = self.lengths(want.need, [0] * 4, False) if want.need is not None else [rnd.randrange(9) for _ in range(4)]
+        if want.need is not None or (want.early and self.LISTS.get(name, 4)):
+            have = self.lengths(want.need, want.need, False) if want.need is not None else [rnd.randrange(9) for _ in range(self.LISTS.get(name, 4))]
             room = [("u32", filled("u32", n)) for n in have]
-        if want.need is None and not want.early:
-            room = []
-        if not self.has_room(name):
-            room = []
         arrays = [] if fixed is None else [(fixed[0], filled(fixed[0], fixed[2]))]
         answer, after = self.port.call(name, numbers, list(inputs) + outs + room, arrays)
         # what must come
@@ -121,8 +117,6 @@ class Judge:
             self.differs(name, "numbers", numbers, "lists", [(k, v[:40], len(v)) for k, v in inputs], "lent", [len(v) for _, v in outs + room],
                          "said", (answer >> 32, answer & 0xFFFFFFFF), "must be", code, "lists", shown)
 
-    WITHOUT_ROOM = {"planner_torus", "planner_klein", "planner_moebius", "planner_quasi_uniform", "planner_reduce", "planner_nvertices", "planner_is_orientation_preserving",
-                    "planner_edge_length_sq"}
-
-    def has_room(self, name):
-        return name not in self.WITHOUT_ROOM
+    # how many working lists a call has, where it is not four
+    LISTS = {name: 0 for name in ("planner_torus", "planner_klein", "planner_moebius", "planner_quasi_uniform", "planner_reduce", "planner_nvertices",
+                                  "planner_is_orientation_preserving", "planner_edge_length_sq")}

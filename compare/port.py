@@ -1,6 +1,7 @@
 """The planner's C functions, called from Python on lists that are fenced: an access past either end is a segmentation fault."""
 import ctypes as C
 import mmap
+import struct
 from array import array
 
 PAGE = 4096
@@ -29,9 +30,22 @@ class Fence:
 
 
 class Port:
-    def __init__(self, path):
+    def __init__(self, path, record=None):
         self.lib = C.CDLL(path)
         self.free = {}
+        self.record = open(record, "wb") if record else None
+
+    def write_down(self, name, numbers, lists, fixed, answer, after):
+        """One call for `lent.c`: its name, its whole numbers and floats, and each list before and after."""
+        whole = [x for x in numbers if not isinstance(x, float)]
+        floats = [x for x in numbers if isinstance(x, float)]
+        parts = list(lists) + list(fixed)
+        f = self.record
+        f.write(struct.pack("<64sQIIII", name.encode(), answer, len(whole), len(floats), len(lists), len(fixed)))
+        f.write(struct.pack("<%dQ" % len(whole), *whole) + struct.pack("<%dd" % len(floats), *floats))
+        for (kind, before), now in zip(parts, after):
+            code, width = CODES[kind]
+            f.write(struct.pack("<II", width, len(before)) + array(code, before).tobytes() + array(code, now).tobytes())
 
     def has(self, name):
         return hasattr(self.lib, name)
@@ -72,4 +86,6 @@ class Port:
             if view is not None:
                 view.release()
             self.free[k].append(fence)
+        if self.record:
+            self.write_down(name, numbers, lists, fixed, answer, after)
         return answer, after
