@@ -21,18 +21,24 @@ use Rattle.complex.specs.Check.{Passed}
 use Rattle.complex.specs.Room.{keyRoom, needOf}
 use Rattle.complex.specs.Cells.{cellsOf}
 use Rattle.complex.specs.Facets.{Crowded, Cells, slots}
-use Rattle.complex.specs.Skeleton.{flat, edgesOf}
+use Rattle.complex.specs.Skeleton.{flat, edgesOf, facetsOf, borderOf}
 use Rattle.cells.specs.Made.{Making, Made}
 use Rattle.cells.specs.Named.{Naming, Named}
 use Rattle.facets.specs.Table.{none, MateTable, Meeting}
 use Rattle.signs.proofs.Linking.{not-crowded}
+use Rattle.facets.proofs.Meeting.{slots-most}
+use Rattle.cells.proofs.Named.{named-flat, named-many}
 use Rattle.edges.specs.Pairs.{Edging}
-use Rattle.skeleton.specs.Promise.{Gives, short, listed, Ends, crowded, rest}
+use Rattle.table.specs.Classes.{Classes, loneRows}
+use Rattle.table.specs.Sides.{tableOf, fours, Tabling}
+use Rattle.table.proofs.Border.{border-named}
+use Rattle.table.proofs.Tabling.{fours-length, table-is}
+use Rattle.skeleton.specs.Promise.{Gives, short, listed, GivesBoth, words-short, table-short, both-listed, Ends, crowded, rest}
 use Rattle.skeleton.specs.declared.Part.{Part}
 use Rattle.skeleton.specs.declared.Part.the-variants.{Edges}
 use Rattle.skeleton.specs.declared.Part.the-variants as Part
 use Rattle.skeleton.specs.Parts.{edgeNeed, needFor}
-use Rattle.skeleton.specs.Work.{Working, Sound, Handed, Worked}
+use Rattle.skeleton.specs.Work.{Working, Uncrowded, Sound, Handed, Worked, HandedBoth, WorkedBoth}
 
 -- ---- room
 pub room-least : (d n : ℕ) → n ≤ keyRoom d n
@@ -183,6 +189,71 @@ module _ (d : ℕ) (ws keys rows spare counts : List ℕ) (w : Working (edgeNeed
   pub edges-of : (m e : ℕ) (rows′ keys″ list : List ℕ) → Made d ws m rows′ → Named (edgesOf (cut (suc d) m rows′)) 2 e keys″ list → Named (edgesOf (cellsOf d ws)) 2 e keys″ list
   edges-of m e rows′ keys″ list a n = subst (λ (cs : List (List ℕ)). Named (edgesOf cs) 2 e keys″ list) (a .same) n
 
+-- ---- the facets
+room-narrow : (d m n : ℕ) → d ≤ 3 → n < 65536 → m * suc d ≤ n → m * slots d * d < 4294967296
+room-narrow d m n h c k = omega (arith, room-rows d m n k, room-most d n h)
+
+module _ (d : ℕ) (ws keys rows spare counts : List ℕ) (u : Uncrowded d ws keys rows spare counts) (m : ℕ) (keys′ rows′ spare′ counts′ : List ℕ) (lk : length keys′ ≡ length keys) (lr : length rows′ ≡ length rows) (ls : length spare′ ≡ length spare) (lc : length counts′ ≡ length counts) (a : Made d ws m rows′) where
+  pub classing : Meeting d m (length ws) keys′ rows′ spare′ counts′ × (m * slots d * d < 4294967296)
+  classing = (meeting d ws keys rows spare counts (u .work) m keys′ rows′ spare′ counts′ lk lr ls lc a, room-narrow d m (length ws) (u .work .passed .small) (a .corners) (a .most))
+
+  module _ (f : ℕ) (keys″ rows″ spare″ counts″ : List ℕ) (lc″ : length counts″ ≡ length counts′) (c : Classes d (cut (suc d) m rows′) f keys″ spare″ rows″) where
+    pub classes-of : Classes d (cellsOf d ws) f keys″ spare″ rows″
+    classes-of = subst (λ (cs : List (List ℕ)). Classes d cs f keys″ spare″ rows″) (a .same) c
+
+    most-facets : f ≤ length ws
+    most-facets =
+        let e : length (cut (suc d) m rows′) * slots d ≡ m * slots d = ap (λ (n : ℕ). n * slots d) (cut-length (suc d) m rows′) in
+        omega (arith, c .most, mul-le-mul-left m (slots-most d), a .most)
+
+    pub loning : (f ≤ length spare″) × (f ≤ length rows″) × (f ≤ length counts″)
+    loning = (c .named .rows .long, c .long, omega (arith, most-facets, u .work .room .in-counts))
+
+    pub border-of : (j : ℕ) (to : List ℕ) → j ≡ length (loneRows f spare″ rows″) → to ≡ loneRows f spare″ rows″ ++ drop j counts″ → Named (borderOf d (cellsOf d ws)) d j keys″ to
+    border-of j to n e = border-named d (cellsOf d ws) f keys″ spare″ rows″ classes-of (u .free) j to (drop j counts″) n e
+
+    -- a facet there is has a dimension
+    pub tabling : (k : ℕ) (table : List ℕ) → k ≡ slots d → f * 4 ≤ length table → Tabling d k f spare″ rows″ table
+    tabling k table e h =
+        record {
+          some = λ l. rw e (positive (slots d) l (c .most));
+          few = rw e (slots-most d);
+          dim = omega (arith, u .work .passed .small);
+          in-reps = c .named .rows .long;
+          in-others = c .long;
+          room = h;
+        }
+      where
+        positive : (z : ℕ) → 0 < f → f ≤ length (cut (suc d) m rows′) * z → 0 < z
+        positive zero l g = absurd (omega (arith, mul-zero (length (cut (suc d) m rows′))))
+        positive (suc z) l g = omega arith
+
+    facets-flat : flat (facetsOf d (cellsOf d ws)) ≡ rowsOf keys″ d (take f spare″)
+    facets-flat = named-flat (facetsOf d (cellsOf d ws)) d f keys″ spare″ (classes-of .named)
+
+    facets-long : length (flat (facetsOf d (cellsOf d ws))) ≡ f * d
+    facets-long = ap length facets-flat ∙ rowsOf-pos keys″ d spare″ f f (classes-of .named .rows .inside) (omega arith) (classes-of .named .rows .long)
+
+    table-long : length (tableOf d (cellsOf d ws)) ≡ f * 4
+    table-long = ap length (table-is d (cellsOf d ws) f keys″ spare″ rows″ classes-of (u .free)) ∙ fours-length d (slots d) spare″ rows″ f
+
+    pub both-words-short : (out table : List ℕ) → length out < f * d → HandedBoth d (cellsOf d ws) (Refused tooShort 0) out out table table
+    both-words-short out table h = record { handed = ([], []); gives = words-short (omega (arith, facets-long)); result = refl; sides = refl }
+
+    pub both-table-short : (out table : List ℕ) → length table < f * 4 → HandedBoth d (cellsOf d ws) (Refused tooShort 0) out out table table
+    both-table-short out table h = record { handed = ([], []); gives = table-short (omega (arith, table-long)); result = refl; sides = refl }
+
+    pub both-handed : (out out′ table table′ : List ℕ) (k : ℕ) → k ≡ slots d → f * d ≤ length out → f * 4 ≤ length table → out′ ≡ rowsOf keys″ d (take f spare″) ++ drop (f * d) out → table′ ≡ fours d k f spare″ rows″ ++ drop (f * 4) table → HandedBoth d (cellsOf d ws) (Count f) out out′ table table′
+    both-handed out out′ table table′ k e h g p q =
+        record {
+          handed = (flat (facetsOf d (cellsOf d ws)), tableOf d (cellsOf d ws));
+          gives =
+              subst (λ (n : ℕ). GivesBoth (facetsOf d (cellsOf d ws)) (tableOf d (cellsOf d ws)) (length out) (length table) (Count n) (flat (facetsOf d (cellsOf d ws)), tableOf d (cellsOf d ws))) (named-many (facetsOf d (cellsOf d ws)) d f keys″ spare″ (classes-of .named))
+              (both-listed (omega (arith, facets-long)) (omega (arith, table-long)));
+          result = rw (facets-long, facets-flat) p;
+          sides = rw (table-long, table-is d (cellsOf d ws) f keys″ spare″ rows″ classes-of (u .free)) (q ∙ ap (λ (z : ℕ). fours d z f spare″ rows″ ++ drop (f * 4) table) e);
+        }
+
 -- ---- after 7
 module _ (d : ℕ) (ws : List ℕ) (ok : Bool) (s : Sound d ws ok) (words : List (List ℕ)) where
   pub worked-crowded : (out : List ℕ) → ok ≡ false → Worked d ws words (Refused crowdedFacet 0) out out
@@ -195,3 +266,11 @@ module _ (d : ℕ) (ws : List ℕ) (ok : Bool) (s : Sound d ws ok) (words : List
 pub as-part : (part : Part) (d : ℕ) (ws keys rows spare counts : List ℕ) → Working (needFor part d (length ws)) d ws keys rows spare counts → Working (needOf d (length ws)) d ws keys rows spare counts
 as-part Part.Cells d ws keys rows spare counts w = w
 as-part Part.Edges d ws keys rows spare counts w = as-cells d ws keys rows spare counts w
+as-part Part.Border d ws keys rows spare counts w = w
+
+module _ (d : ℕ) (ws : List ℕ) (ok : Bool) (s : Sound d ws ok) where
+  pub both-crowded : (out table : List ℕ) → ok ≡ false → WorkedBoth d ws (Refused crowdedFacet 0) out out table table
+  both-crowded out table e = record { handed = ([], []); ends = crowded (s .no e); result = refl; sides = refl }
+
+  pub both-rest : (r : Counted) (out out′ table table′ : List ℕ) → ok ≡ true → HandedBoth d (cellsOf d ws) r out out′ table table′ → WorkedBoth d ws r out out′ table table′
+  both-rest r out out′ table table′ e h = record { handed = h .handed; ends = rest (s .yes e) (h .gives); result = h .result; sides = h .sides }

@@ -12,12 +12,20 @@ use Rattle.refusal.specs.Call.{Comes}
 use Rattle.complex.specs.Check.{answerOf}
 use Rattle.complex.specs.Cells.{cellsOf}
 use Rattle.complex.specs.Facets.{Crowded}
-use Rattle.complex.specs.Skeleton.{flat}
+use Rattle.complex.specs.Room.{needOf}
+use Rattle.complex.specs.Skeleton.{flat, facetsOf}
+use Rattle.table.specs.Sides.{tableOf}
 
 -- the words are handed out one after the other, or 12. `given` is the length of the result list.
 pub data Gives (words : List (List ℕ)) (given : ℕ) : Counted → List ℕ → Type 0 where
   short : given < length (flat words) → Gives words given (Refused tooShort 0) []
   listed : length (flat words) ≤ given → Gives words given (Count (length words)) (flat words)
+
+-- the words and their table are handed out, or 12 where either list is too short
+pub data GivesBoth (words : List (List ℕ)) (table : List ℕ) (given given′ : ℕ) : Counted → List ℕ × List ℕ → Type 0 where
+  words-short : given < length (flat words) → GivesBoth words table given given′ (Refused tooShort 0) ([], [])
+  table-short : given′ < length table → GivesBoth words table given given′ (Refused tooShort 0) ([], [])
+  both-listed : length (flat words) ≤ given → length table ≤ given′ → GivesBoth words table given given′ (Count (length words)) (flat words, table)
 
 -- how a call on a list of cells ends, once its words are checked and there is room: 7, or `Rest`
 pub data Ends {H : Type 0} (nothing : H) (d : ℕ) (cs : List (List ℕ)) (Rest : Counted → H → Type 0) : Counted → H → Type 0 where
@@ -36,3 +44,10 @@ pub record Listed (need : Room) (words : List (List ℕ)) (d : ℕ) (ws : List �
   pub handed : List ℕ
   pub call : Call [] need (Gives words (length out)) d ws r handed keys keys′ rows rows′ spare spare′ counts counts′
   pub result : out′ ≡ onto handed out
+
+-- the promise of the call that hands out the facets and the table of their cells
+pub record FacetsListed (d : ℕ) (ws : List ℕ) (r : Counted) (out out′ table table′ keys keys′ rows rows′ spare spare′ counts counts′ : List ℕ) : Type 0 where
+  pub handed : List ℕ × List ℕ
+  pub call : Call ([], []) (needOf d (length ws)) (GivesBoth (facetsOf d (cellsOf d ws)) (tableOf d (cellsOf d ws)) (length out) (length table)) d ws r handed keys keys′ rows rows′ spare spare′ counts counts′
+  pub result : out′ ≡ onto (handed .0) out
+  pub sides : table′ ≡ onto (handed .1) table

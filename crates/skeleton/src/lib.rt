@@ -19,16 +19,17 @@ ghost use Rattle.lists.specs.Zero.{AllZero};
 ghost use Rattle.sorting.specs.Gather.{rowsOf};
 ghost use Rattle.complex.specs.Room.{needOf};
 ghost use Rattle.complex.specs.Cells.{cellsOf};
-ghost use Rattle.complex.specs.Skeleton.{flat, edgesOf};
+ghost use Rattle.complex.specs.Skeleton.{flat, edgesOf, facetsOf, borderOf};
 ghost use Rattle.cells.specs.Named.{Naming};
-ghost use Rattle.skeleton.specs.Promise.{Listed};
+ghost use Rattle.skeleton.specs.Promise.{Listed, FacetsListed};
 ghost use Rattle.skeleton.specs.Parts.{edgeNeed, needFor, wordsFor};
-ghost use Rattle.skeleton.specs.Work.{Working, Sound, Handed, Worked};
+ghost use Rattle.skeleton.specs.Work.{Working, Uncrowded, Sound, Handed, Worked, HandedBoth, WorkedBoth};
 
 // Which list of words is asked for.
 pub(crate) enum Part {
     Cells,
     Edges,
+    Border,
 }
 
 // Whether no facet lies in three or more cells.
@@ -109,6 +110,52 @@ fn list_edges(
     hand_rows(2, e, keys, spare, out)
 }
 
+// Hands out the facets in one cell, where none lies in three.
+fn list_border(
+    d: usize,
+    words: &[u32],
+    out: &mut [u32],
+    keys: &mut [u32],
+    rows: &mut [u32],
+    spare: &mut [u32],
+    counts: &mut [u32],
+) -> Counted
+    requires { ⌜ Uncrowded d (now words) (now keys) (now rows) (now spare) (now counts) ⌝ }
+    ensures { λ r. ⌜ Handed (borderOf d (cellsOf d (now (words .entry)))) r (now (out .entry)) (now (out .exit)) ⌝ }
+{
+    let m = cells::cells(d, words, keys, rows, spare, counts);
+    let f = table::classes(d, m, words.len(), keys, rows, spare, counts);
+    let j = table::lone(f, spare, rows, counts);
+    hand_rows(d, j, keys, counts, out)
+}
+
+// Hands out the facets and the table of their cells, where no facet lies in three.
+fn list_facets(
+    d: usize,
+    words: &[u32],
+    out: &mut [u32],
+    table: &mut [u32],
+    keys: &mut [u32],
+    rows: &mut [u32],
+    spare: &mut [u32],
+    counts: &mut [u32],
+) -> Counted
+    requires { ⌜ Uncrowded d (now words) (now keys) (now rows) (now spare) (now counts) ⌝ }
+    ensures { λ r. ⌜ HandedBoth d (cellsOf d (now (words .entry))) r (now (out .entry)) (now (out .exit)) (now (table .entry)) (now (table .exit)) ⌝ }
+{
+    let m = cells::cells(d, words, keys, rows, spare, counts);
+    let f = table::classes(d, m, words.len(), keys, rows, spare, counts);
+    if out.len() < f * d {
+        return Counted::Refused(TOO_SHORT, 0);
+    }
+    if table.len() < f * 4 {
+        return Counted::Refused(TOO_SHORT, 0);
+    }
+    sorting::gather(keys, d, spare, f, out);
+    table::write_table(d, facets::slots(d), f, spare, rows, table);
+    Counted::Count(f as u32)
+}
+
 // What the call for a part needs of its working lists.
 fn need(part: Part, d: usize, len: usize) -> Room
     requires { ⌜ (d ≤ mostDimension) × (len < 65536) ⌝ }
@@ -126,6 +173,7 @@ fn need(part: Part, d: usize, len: usize) -> Room
                 counts: k,
             }
         }
+        Part::Border => plain,
     }
 }
 
@@ -149,6 +197,7 @@ fn work(
     match part {
         Part::Cells => list_cells(d, words, out, keys, rows, spare, counts),
         Part::Edges => list_edges(d, words, out, keys, rows, spare, counts),
+        Part::Border => list_border(d, words, out, keys, rows, spare, counts),
     }
 }
 
@@ -256,4 +305,111 @@ pub fn edges(
         (now (counts .entry)) (now (counts .exit)) ⌝ }
 {
     checked(Part::Edges, d, words, edges, keys, rows, spare, counts)
+}
+
+// The facets in one cell, d vertices each; says how many. Refused as `cells` is.
+pub fn border(
+    d: u32,
+    words: &[u32],
+    border: &mut [u32],
+    keys: &mut [u32],
+    rows: &mut [u32],
+    spare: &mut [u32],
+    counts: &mut [u32],
+) -> Counted
+    ensures { λ r.
+        ⌜ Listed (needOf d (length (now (words .entry)))) (borderOf d (cellsOf d (now (words .entry)))) d (now (words .entry)) r (now (border .entry))
+        (now (border .exit)) (now (keys .entry)) (now (keys .exit)) (now (rows .entry)) (now (rows .exit)) (now (spare .entry)) (now (spare .exit))
+        (now (counts .entry)) (now (counts .exit)) ⌝ }
+{
+    checked(Part::Border, d, words, border, keys, rows, spare, counts)
+}
+
+// The facets and their table, or 7, in working lists of just the sizes that are needed. Nothing is promised of them.
+fn facet_work(
+    d: usize,
+    words: &[u32],
+    out: &mut [u32],
+    table: &mut [u32],
+    keys: &mut [u32],
+    rows: &mut [u32],
+    spare: &mut [u32],
+    counts: &mut [u32],
+) -> Counted
+    requires { ⌜ Working (needOf d (length (now words))) d (now words) (now keys) (now rows) (now spare) (now counts) ⌝ }
+    ensures { λ r. ⌜ WorkedBoth d (now (words .entry)) r (now (out .entry)) (now (out .exit)) (now (table .entry)) (now (table .exit)) ⌝ }
+{
+    if !sound(d, words, keys, rows, spare, counts) {
+        return Counted::Refused(CROWDED_FACET, 0);
+    }
+    list_facets(d, words, out, table, keys, rows, spare, counts)
+}
+
+// The work, and then the working lists are all zero.
+fn facet_cleared(
+    d: usize,
+    words: &[u32],
+    out: &mut [u32],
+    table: &mut [u32],
+    keys: &mut [u32],
+    rows: &mut [u32],
+    spare: &mut [u32],
+    counts: &mut [u32],
+) -> Counted
+    requires { ⌜ Working (needOf d (length (now words))) d (now words) (now keys) (now rows) (now spare) (now counts) ⌝ }
+    ensures work { λ r. ⌜ WorkedBoth d (now (words .entry)) r (now (out .entry)) (now (out .exit)) (now (table .entry)) (now (table .exit)) ⌝ }
+    ensures room { λ _.
+        ⌜ AllZero (now (keys .entry)) (now (keys .exit)) (now (rows .entry)) (now (rows .exit)) (now (spare .entry)) (now (spare .exit)) (now (counts .entry))
+        (now (counts .exit)) ⌝ }
+{
+    let said = facet_work(d, words, out, table, keys, rows, spare, counts);
+    lists::clear_four(keys, rows, spare, counts);
+    said
+}
+
+// The facets, d vertices each, and for each four numbers in `table`: its lower cell, the position dropped there, its other cell and the position dropped there, or
+// 4,294,967,295 twice where it lies in one cell. Says how many facets. Refused as `cells` is, 12 also where the table is too short.
+pub fn facets(
+    d: u32,
+    words: &[u32],
+    facets: &mut [u32],
+    table: &mut [u32],
+    keys: &mut [u32],
+    rows: &mut [u32],
+    spare: &mut [u32],
+    counts: &mut [u32],
+) -> Counted
+    ensures { λ r.
+        ⌜ FacetsListed d (now (words .entry)) r (now (facets .entry)) (now (facets .exit)) (now (table .entry)) (now (table .exit)) (now (keys .entry))
+        (now (keys .exit)) (now (rows .entry)) (now (rows .exit)) (now (spare .entry)) (now (spare .exit)) (now (counts .entry)) (now (counts .exit)) ⌝ }
+{
+    let answer = complex::check_cells(d, words);
+    if let Answer::Refused(number, place) = answer {
+        return Counted::Refused(number, place);
+    }
+    let dim = d as usize;
+    let need = complex::need(dim, words.len());
+    let have = Room {
+        keys: keys.len(),
+        rows: rows.len(),
+        spare: spare.len(),
+        counts: counts.len(),
+    };
+    if !refusal::has_room(need, have) {
+        return Counted::Refused(TOO_SHORT, 0);
+    }
+    let k = need.keys;
+    let r = need.rows;
+    let s = need.spare;
+    let c = need.counts;
+    facet_cleared(
+        dim,
+        words,
+        facets,
+        table,
+        &mut keys[..k],
+        &mut rows[..r],
+        &mut spare[..s],
+        &mut counts[..c],
+    )
 }
