@@ -1,16 +1,15 @@
 -- From the rows of the visits and their classes to the words and births of the refined complex. Assumes nothing.
-use mathlib.Core.Bool.{Bool, true, false, _&&_, _||_}
+use mathlib.Core.Bool.{Bool, true, false, _||_}
 use mathlib.Core.Path.{_≡_, refl, sym, ap, _∙_, subst}
-use mathlib.Core.Logic.{_≢_, _⊎_, inl, inr, ⊎-elim}
-use mathlib.Core.List.{List, [], _∷_, _++_, map, map-map, map-append, append-assoc, List·Memᴰ, List·Memᴰ·not-nil, List·Memᴰ·cases-cons, Memᴰ·of-map}
-use Prim.Native.Nat.{ℕ, zero, suc, _+_, _*_, _-_, _/_, _%_, _≤_, _<_, suc-le-suc}
-use native.Mathlib.Nat.{not-suc-le-zero, le-of-suc-le-suc, le-refl, suc-mul, div-add-mod', div-lt-iff-lt-mul, mod-lt}
-use native.Mathlib.Decide.{decLt, ℕ-discrete}
+use mathlib.Core.List.{List, [], _∷_, _++_, map, map-map, map-append, append-assoc, List·Memᴰ, List·Memᴰ·head, List·Memᴰ·tail, Memᴰ·of-map}
+use Prim.Native.Nat.{ℕ, zero, suc, _+_, _*_, _^_, _/_, _%_, _≤_, _<_}
+use native.Mathlib.Nat.{not-suc-le-zero, le-of-suc-le-suc, le-refl, suc-mul, mul-assoc}
 use native.Mathlib.Omega.{arith}
-use lib.Dec.{T, eqb, ltb, leb, leb→le}
-use lib.ListN.{length, getD, take, drop, replicate, length-append, length-map, length-replicate, getD-replicate, List·getD-append}
-use lib.Seq.{ext-getD, getD-take, getD-append-add, length-take-le}
+use lib.Dec.{eqb, ltb}
+use lib.ListN.{length, getD, take, drop, replicate, length-append, length-map, length-replicate, getD-replicate, take-append-drop}
+use lib.Seq.{ext-getD, getD-take, length-take-le, take-at, drop-at}
 use Rattle.lists.specs.Rows.{cut}
+use Rattle.lists.proofs.Laws.{front-part}
 use Rattle.lists.proofs.Rows.{cut-length, cut-at}
 use Rattle.sorting.specs.Bucket.{cell}
 use Rattle.sorting.specs.Order.{Table}
@@ -19,14 +18,16 @@ use Rattle.sorting.specs.Gather.{row}
 use Rattle.sorting.proofs.Colex.{row-cell, row-length, row-same, same-row}
 use Rattle.sorting.proofs.Firsts.{id-eq, id-row}
 use Rattle.facets.proofs.Laws.{row-fits, slots-some, row-cell-below, row-slot-below, row-is}
-use Rattle.lattice.specs.Lattice.{tab, weights}
+use Rattle.lattice.specs.Lattice.{tab}
 use Rattle.lattice.specs.Complex.{weigh}
-use Rattle.lattice.specs.Children.{gather, children, qualifies, every, chains, pick}
+use Rattle.lattice.specs.Children.{gather, children, pick}
 use Rattle.lattice.specs.Pattern.{flat, patternOf}
-use Rattle.lattice.specs.Refine.{point, visits, positives, place, births-from, births, number, words}
+use Rattle.lattice.specs.Refine.{point, visits, positives, place, births-from, births, number, words, vertices}
 use Rattle.lattice.proofs.Tab.{length-tab}
 use Rattle.lattice.proofs.Count.{length-gather}
-use Rattle.lattice.proofs.Enumerate.{of-gather, of-select, both}
+use Rattle.lattice.proofs.Count as count
+use Rattle.lattice.proofs.Enumerate.{of-gather}
+use Rattle.lattice.proofs.Pattern.{added, child-corners, row-sum, row-count, gather-at, flat-row, flat-count, visits-pattern}
 use Rattle.lattice.proofs.Refines.{mem-at}
 use Rattle.births.specs.Support.{none, rowOf, total}
 use Rattle.births.specs.Visits.{visitAt, Visiting, Visited}
@@ -47,79 +48,65 @@ classed keys stride many m reps ids q long =
       apart = λ x y hx hy e. id-eq (cell keys stride) stride many m reps ids q x y hx hy (row-same keys stride x y e);
     }
 
--- ---- the pattern's rows
-every-at : (t : List ℕ → Bool) (c : List (List ℕ)) (s : List ℕ) → T (every t c) → List·Memᴰ s c → T (t s)
-every-at t [] s h m = absurd (List·Memᴰ·not-nil m)
-every-at t (x ∷ c) s h m =
-    let (a, b) = both (t x) (every t c) h in
-    ⊎-elim (λ e. subst (λ (y : List ℕ). T (t y)) (sym e) a) (λ r. every-at t c s b r) (List·Memᴰ·cases-cons m)
-
-weights-total : (R : ℕ) (s : List ℕ) → T (qualifies R s) → total (weights R s) ≡ R
-weights-total R [] h = omega arith
-weights-total R (x ∷ s) h =
-    let (a, b) = both (leb x R) (qualifies x s) h in
-    omega (arith, leb→le x R a, weights-total x s b)
-
-pub pattern-total : (d R : ℕ) (ws : List ℕ) → List·Memᴰ ws (patternOf d R) → total ws ≡ R
-pattern-total d R ws m =
-    let (c, a, b) = of-gather (map (weights R)) (children d R) m in
-    let (s, e, f) = Memᴰ·of-map (weights R) c b in
-    let q = of-select (every (qualifies R)) (chains d R) c a in
-    ap total (sym f) ∙ weights-total R s (every-at (qualifies R) c s (q .1) e)
-
 -- ---- visits by number
-module _ {A B : Type 0} where
-  pub getD-map : (f : A → B) (l : List A) (i : ℕ) (a : A) (b : B) → i < length l → getD (map f l) i b ≡ f (getD l i a)
-  getD-map f [] i a b h = absurd (not-suc-le-zero h)
-  getD-map f (x ∷ l) zero a b h = refl
-  getD-map f (x ∷ l) (suc i) a b h = getD-map f l i a b (le-of-suc-le-suc h)
+pub getD-map : {A B : Type 0} (f : A → B) (l : List A) (i : ℕ) (a : A) (b : B) → i < length l → getD (map f l) i b ≡ f (getD l i a)
+getD-map f [] i a b h = absurd (not-suc-le-zero h)
+getD-map f (x ∷ l) zero a b h = refl
+getD-map f (x ∷ l) (suc i) a b h = getD-map f l i a b (le-of-suc-le-suc h)
 
-  gather-at : (f : A → List B) (p : ℕ) (l : List A) (k q : ℕ) (a : A) (b : B) → ((x : A) → length (f x) ≡ p) → k < length l → q < p → getD (gather f l) (k * p + q) b ≡ getD (f (getD l k a)) q b
-  gather-at f p [] k q a b e h g = absurd (not-suc-le-zero h)
-  gather-at f p (x ∷ l) zero q a b e h g =
-      let z : 0 * p + q ≡ q = omega arith in
-      ap (λ (i : ℕ). getD (gather f (x ∷ l)) i b) z ∙ List·getD-append (f x) (gather f l) b q (omega (arith, e x))
-  gather-at f p (x ∷ l) (suc k) q a b e h g =
-      let z : suc k * p + q ≡ length (f x) + (k * p + q) = omega (arith, e x, suc-mul k p) in
-      ap (λ (i : ℕ). getD (gather f (x ∷ l)) i b) z ∙ getD-append-add (f x) (gather f l) (k * p + q) b ∙ gather-at f p l k q a b e (le-of-suc-le-suc h) g
+total-added : (ws : List ℕ) → total ws ≡ added ws
+total-added [] = refl
+total-added (w ∷ ws) = ap (λ (i : ℕ). w + i) (total-added ws)
 
--- the points of one parent, from the pattern
-parent-points : (R n : ℕ) (k : List ℕ) (cs : List (List (List ℕ))) → gather (λ c. map (point R n k) c) cs ≡ map (λ ws. tab n (weigh k ws)) (gather (map (weights R)) cs)
-parent-points R n k [] = refl
-parent-points R n k (c ∷ cs) =
-    ap (λ (l : List (List ℕ)). map (point R n k) c ++ l) (parent-points R n k cs)
-    ∙ ap (λ (l : List (List ℕ)). l ++ map (λ ws. tab n (weigh k ws)) (gather (map (weights R)) cs)) (sym (map-map (λ ws. tab n (weigh k ws)) (weights R) c))
-    ∙ sym (map-append (λ ws. tab n (weigh k ws)) (map (weights R) c) (gather (map (weights R)) cs))
-
-module _ (d R n m p : ℕ) (ws pattern : List ℕ) (reads : cut (suc d) p pattern ≡ patternOf d R) where
-  abbrev ks : List (List ℕ)
-  ks = cut (suc d) m ws
-
+module _ (d R n m p : ℕ) (ws pattern : List ℕ) (corners : p ≡ R ^ d * suc d) (reads : take (p * suc d) pattern ≡ flat (patternOf d R)) where
   pattern-long : length (patternOf d R) ≡ p
-  pattern-long = ap length (sym reads) ∙ cut-length (suc d) p pattern
+  pattern-long = row-count d R ∙ sym corners
 
-  parent-long : (k : List ℕ) → length (gather (λ c. map (point R n k) c) (children d R)) ≡ p
-  parent-long k = ap length (parent-points R n k (children d R)) ∙ length-map (patternOf d R) (λ ws. tab n (weigh k ws)) ∙ pattern-long
+  pub pattern-room : p * suc d ≤ length pattern
+  pattern-room =
+      omega (
+        arith,
+        ap length reads,
+        flat-count d R,
+        mul-assoc (R ^ d) (suc d) (suc d),
+        ap (λ (i : ℕ). i * suc d) corners,
+        length-take-most (p * suc d) pattern,
+      )
+    where
+      length-take-most : (n : ℕ) (l : List ℕ) → length (take n l) ≤ length l
+      length-take-most n l = omega (arith, ap length (take-append-drop n l), length-append (take n l) (drop n l))
+
+  pattern-row : (q : ℕ) → q < p → getD (patternOf d R) q [] ≡ row pattern (suc d) q
+  pattern-row q h =
+      let l : length (take (p * suc d) pattern) ≡ p * suc d = length-take-le (p * suc d) pattern pattern-room in
+      sym (flat-row d R q (omega (arith, corners)))
+      ∙ ap (λ (k : List ℕ). take (suc d) (drop (q * suc d) k)) (sym reads)
+      ∙ sym (front-part (take (p * suc d) pattern) (drop (p * suc d) pattern) (q * suc d) (suc d) (rw l (row-fits q p (suc d) (p * suc d) h (le-refl (p * suc d)))))
+      ∙ ap (λ (k : List ℕ). take (suc d) (drop (q * suc d) k)) (take-append-drop (p * suc d) pattern)
+
+  pub row-total : (q : ℕ) → q < p → total (row pattern (suc d) q) ≡ R
+  row-total q h =
+      ap total (sym (pattern-row q h))
+      ∙ total-added (getD (patternOf d R) q [])
+      ∙ row-sum d R (getD (patternOf d R) q []) (mem-at (patternOf d R) q (omega (arith, pattern-long)))
+
+  parent-long : (k : List ℕ) → length (map (λ us. tab n (weigh k us)) (patternOf d R)) ≡ p
+  parent-long k = length-map (patternOf d R) (λ us. tab n (weigh k us)) ∙ pattern-long
 
   pub visits-long : length (visits d R n (cut (suc d) m ws)) ≡ m * p
   visits-long =
-      length-gather (λ k. gather (λ c. map (point R n k) c) (children d R)) p (cut (suc d) m ws) parent-long
+      ap length (visits-pattern d R n (cut (suc d) m ws))
+      ∙ length-gather (λ k. map (λ us. tab n (weigh k us)) (patternOf d R)) p (cut (suc d) m ws) parent-long
       ∙ ap (λ (i : ℕ). i * p) (cut-length (suc d) m ws)
-
-  pattern-row : (q : ℕ) → q < p → getD (patternOf d R) q [] ≡ row pattern (suc d) q
-  pattern-row q h = ap (λ (l : List (List ℕ)). getD l q []) (sym reads) ∙ cut-at (suc d) p pattern q h
-
-  pub row-total : (q : ℕ) → q < p → total (row pattern (suc d) q) ≡ R
-  row-total q h = ap total (sym (pattern-row q h)) ∙ pattern-total d R (getD (patternOf d R) q []) (mem-at (patternOf d R) q (omega (arith, pattern-long)))
 
   pub visits-at : (x : ℕ) → x < m * p → getD (visits d R n (cut (suc d) m ws)) x [] ≡ visitAt (suc d) n p ws pattern x
   visits-at x h =
       let a : x / p < m = row-cell-below x m p h in
       let b : x % p < p = row-slot-below x m p h in
-      ap (λ (i : ℕ). getD (visits d R n (cut (suc d) m ws)) i []) (sym (row-is x m p h))
-      ∙ gather-at (λ k. gather (λ c. map (point R n k) c) (children d R)) p (cut (suc d) m ws) (x / p) (x % p) [] [] parent-long (omega (arith, cut-length (suc d) m ws)) b
-      ∙ ap (λ (k : List ℕ). getD (gather (λ c. map (point R n k) c) (children d R)) (x % p) []) (cut-at (suc d) m ws (x / p) a)
-      ∙ ap (λ (l : List (List ℕ)). getD l (x % p) []) (parent-points R n (row ws (suc d) (x / p)) (children d R))
+      ap (λ (l : List (List ℕ)). getD l x []) (visits-pattern d R n (cut (suc d) m ws))
+      ∙ ap (λ (i : ℕ). getD (gather (λ k. map (λ us. tab n (weigh k us)) (patternOf d R)) (cut (suc d) m ws)) i []) (sym (row-is x m p h))
+      ∙ gather-at (λ k. map (λ us. tab n (weigh k us)) (patternOf d R)) p [] [] (cut (suc d) m ws) (λ k i. parent-long k) (x / p) (x % p) (omega (arith, cut-length (suc d) m ws)) b
+      ∙ ap (λ (k : List ℕ). getD (map (λ us. tab n (weigh k us)) (patternOf d R)) (x % p) []) (cut-at (suc d) m ws (x / p) a)
       ∙ getD-map (λ us. tab n (weigh (row ws (suc d) (x / p)) us)) (patternOf d R) (x % p) [] [] (omega (arith, pattern-long))
       ∙ ap (λ (us : List ℕ). tab n (weigh (row ws (suc d) (x / p)) us)) (pattern-row (x % p) b)
 
@@ -148,6 +135,41 @@ all-words R n g cs (k ∷ ks) =
 pub words-flat : (d R n : ℕ) (ks : List (List ℕ)) → flat (words d R n ks) ≡ map (number n (births d R n ks)) (visits d R n ks)
 words-flat d R n ks = all-words R n (number n (births d R n ks)) (children d R) ks
 
+-- a flat list cut again
+cut-flat : (n : ℕ) (rs : List (List ℕ)) (rest : List ℕ) → ((r : List ℕ) → List·Memᴰ r rs → length r ≡ n) → cut n (length rs) (flat rs ++ rest) ≡ rs
+unfolding cut
+cut-flat n [] rest h = refl
+cut-flat n (r ∷ rs) rest h =
+    let e : length r ≡ n = h r (List·Memᴰ·head refl) in
+    let a : (r ++ flat rs) ++ rest ≡ r ++ (flat rs ++ rest) = append-assoc r (flat rs) rest in
+    let f : take n ((r ++ flat rs) ++ rest) ≡ r = ap (take n) a ∙ take-at r (flat rs ++ rest) n e in
+    let g : drop n ((r ++ flat rs) ++ rest) ≡ flat rs ++ rest = ap (drop n) a ∙ drop-at r (flat rs ++ rest) n e in
+    let i : cut n (length rs) (drop n ((r ++ flat rs) ++ rest)) ≡ rs = ap (cut n (length rs)) g ∙ cut-flat n rs rest (λ x m. h x (List·Memᴰ·tail m)) in
+    cc (f, i)
+
+word-long : (d R n : ℕ) (ks : List (List ℕ)) (w : List ℕ) → List·Memᴰ w (words d R n ks) → length w ≡ suc d
+word-long d R n ks w m =
+    let (k, a, b) = of-gather (λ k. map (map (λ s. number n (births d R n ks) (point R n k s))) (children d R)) ks m in
+    let (c, f, e) = Memᴰ·of-map (map (λ s. number n (births d R n ks) (point R n k s))) (children d R) b in
+    ap length (sym e) ∙ length-map c (λ s. number n (births d R n ks) (point R n k s)) ∙ child-corners d R c f
+
+-- the words, cut from the list that `resolve` leaves
+pub words-cut : (d R n m p : ℕ) (ks : List (List ℕ)) (count : ℕ) (keys fresh corners : List ℕ) → Resolved d R n m p ks count keys fresh corners
+    → cut (suc d) (length (words d R n ks)) corners ≡ words d R n ks
+words-cut d R n m p ks count keys fresh corners r =
+    ap (cut (suc d) (length (words d R n ks))) (sym (take-append-drop (m * p) corners) ∙ ap (λ (l : List ℕ). l ++ drop (m * p) corners) (r .reads))
+    ∙ cut-flat (suc d) (words d R n ks) (drop (m * p) corners) (word-long d R n ks)
+
+-- R^d words for each word
+pub words-many : (d R n : ℕ) (ks : List (List ℕ)) → length (words d R n ks) ≡ length ks * R ^ d
+words-many d R n ks =
+    length-gather (λ k. map (map (λ s. number n (births d R n ks) (point R n k s))) (children d R)) (R ^ d) ks
+    (λ k. length-map (children d R) (map (λ s. number n (births d R n ks) (point R n k s))) ∙ count.count d R)
+
+-- all vertices are the first ones and the births
+pub vertices-many : (d R n m p : ℕ) (ks : List (List ℕ)) (count : ℕ) (keys fresh corners : List ℕ) → Resolved d R n m p ks count keys fresh corners → vertices d R n ks ≡ n + count
+vertices-many d R n m p ks count keys fresh corners r = ap (λ (i : ℕ). n + i) (r .supports .long)
+
 -- ---- what `resolve` asks of its calls
 module _ (d R n m p : ℕ) (ws pattern keys rows spare counts : List ℕ) (q : Resolving d R n m p ws pattern keys rows spare counts) (size : ℕ) (e : size ≡ suc d) where
   pub resolve-visiting : Visiting size n m p ws pattern keys
@@ -155,13 +177,13 @@ module _ (d R n m p : ℕ) (ws pattern keys rows spare counts : List ℕ) (q : R
       subst (λ (s : ℕ). Visiting s n m p ws pattern keys) (sym e)
       (record {
         long = q .long;
-        wide = q .wide;
+        wide = pattern-room d R n m p ws pattern (q .corners) (q .reads);
         room = q .keys-long;
         few = omega (arith, q .few);
         small = q .dim;
         below = q .below;
         named = omega (arith, q .few);
-        light = λ r h. omega (arith, row-total d R n m p ws pattern (q .reads) r h, q .few);
+        light = λ r h. omega (arith, row-total d R n m p ws pattern (q .corners) (q .reads) r h, q .few);
       })
 
   -- the rows are written
@@ -176,7 +198,7 @@ module _ (d R n m p : ℕ) (ws pattern keys rows spare counts : List ℕ) (q : R
           let w : j / (suc d + suc d) % p < p = row-slot-below (j / (suc d + suc d)) m p a in
           let pt : List ℕ = visitAt (suc d) n p ws pattern (j / (suc d + suc d)) in
           let r = row-below (suc d) n R pt (j % (suc d + suc d)) (length-tab n (weigh (row ws (suc d) (x / p)) (row pattern (suc d) (x % p))))
-          (λ i. omega (arith, point-most n (row ws (suc d) (x / p)) (row pattern (suc d) (x % p)) i, row-total d R n m p ws pattern (q .reads) (x % p) w)) b in
+          (λ i. omega (arith, point-most n (row ws (suc d) (x / p)) (row pattern (suc d) (x % p)) i, row-total d R n m p ws pattern (q .corners) (q .reads) (x % p) w)) b in
           omega (
             arith,
             r,
@@ -227,7 +249,7 @@ births-few seen (l ∷ ls) = omega (arith, births-few (enter seen l) ls, one-mor
 module _ (d R n m p : ℕ) (ws pattern keys rows spare counts : List ℕ) (q : Resolving d R n m p ws pattern keys rows spare counts) (keys′ classes : List ℕ)
     (v : Visited (suc d) n p ws pattern keys′ (m * p)) (c : Classed (suc d + suc d) (m * p) keys′ classes) where
   is-visit : (x : ℕ) → x < m * p → getD (visits d R n (cut (suc d) m ws)) x [] ≡ visitAt (suc d) n p ws pattern x
-  is-visit x h = visits-at d R n m p ws pattern (q .reads) x h
+  is-visit x h = visits-at d R n m p ws pattern (q .corners) (q .reads) x h
 
   sized : (x : ℕ) → x < m * p → length (getD (visits d R n (cut (suc d) m ws)) x []) ≡ n
   sized x h = ap length (is-visit x h) ∙ length-tab n (weigh (row ws (suc d) (x / p)) (row pattern (suc d) (x % p)))
@@ -248,7 +270,7 @@ module _ (d R n m p : ℕ) (ws pattern keys rows spare counts : List ℕ) (q : R
   resolve-told : Told (suc d) n (m * p) (visits d R n (cut (suc d) m ws)) keys′ classes
   resolve-told =
       record {
-        long = visits-long d R n m p ws pattern (q .reads);
+        long = visits-long d R n m p ws pattern (q .corners) (q .reads);
         sized = sized;
         fits = fits;
         rows = written;
@@ -261,7 +283,7 @@ module _ (d R n m p : ℕ) (ws pattern keys rows spare counts : List ℕ) (q : R
 
   resolve-done-at : (count : ℕ) (fresh corners : List ℕ) → m * p ≤ length corners → Numbered n (visits d R n (cut (suc d) m ws)) count fresh corners → Resolved d R n m p (cut (suc d) m ws) count keys′ fresh corners
   resolve-done-at count fresh corners long r =
-      let l : length (visits d R n (cut (suc d) m ws)) ≡ m * p = visits-long d R n m p ws pattern (q .reads) in
+      let l : length (visits d R n (cut (suc d) m ws)) ≡ m * p = visits-long d R n m p ws pattern (q .corners) (q .reads) in
       let low : (b : ℕ) → b < count → getD fresh b 0 < m * p = λ b h. omega (arith, r .below b h) in
       record {
         most = omega (arith, r .many, births-few [] (visits d R n (cut (suc d) m ws)));

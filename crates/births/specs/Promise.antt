@@ -4,7 +4,6 @@ use mathlib.Core.List.{List, [], map}
 use Prim.Native.Nat.{ℕ, suc, _+_, _*_, _^_, _≤_, _<_}
 use lib.ListN.{length, getD, take}
 use Rattle.sorting.specs.Gather.{row}
-use Rattle.lists.specs.Rows.{cut}
 use Rattle.lattice.specs.Pattern.{flat, patternOf}
 use Rattle.lattice.specs.Refine.{births, words}
 use Rattle.births.specs.Support.{none, supporters, shares, padded, rowOf, Named}
@@ -17,13 +16,13 @@ birthVertices size bs = flat (map (λ l. padded size none (supporters 0 l)) bs)
 abbrev pub birthWeights : ℕ → List (List ℕ) → List ℕ
 birthWeights size bs = flat (map (λ l. padded size 0 (shares l)) bs)
 
--- what `resolve` asks: m words of d + 1 vertices below n, the p rows of the pattern, and room
+-- what `resolve` asks: m words of d + 1 vertices below n, the pattern's p rows of d + 1 weights, and room
 pub record Resolving (d R n m p : ℕ) (words pattern keys rows spare counts : List ℕ) : Type 0 where
   pub dim : suc d < none
   pub long : m * suc d ≤ length words
   pub below : (i : ℕ) → i < m * suc d → getD words i 0 < n
-  pub wide : p * suc d ≤ length pattern
-  pub reads : cut (suc d) p pattern ≡ patternOf d R
+  pub corners : p ≡ R ^ d * suc d
+  pub reads : take (p * suc d) pattern ≡ flat (patternOf d R)
   pub few : n + R + m * p < none
   pub keys-long : m * p * (suc d + suc d) ≤ length keys
   pub rows-long : m * p ≤ length rows

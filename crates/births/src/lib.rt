@@ -105,7 +105,7 @@ fn number(
 // Returns how many births there are.
 pub fn resolve(
     d: usize,
-    r: usize,
+    r: u32,
     n: u32,
     m: usize,
     p: usize,
@@ -125,7 +125,7 @@ pub fn resolve(
     classes(
         size + size,
         total,
-        wide(n) + r + 1,
+        wide(n) + wide(r) + 1,
         keys,
         rows,
         spare,

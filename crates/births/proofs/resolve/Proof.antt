@@ -25,7 +25,9 @@ mul-total : tie.Need-mul-total
 mul-total c = record { fits = omega (arith, c .before .before .before .before .before .before .pre .few) }
 
 write-requires : tie.Need-write-requires
-write-requires c κs = resolve-visiting (c .before .before .before .before .before .before .before .args .d) (c .before .before .before .before .before .before .before .args .r) (c .before .before .before .before .before .before .before .args .n) (c .before .before .before .before .before .before .before .args .m) (c .before .before .before .before .before .before .before .args .p) (c .before .before .before .before .before .before .before .args .words .now) (c .before .before .before .before .before .before .before .args .pattern .now) (c .before .before .before .before .before .before .before .args .keys .now) (c .before .before .before .before .before .before .before .args .rows .now) (c .before .before .before .before .before .before .before .args .spare .now) (c .before .before .before .before .before .before .before .args .counts .now) (c .before .before .before .before .before .before .before .pre) (c .before .before .before .before .before .before .before .args .d + 1) (add-one (c .before .before .before .before .before .before .before .args .d))
+write-requires c κs =
+    let s = c .before .before .before .before .before .before .before in
+    resolve-visiting (s .args .d) (s .args .r) (s .args .n) (s .args .m) (s .args .p) (s .args .words .now) (s .args .pattern .now) (s .args .keys .now) (s .args .rows .now) (s .args .spare .now) (s .args .counts .now) (s .pre) (s .args .d + 1) (add-one (s .args .d))
 
 add-classes : tie.Need-add-classes
 add-classes c = omega (arith, c .before .before .before .before .before .before .before .before .before .before .pre .dim)
@@ -33,20 +35,27 @@ add-classes c = omega (arith, c .before .before .before .before .before .before 
 wide-requires : tie.Need-wide-requires
 wide-requires c κs = search needs
 
+wide-requires-2 : tie.Need-wide-requires-2
+wide-requires-2 c κs = search needs
+
 add-classes-2 : tie.Need-add-classes-2
-add-classes-2 c = omega (arith, c .wide .ensures, c .before .before .before .before .before .before .before .before .before .before .before .pre .few)
+add-classes-2 c = omega (arith, c .before .wide .ensures, c .wide2 .ensures, c .before .before .before .before .before .before .before .before .before .before .before .before .pre .few)
 
 add-classes-3 : tie.Need-add-classes-3
-add-classes-3 c = omega (arith, c .wide .ensures, c .before .before .before .before .before .before .before .before .before .before .before .pre .few)
+add-classes-3 c = omega (arith, c .before .wide .ensures, c .wide2 .ensures, c .before .before .before .before .before .before .before .before .before .before .before .before .pre .few)
 
 classes-requires : tie.Need-classes-requires
-classes-requires c κs = resolve-classing (c .before .before .before .before .before .before .before .before .before .before .before .before .before .before .before .args .d) (c .before .before .before .before .before .before .before .before .before .before .before .before .before .before .before .args .r) (c .before .before .before .before .before .before .before .before .before .before .before .before .before .before .before .args .n) (c .before .before .before .before .before .before .before .before .before .before .before .before .before .before .before .args .m) (c .before .before .before .before .before .before .before .before .before .before .before .before .before .before .before .args .p) (c .before .before .before .before .before .before .before .before .before .before .before .before .before .before .before .args .words .now) (c .before .before .before .before .before .before .before .before .before .before .before .before .before .before .before .args .pattern .now) (c .before .before .before .before .before .before .before .before .before .before .before .before .before .before .before .args .keys .now) (c .before .before .before .before .before .before .before .before .before .before .before .before .before .before .before .args .rows .now) (c .before .before .before .before .before .before .before .before .before .before .before .before .before .before .before .args .spare .now) (c .before .before .before .before .before .before .before .before .before .before .before .before .before .before .before .args .counts .now) (c .before .before .before .before .before .before .before .before .before .before .before .before .before .before .before .pre) (c .before .before .before .before .before .before .before .before .before .before .before .before .before .before .before .args .d + 1) (add-one (c .before .before .before .before .before .before .before .before .before .before .before .before .before .before .before .args .d)) (c .before .before .before .before .before .before .before .write .last .1 .1 .1 .1 .1 .1 .0) (c .before .before .before .before .before .before .before .write .kept .1 .1 .1 .1 .1 .1 .0) _ (omega (arith, c .before .before .before .before .wide .ensures)) (c .before .before .before .before .before .before .before .write .ensures)
+classes-requires c κs =
+    let s = c .before .before .before .before .before .before .before .before .before .before .before .before .before .before .before .before in
+    resolve-classing (s .args .d) (s .args .r) (s .args .n) (s .args .m) (s .args .p) (s .args .words .now) (s .args .pattern .now) (s .args .keys .now) (s .args .rows .now) (s .args .spare .now) (s .args .counts .now) (s .pre) (s .args .d + 1) (add-one (s .args .d)) (c .before .before .before .before .before .before .before .before .write .last .1 .1 .1 .1 .1 .1 .0) (c .before .before .before .before .before .before .before .before .write .kept .1 .1 .1 .1 .1 .1 .0) _ (omega (arith, c .before .before .before .before .before .wide .ensures, c .before .before .before .before .wide2 .ensures)) (c .before .before .before .before .before .before .before .before .write .ensures)
 
 blank-requires : tie.Need-blank-requires
 blank-requires c κs = search needs
 
 number-requires : tie.Need-number-requires
-number-requires c κs = resolve-numbering (c .before .before .before .before .before .before .before .before .before .before .before .before .before .before .before .before .before .before .before .before .before .before .before .before .before .before .before .before .before .before .args .d) (c .before .before .before .before .before .before .before .before .before .before .before .before .before .before .before .before .before .before .before .before .before .before .before .before .before .before .before .before .before .before .args .r) (c .before .before .before .before .before .before .before .before .before .before .before .before .before .before .before .before .before .before .before .before .before .before .before .before .before .before .before .before .before .before .args .n) (c .before .before .before .before .before .before .before .before .before .before .before .before .before .before .before .before .before .before .before .before .before .before .before .before .before .before .before .before .before .before .args .m) (c .before .before .before .before .before .before .before .before .before .before .before .before .before .before .before .before .before .before .before .before .before .before .before .before .before .before .before .before .before .before .args .p) (c .before .before .before .before .before .before .before .before .before .before .before .before .before .before .before .before .before .before .before .before .before .before .before .before .before .before .before .before .before .before .args .words .now) (c .before .before .before .before .before .before .before .before .before .before .before .before .before .before .before .before .before .before .before .before .before .before .before .before .before .before .before .before .before .before .args .pattern .now) (c .before .before .before .before .before .before .before .before .before .before .before .before .before .before .before .before .before .before .before .before .before .before .before .before .before .before .before .before .before .before .args .keys .now) (c .before .before .before .before .before .before .before .before .before .before .before .before .before .before .before .before .before .before .before .before .before .before .before .before .before .before .before .before .before .before .args .rows .now) (c .before .before .before .before .before .before .before .before .before .before .before .before .before .before .before .before .before .before .before .before .before .before .before .before .before .before .before .before .before .before .args .spare .now) (c .before .before .before .before .before .before .before .before .before .before .before .before .before .before .before .before .before .before .before .before .before .before .before .before .before .before .before .before .before .before .args .counts .now) (c .before .before .before .before .before .before .before .before .before .before .before .before .before .before .before .before .before .before .before .before .before .before .before .before .before .before .before .before .before .before .pre) (c .before .before .before .before .before .before .before .before .before .before .before .before .before .before .before .before .before .before .before .before .before .before .before .before .before .before .before .before .before .before .args .d + 1) (add-one (c .before .before .before .before .before .before .before .before .before .before .before .before .before .before .before .before .before .before .before .before .before .before .before .before .before .before .before .before .before .before .args .d)) (c .before .before .before .before .before .before .before .before .before .before .before .before .before .before .before .before .before .before .before .before .before .before .write .last .1 .1 .1 .1 .1 .1 .0) (c .before .before .before .before .before .before .before .before .before .before .before .before .before .before .before .before .before .before .before .before .before .before .write .kept .1 .1 .1 .1 .1 .1 .0) (c .before .before .before .before .before .before .before .before .before .before .before .before .before .before .classes .last .1 .1 .1 .1 .0) _ _ _ (c .before .before .before .before .before .before .before .before .before .before .before .before .before .before .classes .kept .1 .1 .1 .1 .0) (c .before .before .before .before .before .before .blank .ensures) (c .before .before .before .before .before .before .before .before .before .before .before .before .before .before .classes .kept .1 .1 .1 .1 .1 .0) (c .before .before .before .before .before .before .before .before .before .before .before .before .before .before .classes .kept .1 .1 .1 .1 .1 .1 .0) (c .before .before .before .before .before .before .before .before .before .before .before .before .before .before .classes .ensures)
+number-requires c κs =
+    let s = c .before .before .before .before .before .before .before .before .before .before .before .before .before .before .before .before .before .before .before .before .before .before .before .before .before .before .before .before .before .before .before in
+    resolve-numbering (s .args .d) (s .args .r) (s .args .n) (s .args .m) (s .args .p) (s .args .words .now) (s .args .pattern .now) (s .args .keys .now) (s .args .rows .now) (s .args .spare .now) (s .args .counts .now) (s .pre) (s .args .d + 1) (add-one (s .args .d)) (c .before .before .before .before .before .before .before .before .before .before .before .before .before .before .before .before .before .before .before .before .before .before .before .write .last .1 .1 .1 .1 .1 .1 .0) (c .before .before .before .before .before .before .before .before .before .before .before .before .before .before .before .before .before .before .before .before .before .before .before .write .kept .1 .1 .1 .1 .1 .1 .0) (c .before .before .before .before .before .before .before .before .before .before .before .before .before .before .classes .last .1 .1 .1 .1 .0) _ _ _ (c .before .before .before .before .before .before .before .before .before .before .before .before .before .before .classes .kept .1 .1 .1 .1 .0) (c .before .before .before .before .before .before .blank .ensures) (c .before .before .before .before .before .before .before .before .before .before .before .before .before .before .classes .kept .1 .1 .1 .1 .1 .0) (c .before .before .before .before .before .before .before .before .before .before .before .before .before .before .classes .kept .1 .1 .1 .1 .1 .1 .0) (c .before .before .before .before .before .before .before .before .before .before .before .before .before .before .classes .ensures)
 
 same-length : tie.Need-same-length
 same-length c = search needs
@@ -61,7 +70,9 @@ same-length-4 : tie.Need-same-length-4
 same-length-4 c = search needs
 
 returns : tie.Need-returns
-returns c = resolve-done (c .before .before .before .before .before .before .before .before .before .before .before .before .before .before .before .before .before .before .before .before .before .before .before .before .before .before .before .before .before .before .before .before .before .before .before .before .before .args .d) (c .before .before .before .before .before .before .before .before .before .before .before .before .before .before .before .before .before .before .before .before .before .before .before .before .before .before .before .before .before .before .before .before .before .before .before .before .before .args .r) (c .before .before .before .before .before .before .before .before .before .before .before .before .before .before .before .before .before .before .before .before .before .before .before .before .before .before .before .before .before .before .before .before .before .before .before .before .before .args .n) (c .before .before .before .before .before .before .before .before .before .before .before .before .before .before .before .before .before .before .before .before .before .before .before .before .before .before .before .before .before .before .before .before .before .before .before .before .before .args .m) (c .before .before .before .before .before .before .before .before .before .before .before .before .before .before .before .before .before .before .before .before .before .before .before .before .before .before .before .before .before .before .before .before .before .before .before .before .before .args .p) (c .before .before .before .before .before .before .before .before .before .before .before .before .before .before .before .before .before .before .before .before .before .before .before .before .before .before .before .before .before .before .before .before .before .before .before .before .before .args .words .now) (c .before .before .before .before .before .before .before .before .before .before .before .before .before .before .before .before .before .before .before .before .before .before .before .before .before .before .before .before .before .before .before .before .before .before .before .before .before .args .pattern .now) (c .before .before .before .before .before .before .before .before .before .before .before .before .before .before .before .before .before .before .before .before .before .before .before .before .before .before .before .before .before .before .before .before .before .before .before .before .before .args .keys .now) (c .before .before .before .before .before .before .before .before .before .before .before .before .before .before .before .before .before .before .before .before .before .before .before .before .before .before .before .before .before .before .before .before .before .before .before .before .before .args .rows .now) (c .before .before .before .before .before .before .before .before .before .before .before .before .before .before .before .before .before .before .before .before .before .before .before .before .before .before .before .before .before .before .before .before .before .before .before .before .before .args .spare .now) (c .before .before .before .before .before .before .before .before .before .before .before .before .before .before .before .before .before .before .before .before .before .before .before .before .before .before .before .before .before .before .before .before .before .before .before .before .before .args .counts .now) (c .before .before .before .before .before .before .before .before .before .before .before .before .before .before .before .before .before .before .before .before .before .before .before .before .before .before .before .before .before .before .before .before .before .before .before .before .before .pre) (c .before .before .before .before .before .before .before .before .before .before .before .before .before .before .before .before .before .before .before .before .before .before .before .before .before .before .before .before .before .before .before .before .before .before .before .before .before .args .d + 1) (add-one (c .before .before .before .before .before .before .before .before .before .before .before .before .before .before .before .before .before .before .before .before .before .before .before .before .before .before .before .before .before .before .before .before .before .before .before .before .before .args .d)) (c .before .before .before .before .before .before .before .before .before .before .before .before .before .before .before .before .before .before .before .before .before .before .before .before .before .before .before .before .before .write .last .1 .1 .1 .1 .1 .1 .0) (c .before .before .before .before .before .before .before .before .before .before .before .before .before .before .before .before .before .before .before .before .before .classes .last .1 .1 .1 .1 .1 .1 .0) (c .before .before .before .before .before .before .number .result) _ _ (c .before .before .before .before .before .before .number .kept .1 .1 .1 .1 .1 .1 .0 ∙ c .before .before .before .before .before .before .before .before .before .before .before .before .before .before .before .before .before .before .before .before .before .classes .kept .1 .1 .1 .1 .1 .1 .0) (c .before .before .before .before .before .before .before .before .before .before .before .before .before .before .before .before .before .before .before .before .before .before .before .before .before .before .before .before .before .write .ensures) (c .before .before .before .before .before .before .before .before .before .before .before .before .before .before .before .before .before .before .before .before .before .classes .ensures) (c .before .before .before .before .before .before .number .ensures)
+returns c =
+    let s = c .before .before .before .before .before .before .before .before .before .before .before .before .before .before .before .before .before .before .before .before .before .before .before .before .before .before .before .before .before .before .before .before .before .before .before .before .before .before in
+    resolve-done (s .args .d) (s .args .r) (s .args .n) (s .args .m) (s .args .p) (s .args .words .now) (s .args .pattern .now) (s .args .keys .now) (s .args .rows .now) (s .args .spare .now) (s .args .counts .now) (s .pre) (s .args .d + 1) (add-one (s .args .d)) (c .before .before .before .before .before .before .before .before .before .before .before .before .before .before .before .before .before .before .before .before .before .before .before .before .before .before .before .before .before .before .write .last .1 .1 .1 .1 .1 .1 .0) (c .before .before .before .before .before .before .before .before .before .before .before .before .before .before .before .before .before .before .before .before .before .classes .last .1 .1 .1 .1 .1 .1 .0) (c .before .before .before .before .before .before .number .result) _ _ (c .before .before .before .before .before .before .number .kept .1 .1 .1 .1 .1 .1 .0 ∙ c .before .before .before .before .before .before .before .before .before .before .before .before .before .before .before .before .before .before .before .before .before .classes .kept .1 .1 .1 .1 .1 .1 .0) (c .before .before .before .before .before .before .before .before .before .before .before .before .before .before .before .before .before .before .before .before .before .before .before .before .before .before .before .before .before .before .write .ensures) (c .before .before .before .before .before .before .before .before .before .before .before .before .before .before .before .before .before .before .before .before .before .classes .ensures) (c .before .before .before .before .before .before .number .ensures)
 
 pub resolve-spec : {M : Type 1} → statement M
 resolve-spec =
@@ -72,6 +83,7 @@ resolve-spec =
     write-requires
     add-classes
     wide-requires
+    wide-requires-2
     add-classes-2
     add-classes-3
     classes-requires
