@@ -1,0 +1,3 @@
+-- Laws that the proofs of `gridlengths` cite.
+pub mod Measuring
+pub mod Values

@@ -1,0 +1,3 @@
+-- What the contracts of `gridlengths` cite.
+pub mod Edges
+pub mod Settled
