@@ -9,6 +9,7 @@ ghost use Rattle.quotient.specs.Shape.{checkOf};
 ghost use Rattle.quotient.specs.Reduce.{coordAt, vertexOf};
 ghost use Rattle.gridlengths.specs.Edges.{firstEnd, secondEnd, edgesEach, visitsOf, fromAt, toAt, spacingsOf, squareAt, sameEnds, visitsEdge};
 ghost use Rattle.gridlengths.specs.Settled.{metBy, settle, edgeValues, afterVisit, edgeLengthOf};
+ghost use Rattle.gridlengths.specs.Noted.{endOf, endsOf, told, isLength, Noting, Noted, Clashed};
 use quotient::GluedVertex;
 use quotient::Grid;
 use refusal::Answer;
@@ -225,4 +226,79 @@ fn settled(grid: Grid, a: u32, b: u32) -> EdgeLength
         r += 1;
     }
     known
+}
+
+// The vertex at end i: of visit i / 2, where it begins for an even i, where it ends for an odd one.
+fn end_vertex(grid: Grid, i: usize) -> u32
+    requires { ⌜ (checkOf grid ≡ Fine) × (i < visitsOf grid * 2) ⌝ }
+    ensures { λ r. ⌜ r ≡ endOf grid i ⌝ }
+{
+    if i % 2 == 0 {
+        grid.vertex(from_at(grid, i / 2))
+    } else {
+        grid.vertex(to_at(grid, i / 2))
+    }
+}
+
+// Writes the ends of the edges of all visits, two a visit, over a list of their length.
+fn write_ends(grid: Grid, keys: &mut [u32])
+    requires { ⌜ (checkOf grid ≡ Fine) × (length (now keys) ≡ visitsOf grid * 2) ⌝ }
+    ensures { λ _. ⌜ now (keys .exit) ≡ endsOf grid ⌝ }
+{
+    let mut i = 0;
+    while i < keys.len() {
+        keys[i] = end_vertex(grid, i);
+        i += 1;
+    }
+}
+
+// What the note of an edge tells: 0 is none, and else it is one more than the number of a visit.
+fn told(grid: Grid, note: u32) -> EdgeLength
+    requires { ⌜ (checkOf grid ≡ Fine) × (note ≤ visitsOf grid) ⌝ }
+    ensures { λ r. ⌜ r ≡ told grid note ⌝ }
+{
+    if note == 0 {
+        EdgeLength::NoEdge
+    } else {
+        EdgeLength::Length(measured(grid, note as usize - 1))
+    }
+}
+
+// Whether the value of visit r agrees with what the note of its edge tells.
+fn follows(grid: Grid, note: u32, r: usize) -> bool
+    requires { ⌜ (checkOf grid ≡ Fine) × (note ≤ visitsOf grid) × (r < visitsOf grid) ⌝ }
+    ensures { λ x. ⌜ x ≡ isLength (metBy (told grid note) (squareAt grid r)) ⌝ }
+{
+    let known = told(grid, note);
+    let now = meet(known, measured(grid, r));
+    match now {
+        EdgeLength::Length(_) => true,
+        EdgeLength::Clash(_, _) => false,
+        EdgeLength::NoEdge => false,
+        EdgeLength::Refused(_, _) => false,
+    }
+}
+
+fn wide(x: u32) -> usize
+    ensures { λ r. ⌜ r ≡ x ⌝ }
+{
+    x as usize
+}
+
+// Notes the last visit of each edge; false where two values of an edge clash.
+fn note_last(grid: Grid, total: usize, ids: &[u32], last: &mut [u32]) -> bool
+    requires { ⌜ Noting grid (now ids) (now last) × (total ≡ visitsOf grid) ⌝ }
+    ensures yes { λ r. ⌜ (r ≡ true → Noted grid (now (ids .entry)) (now (last .exit))) ⌝ }
+    ensures no { λ r. ⌜ (r ≡ false → Clashed grid) ⌝ }
+{
+    let mut r = 0;
+    while r < total {
+        let id = wide(ids[r]);
+        if !follows(grid, last[id], r) {
+            return false;
+        }
+        last[id] = r as u32 + 1;
+        r += 1;
+    }
+    true
 }
