@@ -22,6 +22,7 @@ use Rattle.lattice.proofs.Sums.{same-self, same-yes, same-no, sum-ext, sum-scal
 use Rattle.lattice.proofs.Faces.{by-facets, by-faces}
 use Rattle.lattice.proofs.Fits.{Stage, fits, length-words, tower-words}
 use Rattle.refine.specs.Refined.{coarse, orderWords, refinedCells, refinedWords}
+use Rattle.laws.specs.Refinement.{Counted}
 use Rattle.laws.specs.Composition.{Accepted, Ordered, Refines, Renamed, Composes, Law, LawSorted}
 use Rattle.laws.proofs.Listed.{Listed, number-of}
 use Rattle.laws.proofs.Facets.{listed-uncrowded, listed-agree-back}
@@ -226,3 +227,8 @@ composition-sorted d a b ws acc fit =
     let (pa, pb) = factors a b (fit .least) in
     let p : Passed d ws = fine-passed d ws (acc .fine) in
     composed d a b (coarse ws) (cellsOf d ws) pa pb (stage-sorted d ws p (acc .uncrowded)) fit (p .small) (omega arith)
+
+-- there is only one such renaming: the single refinement counts no vertex twice
+pub renaming-one : (d R n N : ℕ) (ts ks : List (List ℕ)) (shares : ℕ → ℕ → ℕ) → Counted d R n ks
+    → (r r′ : Renamed n N (vertices d R n ks) ts (refinedWords d R n ks) shares (share d R n ks)) → (x : ℕ) → x < N → r .to x ≡ r′ .to x
+renaming-one d R n N ts ks shares c r r′ x h = c .once (r .to x) (r′ .to x) (r .into x h) (r′ .into x h) (λ v. r .keeps x h v ∙ sym (r′ .keeps x h v))
