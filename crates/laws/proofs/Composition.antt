@@ -3,7 +3,7 @@ use mathlib.Core.Path.{_≡_, refl, sym, ap, _∙_, subst}
 use mathlib.Core.Logic.{_≢_, _⊎_, inl, inr, ⊎-elim}
 use mathlib.Core.List.{List, [], _∷_, List·Memᴰ}
 use Prim.Native.Nat.{ℕ, zero, suc, _+_, _*_, _^_, _≤_, _<_}
-use native.Mathlib.Nat.{mul-le-mul-left, mul-le-mul-right, pow-le-pow-left}
+use native.Mathlib.Nat.{zero-mul, mul-zero, mul-le-mul-left, mul-le-mul-right, pow-le-pow-left}
 use native.Mathlib.Decide.{ℕ-discrete}
 use native.Mathlib.Omega.{arith}
 use lib.ListN.{length, getD}
@@ -22,6 +22,7 @@ use Rattle.lattice.proofs.Sums.{same-self, same-yes, same-no, sum-ext, sum-scal
 use Rattle.lattice.proofs.Faces.{by-facets, by-faces}
 use Rattle.lattice.proofs.Fits.{Stage, fits, length-words, tower-words}
 use Rattle.refine.specs.Refined.{coarse, orderWords, refinedCells, refinedWords}
+use Rattle.laws.specs.Refinement.{Counted}
 use Rattle.laws.specs.Composition.{Accepted, Ordered, Refines, Renamed, Composes, Law, LawSorted}
 use Rattle.laws.proofs.Listed.{Listed, number-of}
 use Rattle.laws.proofs.Facets.{listed-uncrowded, listed-agree-back}
@@ -204,10 +205,17 @@ module _ (d a b n : ℕ) (ks : List (List ℕ)) (pa : 0 < a) (pb : 0 < b) (stage
             (sym counted) same-words);
       }
 
+-- a product of 1 or more: both are 1 or more
+factors : (a b : ℕ) → 1 ≤ a * b → (1 ≤ a) × (1 ≤ b)
+factors zero b h = absurd (omega (arith, zero-mul b))
+factors (suc a) zero h = absurd (omega (arith, mul-zero (suc a)))
+factors (suc a) (suc b) h = (omega arith, omega arith)
+
 -- DEMAND 3, for an order that agrees on every shared facet
 pub composition : (d a b : ℕ) (ws os : List ℕ) → Law d a b ws os
 unfolding Law
-composition d a b ws os acc ord pa pb fit =
+composition d a b ws os acc ord fit =
+    let (pa, pb) = factors a b (fit .least) in
     let p : Passed d ws = fine-passed d ws (acc .fine) in
     let ks : List (List ℕ) = orderWords d ws os in
     composed d a b (coarse ws) ks pa pb (stage-of d ws p ks (order-listed d ws p os (ord .orders)) (acc .uncrowded) (ord .agrees)) fit (p .small) (omega arith)
@@ -215,6 +223,12 @@ composition d a b ws os acc ord pa pb fit =
 -- and where no order is given
 pub composition-sorted : (d a b : ℕ) (ws : List ℕ) → LawSorted d a b ws
 unfolding LawSorted
-composition-sorted d a b ws acc pa pb fit =
+composition-sorted d a b ws acc fit =
+    let (pa, pb) = factors a b (fit .least) in
     let p : Passed d ws = fine-passed d ws (acc .fine) in
     composed d a b (coarse ws) (cellsOf d ws) pa pb (stage-sorted d ws p (acc .uncrowded)) fit (p .small) (omega arith)
+
+-- there is only one such renaming: the single refinement counts no vertex twice
+pub renaming-one : (d R n N : ℕ) (ts ks : List (List ℕ)) (shares : ℕ → ℕ → ℕ) → Counted d R n ks
+    → (r r′ : Renamed n N (vertices d R n ks) ts (refinedWords d R n ks) shares (share d R n ks)) → (x : ℕ) → x < N → r .to x ≡ r′ .to x
+renaming-one d R n N ts ks shares c r r′ x h = c .once (r .to x) (r′ .to x) (r .into x h) (r′ .into x h) (λ v. r .keeps x h v ∙ sym (r′ .keeps x h v))

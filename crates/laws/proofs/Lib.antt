@@ -8,4 +8,6 @@ pub mod Renaming
 pub mod Again
 pub mod Parents
 pub mod Refinement
+pub mod Unrefined
 pub mod Composition
+pub mod Figures

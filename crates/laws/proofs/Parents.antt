@@ -64,7 +64,7 @@ gather-at f m z (x ∷ l) e (suc p) j h b =
     ∙ getD-append-add (f x) (gather f l) (p * m + j) []
     ∙ gather-at f m z l e p j (le-of-suc-le-suc h) b
 
-mem-of : {A : Type 0} (z : A) (l : List A) (i : ℕ) → i < length l → List·Memᴰ (getD l i z) l
+pub mem-of : {A : Type 0} (z : A) (l : List A) (i : ℕ) → i < length l → List·Memᴰ (getD l i z) l
 mem-of z [] i h = absurd (not-suc-le-zero h)
 mem-of z (x ∷ l) zero h = List·Memᴰ·head refl
 mem-of z (x ∷ l) (suc i) h = List·Memᴰ·tail (mem-of z l i (le-of-suc-le-suc h))

@@ -60,12 +60,12 @@ pub record Composes (d a b n : ℕ) (ks : List (List ℕ)) (ws₁ os₁ : List �
       (refinedWords d b (coarse ws₁) (orderWords d ws₁ os₁)) (refinedWords d (a * b) n ks)
       (through (coarse ws₁) (share d a n ks) (share d b (coarse ws₁) (orderWords d ws₁ os₁))) (share d (a * b) n ks)
 
--- THE COMPOSITION LAW, for an order: the premises are demand 3's
+-- THE COMPOSITION LAW, for an order. The premises are demand 3's: an accepted complex, which has dimension 0 to 3, an order that agrees, and the single refinement
 unfoldable pub Law : ℕ → ℕ → ℕ → List ℕ → List ℕ → Type 0
 Law d a b ws os =
     let n : ℕ = coarse ws in
     let ks : List (List ℕ) = orderWords d ws os in
-    Accepted d ws → Ordered d ws os → 1 ≤ a → 1 ≤ b → Refines d (a * b) n ks
+    Accepted d ws → Ordered d ws os → Refines d (a * b) n ks
     → Composes d a b n ks (flat (refinedCells d a n ks)) (flat (refinedWords d a n ks))
 
 -- and where no order is given: then the words are the cells, and they always agree
@@ -73,5 +73,5 @@ unfoldable pub LawSorted : ℕ → ℕ → ℕ → List ℕ → Type 0
 LawSorted d a b ws =
     let n : ℕ = coarse ws in
     let ks : List (List ℕ) = cellsOf d ws in
-    Accepted d ws → 1 ≤ a → 1 ≤ b → Refines d (a * b) n ks
+    Accepted d ws → Refines d (a * b) n ks
     → Composes d a b n ks (flat (refinedCells d a n ks)) (flat (refinedWords d a n ks))
