@@ -1,4 +1,5 @@
 """compare.py LIBRARY ORACLE SEED COUNT [FILE]: the same requests to the planner's library and to the Rust. FILE gets the calls for lent.c."""
+import faulthandler
 import random
 import sys
 
@@ -54,6 +55,7 @@ def run(port, oracle, seed, count):
 
 
 def main():
+    faulthandler.enable()          # a list that is overrun stops the run, with the place
     library, oracle, seed, count = sys.argv[1], sys.argv[2], int(sys.argv[3]), int(sys.argv[4])
     j = run(Port(library, sys.argv[5] if len(sys.argv) > 5 else None), oracle, seed, count)
     for name in sorted(j.by_call):
