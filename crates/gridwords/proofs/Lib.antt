@@ -4,3 +4,4 @@ pub mod Inside
 pub mod Flat
 pub mod Listed
 pub mod Good
+pub mod Figures
