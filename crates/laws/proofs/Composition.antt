@@ -30,7 +30,7 @@ use Rattle.laws.proofs.Checked.{cells-listed, order-listed, stage-of, s
 use Rattle.laws.proofs.Flat.{flat-cells, flat-coarse, flat-passed, flat-orders, flat-words}
 use Rattle.laws.proofs.Renaming.{renamed}
 use Rattle.laws.proofs.Refinement.{share-old}
-use Rattle.laws.proofs.Again.{facets-of, refined-listed, sorted-stage, sorted-refined, sorted-many}
+use Rattle.laws.proofs.Again.{facets-of, refined-listed, sorted-stage, sorted-refined, sorted-many, cells-many}
 
 same-turn : (x y : ℕ) → same x y ≡ same y x
 same-turn x y =
@@ -98,6 +98,22 @@ module _ (d a b n : ℕ) (ks : List (List ℕ)) (pa : 0 < a) (pb : 0 < b) (stage
             (through n₁ outer inner) (alike .back) (alike .apart′) (single .sound .complex .long) (single .sound .used) (tower .sound .complex),
       )
 
+  -- and as many cells
+  so-many : length ks₁ * b ^ d ≡ length ks * (a * b) ^ d
+  so-many =
+      omega (
+        arith,
+        ap (λ (z : ℕ). z * b ^ d) (sorted-many d a n ks pa (stage .sound) (stage .nodup)),
+        length-words d (a * b) n ks,
+        tower-words d a b n ks,
+        length-words d b n₁ (words d a n ks),
+        ap (λ (z : ℕ). z * b ^ d) (length-words d a n ks),
+      )
+
+  pub as-many-cells : length (refinedCells d b (vertices d a n ks) (refinedWords d a n ks)) ≡ length (refinedCells d (a * b) n ks)
+  as-many-cells =
+      cells-many d b n₁ ks₁ pb (middle .sound) (middle .nodup) ∙ so-many ∙ sym (cells-many d (a * b) n ks pab (stage .sound) (stage .nodup))
+
   fixed : (x : ℕ) → x < n → (v : ℕ) → through n₁ outer inner x v ≡ share d (a * b) n ks x v
   fixed x h v =
       through-old n₁ b x outer inner (omega arith) (share-old d b n₁ ks₁ x (omega arith)) v
@@ -132,16 +148,7 @@ module _ (d a b n : ℕ) (ks : List (List ℕ)) (pa : 0 < a) (pb : 0 < b) (stage
     second-fits = record {
       least = pb;
       most = omega (arith, fit .most, mul-le-mul-right b pa);
-      cells =
-          omega (
-            arith,
-            fit .cells,
-            ap (λ (z : ℕ). z * b ^ d) (sorted-many d a n ks pa (stage .sound) (stage .nodup)),
-            length-words d (a * b) n ks,
-            tower-words d a b n ks,
-            length-words d b n₁ (words d a n ks),
-            ap (λ (z : ℕ). z * b ^ d) (length-words d a n ks),
-          );
+      cells = omega (arith, fit .cells, so-many);
       corners = omega (arith, fit .corners, as-many);
     }
 
@@ -192,6 +199,12 @@ module _ (d a b n : ℕ) (ks : List (List ℕ)) (pa : 0 < a) (pb : 0 < b) (stage
         };
         counted = counted;
         second = subst (λ (ws : List (List ℕ)). Refines d b (coarse (flat cs₁)) ws) (sym same-order) (subst (λ (m : ℕ). Refines d b m ks₁) (sym counted) second-fits);
+        cells =
+            subst (λ (ws : List (List ℕ)). length (refinedCells d b (coarse (flat cs₁)) ws) ≡ length (refinedCells d (a * b) n ks)) (sym same-order)
+            (subst (λ (m : ℕ). length (refinedCells d b m ks₁) ≡ length (refinedCells d (a * b) n ks)) (sym counted) as-many-cells);
+        corners =
+            subst (λ (ws : List (List ℕ)). vertices d b (coarse (flat cs₁)) ws ≡ vertices d (a * b) n ks) (sym same-order)
+            (subst (λ (m : ℕ). vertices d b m ks₁ ≡ vertices d (a * b) n ks) (sym counted) as-many);
         same =
             subst
             (λ (ws : List (List ℕ)).
