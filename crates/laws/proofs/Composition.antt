@@ -1,32 +1,32 @@
 -- THE COMPOSITION LAW over the definitions that the refinement calls promise. Assumes nothing.
-use mathlib.Core.Path.{_≡_, refl, sym, ap, _∙_, subst}
-use mathlib.Core.Logic.{_≢_, _⊎_, inl, inr, ⊎-elim}
-use mathlib.Core.List.{List, [], _∷_, List·Memᴰ}
-use Prim.Native.Nat.{ℕ, zero, suc, _+_, _*_, _^_, _≤_, _<_}
+use mathlib.Core.Path.{_≡_, sym, ap, _∙_, subst}
+use mathlib.Core.Logic.{_⊎_, ⊎-elim}
+use mathlib.Core.List.{List}
+use Prim.Native.Nat.{ℕ, zero, suc, _*_, _^_, _≤_, _<_}
 use native.Mathlib.Nat.{zero-mul, mul-zero, mul-le-mul-left, mul-le-mul-right, pow-le-pow-left}
 use native.Mathlib.Decide.{ℕ-discrete}
 use native.Mathlib.Omega.{arith}
-use lib.ListN.{length, getD}
+use lib.ListN.{length}
 use Rattle.refusal.specs.Limits.{mostCells}
-use Rattle.complex.specs.Cells.{inOrder, cellsOf}
+use Rattle.complex.specs.Cells.{cellsOf}
 use Rattle.complex.specs.Check.{Passed}
 use Rattle.complex.specs.Facets.{Crowded}
 use Rattle.complex.proofs.Fine.{fine-passed, passed-fine}
 use Rattle.cells.proofs.Order.{order-rising}
 use Rattle.ordering.specs.Order.{Orders, flat}
 use Rattle.ordering.specs.Order as order
-use Rattle.lattice.specs.Complex.{Words, same, sum, times, through, Complex, Refined, Alike, AgreeOnFacets}
-use Rattle.lattice.specs.Refine.{births, words, vertices, share, In}
-use Rattle.lattice.specs.Conform.{Used, Sound, Facewise}
-use Rattle.lattice.proofs.Sums.{same-self, same-yes, same-no, sum-ext, sum-scale, sum-pick}
+use Rattle.lattice.specs.Complex.{same, through, Alike, AgreeOnFacets}
+use Rattle.lattice.specs.Refine.{words, vertices, share, In}
+use Rattle.lattice.specs.Conform.{Used, Facewise}
+use Rattle.lattice.proofs.Sums.{same-yes, same-no, sum-ext, sum-scale, sum-pick}
 use Rattle.lattice.proofs.Faces.{by-facets, by-faces}
 use Rattle.lattice.proofs.Fits.{Stage, fits, length-words, tower-words}
 use Rattle.refine.specs.Refined.{coarse, orderWords, refinedCells, refinedWords}
 use Rattle.laws.specs.Refinement.{Counted}
-use Rattle.laws.specs.Composition.{Accepted, Ordered, Refines, Renamed, Composes, Law, LawSorted}
+use Rattle.laws.specs.Composition.{Refines, Renamed, Composes, Law, LawSorted}
 use Rattle.laws.proofs.Listed.{Listed, number-of}
 use Rattle.laws.proofs.Facets.{listed-uncrowded, listed-agree-back}
-use Rattle.laws.proofs.Checked.{cells-listed, order-listed, stage-of, stage-sorted}
+use Rattle.laws.proofs.Checked.{order-listed, stage-of, stage-sorted}
 use Rattle.laws.proofs.Flat.{flat-cells, flat-coarse, flat-passed, flat-orders, flat-words}
 use Rattle.laws.proofs.Renaming.{renamed}
 use Rattle.laws.proofs.Refinement.{share-old}

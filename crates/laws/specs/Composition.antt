@@ -2,7 +2,7 @@
 -- Assumes nothing.
 use mathlib.Core.List.{List, map}
 use mathlib.Core.Path.{_≡_}
-use Prim.Native.Nat.{ℕ, suc, _*_, _^_, _<_, _≤_}
+use Prim.Native.Nat.{ℕ, _*_, _^_, _<_, _≤_}
 use lib.ListN.{length}
 use Rattle.refusal.specs.declared.Answer.the-variants.{Fine}
 use Rattle.refusal.specs.Limits.{mostCells, mostVertices, mostRefinement}
