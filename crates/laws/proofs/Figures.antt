@@ -1,10 +1,10 @@
 -- The composition law on a triangle: its premises can be met, and the renaming in numbers. The vertices of the tower have other numbers than those of the single
 -- refinement, since births are numbered by first visit: that is why there is a renaming. Assumes nothing.
-use mathlib.Core.Path.{_≡_, refl, sym, ap, _∙_, subst}
+use mathlib.Core.Path.{_≡_, refl, sym, subst}
 use mathlib.Core.List.{List, [], _∷_, map}
-use Prim.Native.Nat.{ℕ, zero, suc, _+_, _*_, _<_, _≤_}
+use Prim.Native.Nat.{ℕ, _*_, _<_, _≤_}
 use native.Mathlib.Omega.{arith}
-use lib.ListN.{length, getD}
+use lib.ListN.{getD}
 use Rattle.lists.specs.Words.{either, among, hasRepeat, largestOf, foundAt, firstWhere}
 use Rattle.lists.specs.Rows.{cut}
 use Rattle.multiindex.specs.Sort.{insertBy, insert, sortWord}

@@ -1,20 +1,16 @@
 -- Each refined cell has its visit, each visit its cell, and the visits of one parent follow each other: so each parent has R ^ d children. Assumes nothing.
-use mathlib.Core.Bool.{Bool, true, false}
 use mathlib.Core.Path.{_≡_, refl, sym, ap, _∙_, subst}
-use mathlib.Core.Logic.{_≢_, _⊎_, inl, inr, ⊎-elim}
+use mathlib.Core.Logic.{_≢_}
 use mathlib.Core.List.{List, [], _∷_, _++_, map, List·Memᴰ, List·Memᴰ·head, List·Memᴰ·tail}
 use Prim.Native.Nat.{ℕ, zero, suc, _+_, _*_, _-_, _/_, _%_, _^_, _≤_, _<_, zero-le, suc-le-suc}
 use native.Mathlib.Nat.{le-of-suc-le-suc, not-suc-le-zero, suc-mul, zero-mul, mul-le-mul-right, div-lt-iff-lt-mul, le-div-iff-mul-le, div-add-mod', mod-lt, pow-zero, pow-suc, mul-le-mul-left}
-use native.Mathlib.Decide.{ℕ-discrete, decLt}
 use native.Mathlib.Omega.{arith}
 use lib.ListN.{length, getD, length-map, List·getD-map, List·getD-append}
 use lib.Seq.{getD-append-add}
 use Rattle.lists.specs.Words.{foundAt}
 use Rattle.multiindex.specs.Sort.{sortWord}
-use Rattle.complex.specs.Cells.{inOrder}
 use Rattle.complex.specs.Facets.{cellAt}
 use Rattle.cells.proofs.Words.{at-in}
-use Rattle.ordering.specs.Order.{sameWord, wordOf, byCell}
 use Rattle.ordering.proofs.Orders.{true-same, same-false, by-cell-at, word-first}
 use Rattle.lattice.specs.Lattice.{Child}
 use Rattle.lattice.specs.Complex.{same, sum, times, Complex, Names}

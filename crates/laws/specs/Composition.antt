@@ -2,7 +2,7 @@
 -- Assumes nothing.
 use mathlib.Core.List.{List, map}
 use mathlib.Core.Path.{_≡_}
-use Prim.Native.Nat.{ℕ, suc, _*_, _^_, _<_, _≤_}
+use Prim.Native.Nat.{ℕ, _*_, _^_, _<_, _≤_}
 use lib.ListN.{length}
 use Rattle.refusal.specs.declared.Answer.the-variants.{Fine}
 use Rattle.refusal.specs.Limits.{mostCells, mostVertices, mostRefinement}
@@ -55,7 +55,10 @@ pub record Composes (d a b n : ℕ) (ks : List (List ℕ)) (ws₁ os₁ : List �
   pub counted : coarse ws₁ ≡ vertices d a n ks
   -- so the second call is not refused either
   pub second : Refines d b (coarse ws₁) (orderWords d ws₁ os₁)
-  -- and it hands out what the single call hands out, a vertex's shares multiplied through the middle step
+  -- and it hands out as many cells and vertices as the single call
+  pub cells : length (refinedCells d b (coarse ws₁) (orderWords d ws₁ os₁)) ≡ length (refinedCells d (a * b) n ks)
+  pub corners : vertices d b (coarse ws₁) (orderWords d ws₁ os₁) ≡ vertices d (a * b) n ks
+  -- which are the same up to the numbers of the vertices, a vertex's shares multiplied through the middle step
   pub same : Renamed n (vertices d b (coarse ws₁) (orderWords d ws₁ os₁)) (vertices d (a * b) n ks)
       (refinedWords d b (coarse ws₁) (orderWords d ws₁ os₁)) (refinedWords d (a * b) n ks)
       (through (coarse ws₁) (share d a n ks) (share d b (coarse ws₁) (orderWords d ws₁ os₁))) (share d (a * b) n ks)
