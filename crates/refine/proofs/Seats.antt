@@ -34,8 +34,12 @@ use Rattle.lattice.proofs.Refines.{mem-at, names}
 use Rattle.lattice.proofs.Pattern.{child-corners, corner-long, added, row-count, row-long, row-sum, row-at, flat-row, flat-count}
 use Rattle.lattice.proofs.Seats.{weigh-at}
 use Rattle.lattice.proofs.Weights.{length-weights}
+use Rattle.lattice.specs.Jacobian.{jacobian}
+use Rattle.lattice.proofs.Tab.{tab-ext}
+use Rattle.jacobian.specs.Entries.{nineOf, wholeOf, floatOf, floatStep, nought}
+use Rattle.jacobian.proofs.Laws.{column-in, row-in, entry-past}
 use Rattle.jacobian.specs.Weights.{placeOf, weightOf, Seated}
-use Rattle.children.specs.Family.{weightsAt, Family}
+use Rattle.children.specs.Family.{weightsAt, wholeAt, floatAt, Family}
 use Rattle.refine.specs.Flat.{Along, Refining}
 
 -- ---- places
@@ -98,6 +102,16 @@ mem-of (x ∷ l) (suc i) z h = List·Memᴰ·tail (mem-of l i z (omega arith))
 
 front-long : (n : ℕ) (l : List ℕ) → length (take n l) ≡ n → n ≤ length l
 front-long n l e = omega (arith, length-take n l)
+
+-- nine numbers agree where their d·d entries do
+nine-ext : {A : Type 0} (d : ℕ) (none : A) (f g : ℕ → ℕ → A) → ((j l : ℕ) → j < d → l < d → f j l ≡ g j l) → nineOf d none f ≡ nineOf d none g
+nine-ext {A} d none f g h =
+    tab-ext 9 (λ e. cond (ltb e (d * d)) (f (e / d) (e % d)) none) (λ e. cond (ltb e (d * d)) (g (e / d) (e % d)) none)
+    (λ e l.
+    elim (decLt e (d * d)) [
+      | yes b ↦ ap (λ (x : A). cond (ltb e (d * d)) x none) (h (e / d) (e % d) (column-in d e b) (row-in d e b))
+      | no b ↦ sym (entry-past d e (f (e / d) (e % d)) none (omega arith)) ∙ entry-past d e (g (e / d) (e % d)) none (omega arith)
+    ])
 
 module _ (d R n m : ℕ) (along cells pattern names-list : List ℕ) (h : Refining d R n m along cells pattern names-list) where
   abbrev size : ℕ
@@ -228,3 +242,59 @@ module _ (d R n m : ℕ) (along cells pattern names-list : List ℕ) (h : Refini
         ∙ sym (shared (placeOf w X) (placeOf k v) j i)
         ∙ ap (λ (y : ℕ). share d R n ks y (getD k (placeOf k v) 0)) (place-at w X p)
         ∙ ap (λ (y : ℕ). share d R n ks X y) (place-at k v r)
+
+    -- ---- with the sorted words beside them, the child is seated
+    module _ (sorted : List ℕ) (e : row sorted (suc d) x ≡ sortWord (row names-list (suc d) x)) where
+      in-names : (j : ℕ) → j ≤ d → 0 < times w (getD (row sorted (suc d) x) j 0)
+      in-names j l = rw e (sorted-in w j (omega (arith, names-row)))
+
+      in-word : (l : ℕ) → l ≤ d → 0 < times k (getD (row cells (suc d) (x / R ^ d)) l 0)
+      in-word l b′ = subst (λ (u : List ℕ). 0 < times k (getD u l 0)) (h .words-of .matched a a-in) (sorted-in k l (omega (arith, word-long a a-in)))
+
+      small-at : (i : ℕ) → i < suc d * suc d → getD (row pattern (suc d * suc d) q) i 0 < 2147483648
+      small-at i l =
+          let one : 0 < suc d = omega arith in
+          let lj : i / suc d < suc d = div-lt-iff-lt-mul one .1 l in
+          let li : i % suc d < suc d = mod-lt i one in
+          let u : q * suc d + i / suc d < R ^ d * suc d = omega (arith, suc-mul q (suc d), mul-le-mul-right (suc d) q-in) in
+          let r : List ℕ = getD (patternOf d R) (q * suc d + i / suc d) [] in
+          let f : getD (row pattern (suc d * suc d) q) i 0 ≡ getD r (i % suc d) 0 = ap (λ (o : ℕ). getD (row pattern (suc d * suc d) q) o 0) (sym (div-add-mod' i (suc d))) ∙ stands (i / suc d) (i % suc d) lj li in
+          omega (arith, f, le-added r (i % suc d), row-sum d R r (mem-of (patternOf d R) (q * suc d + i / suc d) [] (omega (arith, row-count d R))), h .times)
+
+      seated : Seated d (row pattern (suc d * suc d) q) w k (row cells (suc d) (x / R ^ d)) (row sorted (suc d) x)
+      seated = record {
+        dim = h .dim;
+        corners-long = corners-long;
+        small = λ i l. small-at i (omega (arith, corners-long));
+        names-long = names-row;
+        word-long = word-long a a-in;
+        parent-long = ap length (sym (h .words-of .matched a a-in)) ∙ sort-length k ∙ word-long a a-in;
+        cell-long = ap length e ∙ sort-length w ∙ names-row;
+        named = λ j l. omega (arith, place-in w (getD (row sorted (suc d) x) j 0) (in-names j l), names-row);
+        worded = λ l b′. omega (arith, place-in k (getD (row cells (suc d) (x / R ^ d)) l 0) (in-word l b′), word-long a a-in);
+      }
+
+      -- its Jacobian is by the shares
+      weights-agree : (j l : ℕ) → j ≤ d → l ≤ d → weightsAt d (R ^ d) pattern names-list along x (getD (row sorted (suc d) x) j 0) (getD (row cells (suc d) (x / R ^ d)) l 0) ≡ share d R n ks (getD (row sorted (suc d) x) j 0) (getD (row cells (suc d) (x / R ^ d)) l 0)
+      weights-agree j l lj ll = weight-share (getD (row sorted (suc d) x) j 0) (getD (row cells (suc d) (x / R ^ d)) l 0) (in-names j lj) (in-word l ll)
+
+      pub whole-is : wholeAt d (R ^ d) pattern names-list sorted along cells x ≡ wholeOf d (share d R n ks) (row cells (suc d) (x / R ^ d)) (row sorted (suc d) x)
+      whole-is =
+          nine-ext d (pos 0) (jacobian (weightsAt d (R ^ d) pattern names-list along x) (row cells (suc d) (x / R ^ d)) (row sorted (suc d) x)) (jacobian (share d R n ks) (row cells (suc d) (x / R ^ d)) (row sorted (suc d) x))
+          (λ j l lj ll. cc (weights-agree (suc j) (suc l) (omega arith) (omega arith), weights-agree 0 (suc l) (omega arith) (omega arith)))
+
+      pub float-is : floatAt d R (R ^ d) pattern names-list sorted along cells x ≡ floatOf d R (share d R n ks) (row cells (suc d) (x / R ^ d)) (row sorted (suc d) x)
+      float-is =
+          nine-ext d nought (floatStep R (weightsAt d (R ^ d) pattern names-list along x) (row cells (suc d) (x / R ^ d)) (row sorted (suc d) x)) (floatStep R (share d R n ks) (row cells (suc d) (x / R ^ d)) (row sorted (suc d) x))
+          (λ j l lj ll. cc (weights-agree (suc j) (suc l) (omega arith) (omega arith), weights-agree 0 (suc l) (omega arith) (omega arith)))
+
+      pub family : m * R ^ d * suc d ≤ length sorted → Family d (R ^ d) pattern names-list sorted along cells x
+      family long = record {
+        some = size-some;
+        seated = seated;
+        in-pattern = omega (arith, mul-le-mul-right (suc d * suc d) q-in, front-long (R ^ d * (suc d * suc d)) pattern (ap length (h .pattern-is) ∙ flat-count d R));
+        in-words = omega (arith, mul-le-mul-right (suc d) b, h .names-long);
+        in-sorted = omega (arith, mul-le-mul-right (suc d) b);
+        in-along = omega (arith, mul-le-mul-right (suc d) a-in, h .words-of .along-long);
+        in-cells = omega (arith, mul-le-mul-right (suc d) a-in, h .words-of .cells-long);
+      }
