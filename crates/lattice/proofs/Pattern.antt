@@ -126,7 +126,7 @@ row-count d R =
     gather-long (map (weights R)) (suc d) (children d R) (λ w m. length-map w (weights R) ∙ child-corners d R w m) ∙ ap (λ (n : ℕ). n * suc d) (count d R)
 
 -- rows of one length, by number
-gather-at : {A B : Type 0} (f : A → List B) (n : ℕ) (z : B) (y : A) (l : List A) → ((x : A) → List·Memᴰ x l → length (f x) ≡ n) → (c i : ℕ) → c < length l → i < n
+pub gather-at : {A B : Type 0} (f : A → List B) (n : ℕ) (z : B) (y : A) (l : List A) → ((x : A) → List·Memᴰ x l → length (f x) ≡ n) → (c i : ℕ) → c < length l → i < n
     → getD (gather f l) (c * n + i) z ≡ getD (f (getD l c y)) i z
 gather-at f n z y [] h c i b a = absurd (not-suc-le-zero b)
 gather-at {A} {B} f n z y (x ∷ l) h zero i b a =

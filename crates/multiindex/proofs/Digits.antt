@@ -4,7 +4,7 @@ use mathlib.Core.Bool.{Bool, true, false}
 use mathlib.Core.List.{List, [], _∷_, _++_}
 use Prim.Native.Nat.{ℕ, zero, suc, _+_, _*_, _-_, _^_, _≤_, _<_}
 use native.Mathlib.Numerals.{add-one}
-use native.Mathlib.Nat.{pow-suc, pow-le-pow-left, le-trans, le-of-eq}
+use native.Mathlib.Nat.{pow-zero, pow-suc, pow-le-pow-left, le-trans, le-of-eq}
 use native.Mathlib.Omega.{arith}
 use lib.ListN.{length, getD, drop, set, replicate, length-append, length-drop, length-replicate, replicate-append-replicate, drop-of-length-le}
 use lib.Seq.{drop-cons, append-snoc, getD-at}
@@ -88,3 +88,7 @@ carry-length false x s t e = ap suc (sym e)
 pub raised-length : (n : ℕ) (s : List ℕ) → length (raised n s) ≡ length s
 raised-length n [] = refl
 raised-length n (x ∷ s) = carry-length (ltb (suc x) n) x s (raised n s) (sym (raised-length n s))
+
+pub power-most : (d n : ℕ) → d ≤ 3 → n ≤ 65536 → n ^ d ≤ 281474976710656
+power-most zero n h l = omega (arith, pow-zero n)
+power-most (suc d) n h l = le-trans (le-of-eq (pow-suc n d)) (power-fits d n h l)

@@ -52,3 +52,6 @@ axis-at d k i h l m =
 
 pub small : (i : ℕ) → i < 18 → getD table i 0 < 3
 small i h = ltb-true (getD table i 0) 3 (at-below 18 (λ i. ltb (getD table i 0) 3) refl i h)
+
+pub count-some : (d : ℕ) → d ≤ 3 → 0 < length (orders d)
+count-some d h = ltb-true 0 (length (orders d)) (at-below 4 (λ d. ltb 0 (length (orders d))) refl d (suc-le-suc h))

@@ -1,152 +1,210 @@
--- The pattern written base by base: the whole is what the bases give one after the other. Assumes nothing.
+-- The pattern written chain by chain. Assumes nothing.
 use mathlib.Core.Path.{_≡_, refl, sym, ap, _∙_, subst}
 use mathlib.Core.Bool.{Bool, true, false}
 use mathlib.Core.List.{List, [], _∷_, _++_, map, append-assoc}
-use Prim.Native.Nat.{ℕ, suc, _+_, _-_, _^_, _≤_, _<_}
+use Prim.Native.Nat.{ℕ, zero, suc, _+_, _*_, _-_, _^_, _≤_, _<_}
 use native.Mathlib.Numerals.{add-one}
-use native.Mathlib.Nat.{le-of-eq}
+use native.Mathlib.Nat.{le-of-eq, suc-mul, zero-mul, not-suc-le-zero, le-of-suc-le-suc, mul-le-mul-right}
+use native.Mathlib.Decide.{decLt}
 use native.Mathlib.Omega.{arith}
-use lib.ListN.{length, getD, take, drop, replicate, length-append, length-drop}
-use lib.Seq.{take-at, length-take-le}
+use lib.Dec.{ltb}
+use lib.ListN.{length, getD, take, drop, replicate, length-append, length-drop, length-map, drop-of-length-le}
+use lib.Seq.{take-at, length-take-le, drop-cons}
+use borrow.Author.Tests.{ltb-true, ltb-false}
 use Rattle.refusal.specs.Lent.{onto}
-use Rattle.multiindex.specs.Permutation.{gather, orders}
+use Rattle.multiindex.specs.Permutation.{gather, orders, orderOf}
 use Rattle.multiindex.specs.Cartesian.{raised}
 use Rattle.multiindex.proofs.Digits.{raised-length}
 use Rattle.multiindex.proofs.Runs.{digits-first, digits-next}
 use Rattle.lattice.specs.Lattice.{weights, chain}
-use Rattle.lattice.specs.Children.{bases, qualifies, every, pick, select}
+use Rattle.lattice.specs.Children.{bases, qualifies, every, pick, select, chains}
 use Rattle.lattice.specs.Pattern.{flat, patternOf}
 use Rattle.lattice.proofs.Enumerate.{of-digits}
-use Rattle.lattice.proofs.Count.{length-digits}
-use Rattle.lattice.proofs.Pattern.{flat-count}
-use Rattle.pattern.specs.Chains.{keeps, weighed, ofBase, Ready}
+use Rattle.lattice.proofs.Count.{length-gather, length-digits}
+use Rattle.lattice.proofs.Pattern.{gather-at, flat-count}
+use Rattle.pattern.specs.Chains.{chainAt, keeps, weighed, given, stepOf, Ready, Stands, Steps}
+use Rattle.pattern.specs.declared.Cursor.{Cursor}
 use Rattle.pattern.proofs.Chains.{mem-getD}
 use Rattle.pattern.proofs.Written.{Written, written-none, written-length, written-room, written-tail, written-end}
-use Rattle.pattern.proofs.Placed.{gather-step, gather-end}
 
--- gathering goes through appending, selecting and gathering
+-- the whole is what the chains give, one after the other
 flat-append : (a b : List (List ℕ)) → flat (a ++ b) ≡ flat a ++ flat b
 flat-append [] b = refl
 flat-append (x ∷ a) b = ap (λ (l : List ℕ). x ++ l) (flat-append a b) ∙ sym (append-assoc x (flat a) (flat b))
 
-module _ {A : Type 0} where
-  gather-append : {B : Type 0} (f : A → List B) (a b : List A) → gather f (a ++ b) ≡ gather f a ++ gather f b
-  gather-append f [] b = refl
-  gather-append {B} f (x ∷ a) b = ap (λ (l : List B). f x ++ l) (gather-append f a b) ∙ sym (append-assoc (f x) (gather f a) (gather f b))
-
-  pick-append : (t : Bool) (x : A) (a b : List A) → pick t (x ∷ (a ++ b)) (a ++ b) ≡ pick t (x ∷ a) a ++ b
-  pick-append true x a b = refl
-  pick-append false x a b = refl
-
-  select-append : (t : A → Bool) (a b : List A) → select t (a ++ b) ≡ select t a ++ select t b
-  select-append t [] b = refl
-  select-append t (x ∷ a) b =
-      ap (λ (l : List A). pick (t x) (x ∷ l) l) (select-append t a b) ∙ pick-append (t x) x (select t a) (select t b)
-
--- what one base gives
-pick-gives : (R : ℕ) (t : Bool) (c : List (List ℕ)) (l : List (List (List ℕ)))
+picked : (R : ℕ) (t : Bool) (c : List (List ℕ)) (l : List (List (List ℕ)))
     → flat (gather (map (weights R)) (pick t (c ∷ l) l)) ≡ pick t (weighed R c) [] ++ flat (gather (map (weights R)) l)
-pick-gives R true c l = flat-append (map (weights R) c) (gather (map (weights R)) l)
-pick-gives R false c l = refl
+picked R true c l = flat-append (map (weights R) c) (gather (map (weights R)) l)
+picked R false c l = refl
 
-one-base : (R : ℕ) (s : List ℕ) (ps : List (List ℕ))
-    → flat (gather (map (weights R)) (select (every (qualifies R)) (map (chain s) ps))) ≡ gather (λ p. pick (keeps R (chain s p)) (weighed R (chain s p)) []) ps
-one-base R s [] = refl
-one-base R s (p ∷ ps) =
-    pick-gives R (keeps R (chain s p)) (chain s p) (select (every (qualifies R)) (map (chain s) ps))
-    ∙ ap (λ (l : List ℕ). pick (keeps R (chain s p)) (weighed R (chain s p)) [] ++ l) (one-base R s ps)
+by-chains : (R : ℕ) (l : List (List (List ℕ))) → flat (gather (map (weights R)) (select (every (qualifies R)) l)) ≡ gather (given R) l
+by-chains R [] = refl
+by-chains R (c ∷ l) =
+    picked R (keeps R c) c (select (every (qualifies R)) l) ∙ ap (λ (x : List ℕ). given R c ++ x) (by-chains R l)
 
-by-bases : (d R : ℕ) (l : List (List ℕ))
-    → flat (gather (map (weights R)) (select (every (qualifies R)) (gather (λ s. map (chain s) (orders d)) l))) ≡ gather (ofBase d R) l
-by-bases d R [] = refl
-by-bases d R (s ∷ l) =
-    let a = map (chain s) (orders d) in
-    let b = gather (λ s. map (chain s) (orders d)) l in
-    ap (λ (x : List (List (List ℕ))). flat (gather (map (weights R)) x)) (select-append (every (qualifies R)) a b)
-    ∙ ap flat (gather-append (map (weights R)) (select (every (qualifies R)) a) (select (every (qualifies R)) b))
-    ∙ flat-append (gather (map (weights R)) (select (every (qualifies R)) a)) (gather (map (weights R)) (select (every (qualifies R)) b))
-    ∙ ap (λ (x : List ℕ). x ++ flat (gather (map (weights R)) (select (every (qualifies R)) b))) (one-base R s (orders d))
-    ∙ ap (λ (x : List ℕ). ofBase d R s ++ x) (by-bases d R l)
+pub pattern-chains : (d R : ℕ) → flat (patternOf d R) ≡ gather (given R) (chains d R)
+pattern-chains d R = by-chains R (chains d R)
 
-pub pattern-bases : (d R : ℕ) → flat (patternOf d R) ≡ gather (ofBase d R) (bases d R)
-pattern-bases d R = by-bases d R (bases d R)
+-- what is left of a gathered list, one entry at a time
+gather-step : {A B : Type 0} (f : A → List B) (l : List A) (k : ℕ) (z : A) → k < length l → gather f (drop k l) ≡ f (getD l k z) ++ gather f (drop (k + 1) l)
+gather-step f l k z h = ap (gather f) (drop-cons l k z h) ∙ ap (λ (n : ℕ). f (getD l k z) ++ gather f (drop n l)) (sym (add-one k))
 
--- The children of the first b bases are written, and `base` holds base number b in its front.
-pub record Filled (d R : ℕ) (before : List ℕ) (b : ℕ) (base : List ℕ) (at : ℕ) (to : List ℕ) : Type 0 where
-  pub turn : b ≤ length (bases d R)
-  pub wide : d ≤ length base
-  pub here : b < length (bases d R) → take d base ≡ getD (bases d R) b []
-  pub written : Written (flat (patternOf d R)) before (gather (ofBase d R) (drop b (bases d R))) at to
+gather-end : {A B : Type 0} (f : A → List B) (l : List A) (k : ℕ) → length l ≤ k → gather f (drop k l) ≡ []
+gather-end f l k h = ap (gather f) (drop-of-length-le l {i = k} h)
+
+map-at : {A B : Type 0} (f : A → B) (l : List A) (k : ℕ) (z : B) (y : A) → k < length l → getD (map f l) k z ≡ f (getD l k y)
+map-at f [] k z y h = absurd (not-suc-le-zero h)
+map-at f (x ∷ l) zero z y h = refl
+map-at f (x ∷ l) (suc k) z y h = map-at f l k z y (le-of-suc-le-suc h)
+
+-- the chains, by base and order
+pub chains-length : (d R : ℕ) → length (chains d R) ≡ suc R ^ d * length (orders d)
+chains-length d R =
+    length-gather (λ s. map (chain s) (orders d)) (length (orders d)) (bases d R) (λ s. length-map (orders d) (chain s))
+    ∙ ap (λ (n : ℕ). n * length (orders d)) (length-digits d (suc R))
+
+chains-at : (d R b k : ℕ) → b < length (bases d R) → k < length (orders d)
+    → getD (chains d R) (b * length (orders d) + k) [] ≡ chain (getD (bases d R) b []) (orderOf d k)
+chains-at d R b k h l =
+    gather-at (λ s. map (chain s) (orders d)) (length (orders d)) [] [] (bases d R) (λ s m. length-map (orders d) (chain s)) b k h l
+    ∙ map-at (chain (getD (bases d R) b [])) (orders d) k [] [] l
+
+-- The cursor stands at chain number m: at base number b and at its axis order.
+pub record Reached (d R m : ℕ) (c : Cursor) : Type 0 where
+  pub b : ℕ
+  pub number : m ≡ b * length (orders d) + c .order
+  pub order : c .order < length (orders d)
+  pub wide : d ≤ length (c .base)
+  pub here : b < length (bases d R) → take d (c .base) ≡ getD (bases d R) b []
+
+module _ (d R m : ℕ) (c : Cursor) (w : Reached d R m c) where
+  module _ (l : m < length (chains d R)) where
+    base-there : w .b < length (bases d R)
+    base-there =
+        elim (decLt (w .b) (length (bases d R))) [
+          | yes h ↦ h
+          | no h ↦
+              absurd
+              (omega (
+                arith,
+                l,
+                w .number,
+                length-gather (λ s. map (chain s) (orders d)) (length (orders d)) (bases d R) (λ s. length-map (orders d) (chain s)),
+                mul-le-mul-right {m = length (bases d R)} {n = w .b} (length (orders d)) (omega arith),
+              ))
+        ]
+
+    pub chain-there : getD (chains d R) m [] ≡ chainAt d c
+    chain-there =
+        ap (λ (n : ℕ). getD (chains d R) n []) (w .number)
+        ∙ chains-at d R (w .b) (c .order) base-there (w .order)
+        ∙ ap (λ (s : List ℕ). chain s (orderOf d (c .order))) (sym (w .here base-there))
+
+    pub digits-there : (j : ℕ) → j < d → getD (take d (c .base)) j 0 < suc R
+    digits-there j h =
+        subst (λ (s : List ℕ). getD s j 0 < suc R) (sym (w .here base-there))
+        (of-digits d (suc R) (getD (bases d R) (w .b) []) (mem-getD (bases d R) (w .b) [] base-there) .1 j h)
+
+    pub reached-step : Reached d R (m + 1) (stepOf d (suc R) c)
+    reached-step = go (ltb (suc (c .order)) (length (orders d))) refl
+      where
+        n : length (raised (suc R) (take d (c .base))) ≡ d
+        n = raised-length (suc R) (take d (c .base)) ∙ length-take-le d (c .base) (w .wide)
+
+        broad : d ≤ length (raised (suc R) (take d (c .base)) ++ drop d (c .base))
+        broad = omega (arith, n, length-append (raised (suc R) (take d (c .base))) (drop d (c .base)))
+
+        go : (t : Bool) → ltb (suc (c .order)) (length (orders d)) ≡ t
+            → Reached d R (m + 1)
+            (pick t (record { base = c .base; order = suc (c .order) }) (record { base = raised (suc R) (take d (c .base)) ++ drop d (c .base); order = 0 }))
+        go true e = record {
+          b = w .b;
+          number = omega (arith, w .number);
+          order = ltb-true (suc (c .order)) (length (orders d)) e;
+          wide = w .wide;
+          here = w .here;
+        }
+        go false e = record {
+          b = suc (w .b);
+          number = omega (arith, w .number, w .order, ltb-false (suc (c .order)) (length (orders d)) e, suc-mul (w .b) (length (orders d)));
+          order = omega (arith, w .order);
+          wide = broad;
+          here = λ h.
+              take-at (raised (suc R) (take d (c .base))) (drop d (c .base)) d n
+              ∙ ap (raised (suc R)) (w .here base-there)
+              ∙ sym (digits-next d R (w .b) h);
+        }
+
+-- The first m chains have given what they give, and the cursor stands at the next.
+pub record Filled (d R : ℕ) (before : List ℕ) (m : ℕ) (c : Cursor) (at : ℕ) (to : List ℕ) : Type 0 where
+  pub turn : m ≤ length (chains d R)
+  pub reached : Reached d R m c
+  pub written : Written (flat (patternOf d R)) before (gather (given R) (drop m (chains d R))) at to
 
 module _ (d R : ℕ) (before : List ℕ) (pre : Ready d R (length before)) where
   fits : length (flat (patternOf d R)) ≤ length before
   fits = subst (λ (n : ℕ). n ≤ length before) (sym (flat-count d R)) (pre .room)
 
-  pub filled-none : (base : List ℕ) → d ≤ length base → take d base ≡ replicate d 0 → Filled d R before 0 base 0 before
-  filled-none base w e = record {
+  pub filled-none : (c : Cursor) → d ≤ length (c .base) → take d (c .base) ≡ replicate d 0 → c .order ≡ 0 → 0 < length (orders d) → Filled d R before 0 c 0 before
+  filled-none c w e o h = record {
     turn = omega arith;
-    wide = w;
-    here = λ _. e ∙ sym (digits-first d R);
+    reached = record {
+      b = 0;
+      number = omega (arith, zero-mul (length (orders d)));
+      order = omega arith;
+      wide = w;
+      here = λ _. e ∙ sym (digits-first d R);
+    };
     written =
-        subst (λ (x : List ℕ). Written (flat (patternOf d R)) before x 0 before) (pattern-bases d R) (written-none (flat (patternOf d R)) before);
+        subst (λ (x : List ℕ). Written (flat (patternOf d R)) before x 0 before) (pattern-chains d R) (written-none (flat (patternOf d R)) before);
   }
 
-  module _ (b : ℕ) (base : List ℕ) (at : ℕ) (to : List ℕ) (w : Filled d R before b base at to) where
+  module _ (m : ℕ) (c : Cursor) (at : ℕ) (to : List ℕ) (w : Filled d R before m c at to) where
     pub filled-long : length to ≡ length before
     filled-long = written-length _ _ _ _ _ fits (w .written)
 
     pub filled-at : at ≤ length to
     filled-at = omega (arith, written-room _ _ _ _ _ fits (w .written))
 
-    module _ (l : b < length (bases d R)) where
-      next : gather (ofBase d R) (drop b (bases d R)) ≡ ofBase d R (take d base) ++ gather (ofBase d R) (drop (b + 1) (bases d R))
-      next =
-          gather-step (ofBase d R) (bases d R) b [] l
-          ∙ ap (λ (s : List ℕ). ofBase d R s ++ gather (ofBase d R) (drop (b + 1) (bases d R))) (sym (w .here l))
+    pub filled-stands : Stands d R c
+    filled-stands = record { axes = pre .axes; times = pre .times; wide = w .reached .wide; order = w .reached .order }
 
-      pub filled-room : at + length (ofBase d R (take d base)) ≤ length to
+    module _ (l : m < length (chains d R)) where
+      next : gather (given R) (drop m (chains d R)) ≡ given R (chainAt d c) ++ gather (given R) (drop (m + 1) (chains d R))
+      next =
+          gather-step (given R) (chains d R) m [] l
+          ∙ ap (λ (x : List (List ℕ)). given R x ++ gather (given R) (drop (m + 1) (chains d R))) (chain-there d R m c (w .reached) l)
+
+      pub filled-room : at + length (given R (chainAt d c)) ≤ length to
       filled-room =
           omega (
             arith,
             written-room _ _ _ _ _ fits (w .written),
             ap length next,
-            length-append (ofBase d R (take d base)) (gather (ofBase d R) (drop (b + 1) (bases d R))),
+            length-append (given R (chainAt d c)) (gather (given R) (drop (m + 1) (chains d R))),
           )
 
-      -- the part from there on has room for what this base gives
-      pub filled-part : length (ofBase d R (take d base)) ≤ length (take (length to - at) (drop at to))
+      -- the part from there on has room for what this chain gives
+      pub filled-part : length (given R (chainAt d c)) ≤ length (take (length to - at) (drop at to))
       filled-part =
           omega (arith, filled-room, filled-at, length-take-le (length to - at) (drop at to) (le-of-eq (sym (length-drop at to))))
 
-      pub filled-digits : (j : ℕ) → j < d → getD (take d base) j 0 < suc R
-      filled-digits j h =
-          subst (λ (s : List ℕ). getD s j 0 < suc R) (sym (w .here l))
-          (of-digits d (suc R) (getD (bases d R) b []) (mem-getD (bases d R) b [] l) .1 j h)
+      pub filled-steps : Steps d (suc R) c
+      filled-steps =
+          record { axes = pre .axes; wide = w .reached .wide; order = w .reached .order; digits = digits-there d R m c (w .reached) l }
 
-      pub filled-next : (k used : ℕ) (ys new : List ℕ) → length to ≤ at + k → used ≡ length (ofBase d R (take d base)) → ys ≡ onto (ofBase d R (take d base)) (take k (drop at to))
-          → new ≡ raised (suc R) (take d base)
-          → Filled d R before (b + 1) (new ++ drop d base) (at + used) (take at to ++ (ys ++ drop k (drop at to)))
-      filled-next k used ys new h u e q =
-          let n : length new ≡ d = ap length q ∙ raised-length (suc R) (take d base) ∙ length-take-le d base (w .wide) in
-          record {
-            turn = omega arith;
-            wide = omega (arith, length-append new (drop d base));
-            here = λ m.
-                take-at new (drop d base) d n
-                ∙ q
-                ∙ ap (raised (suc R)) (w .here l)
-                ∙ sym (digits-next d R b (omega arith))
-                ∙ ap (λ (i : ℕ). getD (bases d R) i []) (sym (add-one b));
-            written =
-                subst
-                (λ (x : ℕ).
-                Written (flat (patternOf d R)) before (gather (ofBase d R) (drop (b + 1) (bases d R))) (at + x) (take at to ++ (ys ++ drop k (drop at to))))
-                (sym u)
-                (written-tail _ _ _ _ _ fits (w .written) (ofBase d R (take d base)) (gather (ofBase d R) (drop (b + 1) (bases d R))) next k ys h e);
-          }
+      pub filled-next : (k used : ℕ) (ys : List ℕ) → length to ≤ at + k → used ≡ length (given R (chainAt d c)) → ys ≡ onto (given R (chainAt d c)) (take k (drop at to))
+          → Filled d R before (m + 1) (stepOf d (suc R) c) (at + used) (take at to ++ (ys ++ drop k (drop at to)))
+      filled-next k used ys h u e = record {
+        turn = omega arith;
+        reached = reached-step d R m c (w .reached) l;
+        written =
+            subst
+            (λ (x : ℕ).
+            Written (flat (patternOf d R)) before (gather (given R) (drop (m + 1) (chains d R))) (at + x) (take at to ++ (ys ++ drop k (drop at to))))
+            (sym u)
+            (written-tail _ _ _ _ _ fits (w .written) (given R (chainAt d c)) (gather (given R) (drop (m + 1) (chains d R))) next k ys h e);
+      }
 
-    pub filled-end : length (bases d R) ≤ b → to ≡ onto (flat (patternOf d R)) before
-    filled-end l = written-end _ _ _ _ _ fits (w .written) (gather-end (ofBase d R) (bases d R) b l)
-
-pub bases-length : (d R : ℕ) → length (bases d R) ≡ suc R ^ d
-bases-length d R = length-digits d (suc R)
+    pub filled-end : length (chains d R) ≤ m → to ≡ onto (flat (patternOf d R)) before
+    filled-end l = written-end _ _ _ _ _ fits (w .written) (gather-end (given R) (chains d R) m l)

@@ -2,5 +2,5 @@ pub mod Written
 pub mod Points
 pub mod Chains
 pub mod Walked
-pub mod Placed
+pub mod Cursors
 pub mod Filled

@@ -8,18 +8,23 @@
 ghost use mathlib.Core.Path.{_≡_};
 ghost use mathlib.Core.Bool.{true};
 ghost use Prim.Native.Nat.{suc};
-ghost use lib.ListN.{length, take};
+ghost use lib.ListN.{length};
 ghost use Rattle.refusal.specs.Lent.{onto};
-ghost use Rattle.multiindex.specs.Permutation.{orderOf};
-ghost use Rattle.lattice.specs.Lattice.{weights, chain};
+ghost use Rattle.lattice.specs.Lattice.{weights};
 ghost use Rattle.lattice.specs.Children.{qualifies};
 ghost use Rattle.lattice.specs.Pattern.{flat, patternOf};
-ghost use Rattle.pattern.specs.Chains.{keeps, weighed, ofBase, Along, Kept, Based, Ready};
+ghost use Rattle.pattern.specs.Chains.{chainAt, keeps, weighed, given, stepOf, Stands, Steps, Kept, Fits, Ready};
 use multiindex::cartesian;
 use multiindex::permutation;
 use refusal::MOST_DIMENSION;
 
 const AXES: usize = MOST_DIMENSION as usize;
+
+// Where the walk through all chains stands: a base, in the first d numbers, and the number of an axis order.
+struct Cursor {
+    base: [u32; AXES],
+    order: usize,
+}
 
 // Whether the point s qualifies.
 fn falls(r: u32, s: &[u32]) -> bool
@@ -54,12 +59,13 @@ fn weigh(r: u32, s: &[u32], to: &mut [u32])
     to[j] = top;
 }
 
-// Whether all points qualify of the chain from the base along axis order k.
-fn kept(d: usize, r: u32, base: [u32; AXES], k: usize) -> bool
-    requires { ⌜ Along d r k ⌝ }
-    ensures { λ b. ⌜ b ≡ keeps r (chain (take d base) (orderOf d k)) ⌝ }
+// Whether all points of the cursor's chain qualify.
+fn kept(d: usize, r: u32, c: Cursor) -> bool
+    requires { ⌜ Stands d r c ⌝ }
+    ensures { λ b. ⌜ b ≡ keeps r (chainAt d c) ⌝ }
 {
-    let mut s = base;
+    let mut s = c.base;
+    let k = c.order;
     let mut i = 0;
     while i < d {
         if !falls(r, &s[..d]) {
@@ -72,13 +78,14 @@ fn kept(d: usize, r: u32, base: [u32; AXES], k: usize) -> bool
     falls(r, &s[..d])
 }
 
-// Writes the weights of the points of a chain that is kept, into a list as long.
-fn write(d: usize, r: u32, base: [u32; AXES], k: usize, to: &mut [u32])
-    requires { ⌜ Kept d r base k (length (now to)) ⌝ }
-    ensures { λ _. ⌜ now (to .exit) ≡ weighed r (chain (take d base) (orderOf d k)) ⌝ }
+// Writes the weights of the points of the cursor's chain, which is kept, into a list as long.
+fn write(d: usize, r: u32, c: Cursor, to: &mut [u32])
+    requires { ⌜ Kept d r c (length (now to)) ⌝ }
+    ensures { λ _. ⌜ now (to .exit) ≡ weighed r (chainAt d c) ⌝ }
 {
     let n = d + 1;
-    let mut s = base;
+    let mut s = c.base;
+    let k = c.order;
     let mut at = 0;
     let mut i = 0;
     while i < d {
@@ -92,43 +99,51 @@ fn write(d: usize, r: u32, base: [u32; AXES], k: usize, to: &mut [u32])
     weigh(r, &s[..d], &mut to[at..]);
 }
 
-// Writes the children of one base, order by order, and says how many numbers that took.
-fn write_base(d: usize, r: u32, base: [u32; AXES], to: &mut [u32]) -> usize
-    requires { ⌜ Based d r base (length (now to)) ⌝ }
-    ensures used { λ n. ⌜ n ≡ length (ofBase d r (take d base)) ⌝ }
-    ensures list { λ _. ⌜ now (to .exit) ≡ onto (ofBase d r (take d base)) (now (to .entry)) ⌝ }
+// Writes what the cursor's chain gives, and says how many numbers that took: none where the chain is not kept.
+fn give(d: usize, r: u32, c: Cursor, to: &mut [u32]) -> usize
+    requires { ⌜ Fits d r c (length (now to)) ⌝ }
+    ensures used { λ n. ⌜ n ≡ length (given r (chainAt d c)) ⌝ }
+    ensures list { λ _. ⌜ now (to .exit) ≡ onto (given r (chainAt d c)) (now (to .entry)) ⌝ }
 {
-    let orders = permutation::count(d);
-    let size = (d + 1) * (d + 1);
-    let mut at = 0;
-    let mut k = 0;
-    while k < orders {
-        if !kept(d, r, base, k) {
-            k += 1;
-            continue;
-        }
-        let end = at + size;
-        write(d, r, base, k, &mut to[at..end]);
-        at = end;
-        k += 1;
+    if !kept(d, r, c) {
+        return 0;
     }
-    at
+    let size = (d + 1) * (d + 1);
+    write(d, r, c, &mut to[..size]);
+    size
 }
 
-// Writes the pattern of a cell of dimension d refined by r, base by base: for each child, for each of its corners, the weights over the places of the cell's word.
+// The cursor's next place: the next axis order, and after the last one the next base with digits below n and the first order.
+fn step(d: usize, n: u32, c: Cursor) -> Cursor
+    requires { ⌜ Steps d n c ⌝ }
+    ensures { λ s. ⌜ s ≡ stepOf d n c ⌝ }
+{
+    let next = c.order + 1;
+    let mut base = c.base;
+    if next < permutation::count(d) {
+        return Cursor { base, order: next };
+    }
+    cartesian::next(&mut base[..d], n);
+    Cursor { base, order: 0 }
+}
+
+// Writes the pattern of a cell of dimension d refined by r, chain by chain: for each child, for each of its corners, the weights over the places of the cell's word.
 pub fn pattern(d: usize, r: u32, to: &mut [u32])
     requires { ⌜ Ready d r (length (now to)) ⌝ }
     ensures { λ _. ⌜ now (to .exit) ≡ onto (flat (patternOf d r)) (now (to .entry)) ⌝ }
 {
     let n = r + 1;
-    let bases = cartesian::count(d, n as usize);
-    let mut base = [0; AXES];
+    let chains = cartesian::count(d, n as usize) * permutation::count(d);
+    let mut c = Cursor {
+        base: [0; AXES],
+        order: 0,
+    };
     let mut at = 0;
-    let mut b = 0;
-    while b < bases {
-        let used = write_base(d, r, base, &mut to[at..]);
-        cartesian::next(&mut base[..d], n);
+    let mut m = 0;
+    while m < chains {
+        let used = give(d, r, c, &mut to[at..]);
+        c = step(d, n, c);
         at += used;
-        b += 1;
+        m += 1;
     }
 }

@@ -11,43 +11,76 @@ use Rattle.refusal.specs.declared.Answer.the-variants.{Fine, Refused}
 use Rattle.quotient.specs.declared.Parity.{Parity}
 use Rattle.quotient.specs.declared.Parity.the-variants as Parity
 use Rattle.quotient.specs.Fold.{some}
-use Rattle.quotient.specs.Shape.{reflectsOdd, parityOf, checkOf, badReflection, shortAxis, cellsOf, verticesOf}
+use Rattle.refusal.specs.declared.Counted.{Counted}
+use Rattle.refusal.specs.declared.Counted.the-variants as Counted
+use Rattle.refusal.specs.Table.{badDimension, tooManyCells, tooManyVertices, shortAxisNumber, badReflectionNumber, badSide}
+use Rattle.refusal.specs.Limits.{mostDimension, mostCells, mostVertices}
+use Rattle.sides.specs.Counts.{firstBad}
+use Rattle.quotient.specs.Shape.{reflectsOdd, parityOf, shapeCheck, checkOf, sidesCheckOf, nverticesOf, badReflection, shortAxis, cellsOf, verticesOf}
 
+-- ---- from 9 on
+module _ (g : Grid) (b : ℕ) (eb : b ≡ badReflection g) where
+  pub is-9 : b < g .d → Refused badReflectionNumber b ≡ shapeCheck g
+  is-9 h = rw (← eb, lt-ltb _ _ h)
+
+  module _ (hb : g .d ≤ b) (s : ℕ) (es : s ≡ shortAxis g) where
+    pub is-8 : s < g .d → Refused shortAxisNumber s ≡ shapeCheck g
+    is-8 h = rw (← eb, le-ltb _ _ hb, ← es, lt-ltb _ _ h)
+
+    module _ (hs : g .d ≤ s) (n : ℕ) (en : n ≡ min (cellsOf g) (mostCells + 1)) where
+      pub is-3 : mostCells < n → Refused tooManyCells 0 ≡ shapeCheck g
+      is-3 h = let m : mostCells < cellsOf g = omega arith in rw (← eb, le-ltb _ _ hb, ← es, le-ltb _ _ hs, lt-ltb _ _ m)
+
+      module _ (hn : n ≤ mostCells) (k : ℕ) (ek : k ≡ min (verticesOf g) (mostVertices + 1)) where
+        cells-fine : cellsOf g ≤ mostCells
+        cells-fine = omega arith
+
+        pub is-6 : mostVertices < k → Refused tooManyVertices 0 ≡ shapeCheck g
+        is-6 h = let m : mostVertices < verticesOf g = omega arith in rw (← eb, le-ltb _ _ hb, ← es, le-ltb _ _ hs, le-ltb _ _ cells-fine, lt-ltb _ _ m)
+
+        pub is-fine : k ≤ mostVertices → Fine ≡ shapeCheck g
+        is-fine h = let m : verticesOf g ≤ mostVertices = omega arith in rw (← eb, le-ltb _ _ hb, ← es, le-ltb _ _ hs, le-ltb _ _ cells-fine, le-ltb _ _ m)
+
+-- ---- before it
 module _ (g : Grid) where
-  pub is-1 : g .d < 1 → Refused 1 0 ≡ checkOf g
+  pub is-1 : g .d < 1 → Refused badDimension 0 ≡ checkOf g
   unfolding checkOf
   is-1 h = rw (lt-ltb _ _ h)
 
-  pub is-1-too : 1 ≤ g .d → 3 < g .d → Refused 1 0 ≡ checkOf g
+  pub is-1-too : 1 ≤ g .d → mostDimension < g .d → Refused badDimension 0 ≡ checkOf g
   unfolding checkOf
   is-1-too l h = rw (le-ltb _ _ l, lt-ltb _ _ h)
 
-  module _ (l : 1 ≤ g .d) (u : g .d ≤ 3) where
-    pub is-9 : (b : ℕ) → b ≡ badReflection g → b < g .d → Refused 9 b ≡ checkOf g
-    unfolding checkOf
-    is-9 b e h = rw (le-ltb _ _ l, le-ltb _ _ u, ← e, lt-ltb _ _ h)
+  pub is-rest : 1 ≤ g .d → g .d ≤ mostDimension → (a : Answer) → a ≡ shapeCheck g → a ≡ checkOf g
+  unfolding checkOf
+  is-rest l u a e = rw (le-ltb _ _ l, le-ltb _ _ u) e
 
-    module _ (b : ℕ) (eb : b ≡ badReflection g) (hb : g .d ≤ b) where
-      pub is-8 : (s : ℕ) → s ≡ shortAxis g → s < g .d → Refused 8 s ≡ checkOf g
-      unfolding checkOf
-      is-8 s e h = rw (le-ltb _ _ l, le-ltb _ _ u, ← eb, le-ltb _ _ hb, ← e, lt-ltb _ _ h)
+  pub sides-1 : g .d < 1 → Refused badDimension 0 ≡ sidesCheckOf g
+  unfolding sidesCheckOf
+  sides-1 h = rw (lt-ltb _ _ h)
 
-      module _ (s : ℕ) (es : s ≡ shortAxis g) (hs : g .d ≤ s) where
-        pub is-3 : (n : ℕ) → n ≡ min (cellsOf g) 4097 → 4096 < n → Refused 3 0 ≡ checkOf g
-        unfolding checkOf
-        is-3 n e h = let m : 4096 < cellsOf g = omega arith in rw (le-ltb _ _ l, le-ltb _ _ u, ← eb, le-ltb _ _ hb, ← es, le-ltb _ _ hs, lt-ltb _ _ m)
+  pub sides-1-too : 1 ≤ g .d → mostDimension < g .d → Refused badDimension 0 ≡ sidesCheckOf g
+  unfolding sidesCheckOf
+  sides-1-too l h = rw (le-ltb _ _ l, lt-ltb _ _ h)
 
-        module _ (n : ℕ) (en : n ≡ min (cellsOf g) 4097) (hn : n ≤ 4096) where
-          cells-fine : cellsOf g ≤ 4096
-          cells-fine = omega arith
+  module _ (l : 1 ≤ g .d) (u : g .d ≤ mostDimension) (b : ℕ) (eb : b ≡ firstBad (g .sides) (g .d)) where
+    pub sides-10 : b < g .d → Refused badSide b ≡ sidesCheckOf g
+    unfolding sidesCheckOf
+    sides-10 h = rw (le-ltb _ _ l, le-ltb _ _ u, ← eb, lt-ltb _ _ h)
 
-          pub is-6 : (k : ℕ) → k ≡ min (verticesOf g) 4097 → 4096 < k → Refused 6 0 ≡ checkOf g
-          unfolding checkOf
-          is-6 k e h = let m : 4096 < verticesOf g = omega arith in rw (le-ltb _ _ l, le-ltb _ _ u, ← eb, le-ltb _ _ hb, ← es, le-ltb _ _ hs, le-ltb _ _ cells-fine, lt-ltb _ _ m)
+    pub sides-rest : g .d ≤ b → (a : Answer) → a ≡ shapeCheck g → a ≡ sidesCheckOf g
+    unfolding sidesCheckOf
+    sides-rest h a e = rw (le-ltb _ _ l, le-ltb _ _ u, ← eb, le-ltb _ _ h) e
 
-          pub is-fine : (k : ℕ) → k ≡ min (verticesOf g) 4097 → k ≤ 4096 → Fine ≡ checkOf g
-          unfolding checkOf
-          is-fine k e h = let m : verticesOf g ≤ 4096 = omega arith in rw (le-ltb _ _ l, le-ltb _ _ u, ← eb, le-ltb _ _ hb, ← es, le-ltb _ _ hs, le-ltb _ _ cells-fine, le-ltb _ _ m)
+-- ---- the number of vertices
+module _ (g : Grid) where
+  pub count-refused : (n p : ℕ) → Refused n p ≡ checkOf g → Counted.Refused n p ≡ nverticesOf g
+  unfolding nverticesOf
+  count-refused n p e = rw (← e)
+
+  pub count-is : (n : ℕ) → Fine ≡ checkOf g → n ≡ verticesOf g → Counted.Count n ≡ nverticesOf g
+  unfolding nverticesOf
+  count-is n e h = rw (← e, h)
 
 -- ---- orientation
 module _ (g : Grid) where

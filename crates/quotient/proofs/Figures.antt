@@ -2,6 +2,9 @@
 use mathlib.Core.Path.{_≡_, refl}
 use mathlib.Core.List.{List, [], _∷_, map}
 use Prim.Native.Nat.{ℕ}
+use mathlib.Core.Bool.{false}
+use lib.IntN.{pos}
+use lib.Ieee.{Float, fin}
 use Rattle.quotient.specs.declared.Glue.{Glue}
 use Rattle.quotient.specs.declared.Glue.the-variants.{Open, Periodic, Twisted}
 use Rattle.quotient.specs.declared.Axis.{Axis}
@@ -16,8 +19,11 @@ use Rattle.quotient.specs.Reduce.{restAt, reflectedBy, numberTo, vertexO
 abbrev axis : ℕ → Glue → Axis
 axis n g = record { count = n; glue = g }
 
+abbrev one : Float
+one = fin false 1 (pos 0)
+
 abbrev flat : ℕ → Axis → Axis → Grid
-flat d a b = record { d = d; first = a; second = b; third = axis 0 Open }
+flat d a b = record { d = d; first = a; second = b; third = axis 0 Open; sides = record { first = one; second = one; third = one } }
 
 abbrev first-nine : List ℕ
 first-nine = 0 ∷ 1 ∷ 2 ∷ 3 ∷ 4 ∷ 5 ∷ 6 ∷ 7 ∷ 8 ∷ []

@@ -12,12 +12,17 @@ use Rattle.quotient.specs.declared.Axis.{Axis}
 use Rattle.quotient.specs.declared.Grid.{Grid}
 use Rattle.refusal.specs.declared.Answer.{Answer}
 use Rattle.refusal.specs.declared.Answer.the-variants.{Fine, Refused}
+use Rattle.refusal.specs.Refuse.{refuse}
+use Rattle.refusal.specs.Table.{badDimension, tooManyCells, tooManyVertices, shortAxisNumber, badReflectionNumber, badSide}
+use Rattle.refusal.specs.Limits.{mostDimension, mostCells, mostVertices}
+use Rattle.refusal.proofs.Chain.{refuse-fine}
+use Rattle.sides.specs.Counts.{firstBad}
 use Rattle.quotient.specs.Fold.{product, firstFrom}
-use Rattle.quotient.specs.Shape.{axisOf, closedOf, tooFew, fallsShort, closedAt, cellsOn, gluedOn, pointsOn, badReflection, shortAxis, cellsOf, verticesOf, checkOf}
+use Rattle.quotient.specs.Shape.{axisOf, closedOf, closedFloor, openFloor, tooFew, fallsShort, closedAt, cellsOn, gluedOn, pointsOn, badReflection, shortAxis, cellsOf, verticesOf, shapeCheck, checkOf, sidesCheckOf}
 use Rattle.quotient.specs.declared.GridVertex.{GridVertex}
 use Rattle.quotient.specs.declared.Reduced.{Reduced}
 use Rattle.quotient.specs.declared.Reduced.the-variants as Reduced
-use Rattle.quotient.specs.Reduce.{restAt, reflectedBy, flipsAt, foldedAt, numberTo, reduceOf}
+use Rattle.quotient.specs.Reduce.{restAt, reflectedBy, flipsAt, foldedAt, numberTo, noVertex, vertexOf, reduceOf}
 use Rattle.quotient.proofs.Laws.{none-found, product-mono, product-pos, product-more, place, lt-or-ge}
 use Rattle.quotient.proofs.Points.{coord-le, turn-le}
 
@@ -26,37 +31,66 @@ unfolding reflectedBy
 reflected-le g v k zero = coord-le g v k
 reflected-le g v k (suc a) = turn-le (flipsAt g v a k) (cellsOn g k) (reflectedBy g v k a) _ (reflected-le g v k a) refl
 
-passed : (b : Bool) (n p : ℕ) (x : Answer) → cond b (Refused n p) x ≡ Fine → (b ≡ false) × (x ≡ Fine)
-passed true n p x e = absurd (let z : _≡_ {A = ℕ} 0 1 = cc in let w : ⊥ = omega arith in w)
-passed false n p x e = (refl, e)
+-- no test from 9 on passed
+shape-passed : (b3 b4 b5 b6 : Bool) (m n : ℕ)
+    → refuse b3 badReflectionNumber m (refuse b4 shortAxisNumber n (refuse b5 tooManyCells 0 (refuse b6 tooManyVertices 0 Fine))) ≡ Fine
+    → (b3 ≡ false) × (b4 ≡ false) × (b5 ≡ false) × (b6 ≡ false)
+shape-passed b3 b4 b5 b6 m n e =
+    let p6 : Answer = refuse b6 tooManyVertices 0 Fine in
+    let p5 : Answer = refuse b5 tooManyCells 0 p6 in
+    let p4 : Answer = refuse b4 shortAxisNumber n p5 in
+    let e3 = refuse-fine b3 badReflectionNumber m p4 e in
+    let e4 = refuse-fine b4 shortAxisNumber n p5 (e3 .1) in
+    let e5 = refuse-fine b5 tooManyCells 0 p6 (e4 .1) in
+    let e6 = refuse-fine b6 tooManyVertices 0 Fine (e5 .1) in
+    (e3 .0, e4 .0, e5 .0, e6 .0)
 
--- no test of the table passed
-all-passed : (b1 b2 b3 b4 b5 b6 : Bool) (m n : ℕ)
-    → cond b1 (Refused 1 0) (cond b2 (Refused 1 0) (cond b3 (Refused 9 m) (cond b4 (Refused 8 n) (cond b5 (Refused 3 0) (cond b6 (Refused 6 0) Fine))))) ≡ Fine
-    → (b1 ≡ false) × (b2 ≡ false) × (b3 ≡ false) × (b4 ≡ false) × (b5 ≡ false) × (b6 ≡ false)
-all-passed b1 b2 b3 b4 b5 b6 m n e =
-    let p6 : Answer = cond b6 (Refused 6 0) Fine in
-    let p5 : Answer = cond b5 (Refused 3 0) p6 in
-    let p4 : Answer = cond b4 (Refused 8 n) p5 in
-    let p3 : Answer = cond b3 (Refused 9 m) p4 in
-    let p2 : Answer = cond b2 (Refused 1 0) p3 in
-    let e1 = passed b1 1 0 p2 e in
-    let e2 = passed b2 1 0 p3 (e1 .1) in
-    let e3 = passed b3 9 m p4 (e2 .1) in
-    let e4 = passed b4 8 n p5 (e3 .1) in
-    let e5 = passed b5 3 0 p6 (e4 .1) in
-    let e6 = passed b6 6 0 Fine (e5 .1) in
-    (e1 .0, e2 .0, e3 .0, e4 .0, e5 .0, e6 .0)
+-- a grid that is taken with its sides has sides that fit, and is taken
+module _ (g : Grid) (fine : sidesCheckOf g ≡ Fine) where
+  side-tests : (ltb (g .d) 1 ≡ false) × (ltb mostDimension (g .d) ≡ false) × (ltb (firstBad (g .sides) (g .d)) (g .d) ≡ false) × (shapeCheck g ≡ Fine)
+  unfolding sidesCheckOf
+  side-tests =
+      let b = firstBad (g .sides) (g .d) in
+      let p3 : Answer = refuse (ltb b (g .d)) badSide b (shapeCheck g) in
+      let p2 : Answer = refuse (ltb mostDimension (g .d)) badDimension 0 p3 in
+      let e1 = refuse-fine (ltb (g .d) 1) badDimension 0 p2 fine in
+      let e2 = refuse-fine (ltb mostDimension (g .d)) badDimension 0 p3 (e1 .1) in
+      let e3 = refuse-fine (ltb b (g .d)) badSide b (shapeCheck g) (e2 .1) in
+      (e1 .0, e2 .0, e3 .0, e3 .1)
+
+  pub sides-taken : checkOf g ≡ Fine
+  unfolding checkOf
+  sides-taken = let t = side-tests in rw (t .0, t .1) (t .3)
+
+  pub sides-fit : g .d ≤ firstBad (g .sides) (g .d)
+  sides-fit = ltb-false _ _ (side-tests .2)
 
 module _ (g : Grid) (fine : checkOf g ≡ Fine) where
-  tests : (ltb (g .d) 1 ≡ false) × (ltb 3 (g .d) ≡ false) × (ltb (badReflection g) (g .d) ≡ false) × (ltb (shortAxis g) (g .d) ≡ false) × (ltb 4096 (cellsOf g) ≡ false) × (ltb 4096 (verticesOf g) ≡ false)
+  tests : (ltb (g .d) 1 ≡ false) × (ltb mostDimension (g .d) ≡ false) × (ltb (badReflection g) (g .d) ≡ false) × (ltb (shortAxis g) (g .d) ≡ false) × (ltb mostCells (cellsOf g) ≡ false) × (ltb mostVertices (verticesOf g) ≡ false)
   unfolding checkOf
-  tests = all-passed (ltb (g .d) 1) (ltb 3 (g .d)) (ltb (badReflection g) (g .d)) (ltb (shortAxis g) (g .d)) (ltb 4096 (cellsOf g)) (ltb 4096 (verticesOf g)) (badReflection g) (shortAxis g) fine
+  tests =
+      let p2 : Answer = refuse (ltb mostDimension (g .d)) badDimension 0 (shapeCheck g) in
+      let e1 = refuse-fine (ltb (g .d) 1) badDimension 0 p2 fine in
+      let e2 = refuse-fine (ltb mostDimension (g .d)) badDimension 0 (shapeCheck g) (e1 .1) in
+      let e = shape-passed (ltb (badReflection g) (g .d)) (ltb (shortAxis g) (g .d)) (ltb mostCells (cellsOf g)) (ltb mostVertices (verticesOf g)) (badReflection g) (shortAxis g) (e2 .1) in
+      (e1 .0, e2 .0, e .0, e .1, e .2, e .3)
+
+  pub taken-low : 1 ≤ g .d
+  taken-low = ltb-false _ _ (tests .0)
+
+  pub taken-high : g .d ≤ mostDimension
+  taken-high = ltb-false _ _ (tests .1)
+
+  pub taken-reflections : g .d ≤ badReflection g
+  taken-reflections = ltb-false _ _ (tests .2)
+
+  pub taken-cells : cellsOf g ≤ mostCells
+  taken-cells = ltb-false _ _ (tests .4)
 
   pub taken-short : g .d ≤ shortAxis g
   taken-short = ltb-false _ _ (tests .3)
 
-  pub taken-vertices : verticesOf g ≤ 4096
+  pub taken-vertices : verticesOf g ≤ mostVertices
   taken-vertices = ltb-false _ _ (tests .5)
 
   -- each axis has enough cells
@@ -66,20 +100,20 @@ module _ (g : Grid) (fine : checkOf g ≡ Fine) where
   pub glued-pos : (i : ℕ) → i < g .d → 1 ≤ gluedOn g i
   glued-pos i h = some-point (closedAt g i) (cellsOn g i) (ltb-false _ _ (enough i h))
     where
-      some-point : (b : Bool) (n : ℕ) → cond b 3 1 ≤ n → 1 ≤ cond b n (n + 1)
+      some-point : (b : Bool) (n : ℕ) → cond b closedFloor openFloor ≤ n → 1 ≤ cond b n (n + 1)
       some-point true n l = omega arith
       some-point false n l = omega arith
 
   -- the places up to axis k take no more than all vertices
-  pub room : (k : ℕ) → k < g .d → product (gluedOn g) k * gluedOn g k ≤ 4096
+  pub room : (k : ℕ) → k < g .d → product (gluedOn g) k * gluedOn g k ≤ mostVertices
   room k h =
-      subst (λ (x : ℕ). x ≤ 4096) (product-more (gluedOn g) k)
+      subst (λ (x : ℕ). x ≤ mostVertices) (product-more (gluedOn g) k)
       (le-trans (product-mono (gluedOn g) (g .d) (k + 1) (omega arith) glued-pos) taken-vertices)
 
   pub folded-lt : (v k : ℕ) → k < g .d → foldedAt g v k < gluedOn g k
   folded-lt v k h = below (closedAt g k) (reflectedBy g v k (g .d)) (cellsOn g k) (reflected-le g v k (g .d)) (ltb-false _ _ (enough k h))
     where
-      below : (b : Bool) (c n : ℕ) → c ≤ n → cond b 3 1 ≤ n → cond b (c % n) c < cond b n (n + 1)
+      below : (b : Bool) (c n : ℕ) → c ≤ n → cond b closedFloor openFloor ≤ n → cond b (c % n) c < cond b n (n + 1)
       below true c n l e = mod-lt c (omega arith)
       below false c n l e = omega arith
 
@@ -90,7 +124,7 @@ number-more g v k s x f r hs hx hf hr = rw (add-one k, hr, hx, hs, hf)
 
 -- and it stays within the places, which stay within the vertices
 pub number-room : (g : Grid) → checkOf g ≡ Fine → (v k s x f p : ℕ) → k < g .d → s ≡ product (gluedOn g) k → x < s → f ≡ foldedAt g v k → p ≡ gluedOn g k
-    → (x + s * f < s * p) × (s * p ≤ 4096)
+    → (x + s * f < s * p) × (s * p ≤ mostVertices)
 number-room g fine v k s x f p h hs hx hf hp =
     (place x s f p hx (rw (hf, hp) (folded-lt g fine v k h)), rw (hs, hp) (room g fine k h))
 
@@ -117,15 +151,18 @@ outside g v k n =
     (lt-or-ge v (product (pointsOn g) k))
 
 -- ---- the answer
+module _ (g : Grid) (v : ℕ) where
+  pub vertex-inside : (n : ℕ) → restAt g v (g .d) ≡ 0 → n ≡ numberTo g v (g .d) → n ≡ vertexOf g v
+  vertex-inside n h q = rw (inside g v (g .d) h, q)
+
+  pub vertex-outside : (restAt g v (g .d) ≡ 0 → ⊥) → noVertex ≡ vertexOf g v
+  vertex-outside h = rw (outside g v (g .d) h)
+
 module _ (g : Grid) (v : GridVertex) where
   pub reduced-refused : (n p : ℕ) → Refused n p ≡ checkOf g → Reduced.Refused n p ≡ reduceOf g v
   unfolding reduceOf
   reduced-refused n p e = rw (← e)
 
-  pub reduced-inside : (n : ℕ) → Fine ≡ checkOf g → restAt g (v .0) (g .d) ≡ 0 → n ≡ numberTo g (v .0) (g .d) → Reduced.At (record { 0 = n }) ≡ reduceOf g v
+  pub reduced-at : (n : ℕ) → Fine ≡ checkOf g → n ≡ vertexOf g (v .0) → Reduced.At (record { 0 = n }) ≡ reduceOf g v
   unfolding reduceOf
-  reduced-inside n e h q = rw (← e, inside g (v .0) (g .d) h, q)
-
-  pub reduced-outside : Fine ≡ checkOf g → (restAt g (v .0) (g .d) ≡ 0 → ⊥) → Reduced.At (record { 0 = 4294967295 }) ≡ reduceOf g v
-  unfolding reduceOf
-  reduced-outside e h = rw (← e, outside g (v .0) (g .d) h)
+  reduced-at n e q = rw (← e, q)

@@ -43,9 +43,13 @@ unfoldable pub numberTo : Grid → ℕ → ℕ → ℕ
 numberTo g v zero = 0
 numberTo g v (suc k) = numberTo g v k + product (gluedOn g) k * foldedAt g v k
 
--- the vertex of grid point v: past the last point, 4294967295
+-- what stands for a number past the last point: no vertex
+abbrev pub noVertex : ℕ
+noVertex = 4294967295
+
+-- the vertex of grid point v
 abbrev pub vertexOf : Grid → ℕ → ℕ
-vertexOf g v = cond (leb (product (pointsOn g) (g .d)) v) 4294967295 (numberTo g v (g .d))
+vertexOf g v = cond (leb (product (pointsOn g) (g .d)) v) noVertex (numberTo g v (g .d))
 
 -- a refusal stands as it is, and where there is none the answer is x
 abbrev pub reducedAfter : Answer → Reduced → Reduced

@@ -10,6 +10,12 @@ use Rattle.quotient.specs.declared.Axis.{Axis}
 use Rattle.quotient.specs.declared.Grid.{Grid}
 use Rattle.refusal.specs.declared.Answer.{Answer}
 use Rattle.refusal.specs.declared.Answer.the-variants.{Fine, Refused}
+use Rattle.refusal.specs.declared.Counted.{Counted}
+use Rattle.refusal.specs.declared.Counted.the-variants as Counted
+use Rattle.refusal.specs.Refuse.{refuse}
+use Rattle.refusal.specs.Table.{badDimension, tooManyCells, tooManyVertices, shortAxisNumber, badReflectionNumber, badSide}
+use Rattle.refusal.specs.Limits.{mostDimension, mostCells, mostVertices}
+use Rattle.sides.specs.Counts.{firstBad}
 use Rattle.quotient.specs.declared.Parity.{Parity}
 use Rattle.quotient.specs.declared.Parity.the-variants as Parity
 use Rattle.quotient.specs.Fold.{least, product, factorial, member, some, count}
@@ -51,9 +57,19 @@ badMember d i m j = member m j && (eqb j i || leb d j)
 unfoldable pub badSet : ℕ → ℕ → ℕ → Bool
 badSet d i m = some (badMember d i m) 8
 
+-- the fewest cells: 3 on a closed axis, 1 on an open one
+abbrev pub closedFloor : ℕ
+closedFloor = 3
+
+abbrev pub openFloor : ℕ
+openFloor = 1
+
+abbrev pub floorOf : Glue → ℕ
+floorOf g = cond (closedOf g) closedFloor openFloor
+
 -- too few cells: under 3 on a closed axis, under 1 on an open one
 abbrev pub tooFew : Axis → Bool
-tooFew a = ltb (a .count) (cond (closedOf (a .glue)) 3 1)
+tooFew a = ltb (a .count) (floorOf (a .glue))
 
 -- points on an axis after gluing: n on a closed axis of n cells, n + 1 on an open one
 abbrev pub gluedPoints : Axis → ℕ
@@ -87,16 +103,39 @@ badReflection g = least (reflectsBadly g) (g .d)
 abbrev pub shortAxis : Grid → ℕ
 shortAxis g = least (fallsShort g) (g .d)
 
+-- the table's order from 9 on: 9, 8, 3, 6
+abbrev pub shapeCheck : Grid → Answer
+shapeCheck g =
+    refuse (ltb (badReflection g) (g .d)) badReflectionNumber (badReflection g)
+    (refuse (ltb (shortAxis g) (g .d)) shortAxisNumber (shortAxis g)
+    (refuse (ltb mostCells (cellsOf g)) tooManyCells 0
+    (refuse (ltb mostVertices (verticesOf g)) tooManyVertices 0
+    Fine)))
+
 -- the table's order for an entry without sides: 1, 9, 8, 3, 6
 unfoldable pub checkOf : Grid → Answer
 checkOf g =
-    cond (ltb (g .d) 1) (Refused 1 0)
-    (cond (ltb 3 (g .d)) (Refused 1 0)
-    (cond (ltb (badReflection g) (g .d)) (Refused 9 (badReflection g))
-    (cond (ltb (shortAxis g) (g .d)) (Refused 8 (shortAxis g))
-    (cond (ltb 4096 (cellsOf g)) (Refused 3 0)
-    (cond (ltb 4096 (verticesOf g)) (Refused 6 0)
-    Fine)))))
+    refuse (ltb (g .d) 1) badDimension 0
+    (refuse (ltb mostDimension (g .d)) badDimension 0
+    (shapeCheck g))
+
+-- and for one with sides: 1, 10, 9, 8, 3, 6
+unfoldable pub sidesCheckOf : Grid → Answer
+sidesCheckOf g =
+    refuse (ltb (g .d) 1) badDimension 0
+    (refuse (ltb mostDimension (g .d)) badDimension 0
+    (refuse (ltb (firstBad (g .sides) (g .d)) (g .d)) badSide (firstBad (g .sides) (g .d))
+    (shapeCheck g)))
+
+-- ---- the number of vertices
+
+-- a refusal stands as it is, and where there is none the answer is x
+abbrev pub countedAfter : Answer → Counted → Counted
+countedAfter Fine x = x
+countedAfter (Refused n p) x = Counted.Refused n p
+
+unfoldable pub nverticesOf : Grid → Counted
+nverticesOf g = countedAfter (checkOf g) (Counted.Count (verticesOf g))
 
 -- ---- orientation
 

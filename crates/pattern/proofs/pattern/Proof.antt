@@ -1,23 +1,26 @@
--- The children of the first b bases are written, and `base` holds base number b. Assumes nothing.
-use mathlib.Core.Path.{_≡_, refl, sym, ap, _∙_}
-use mathlib.Core.List.{[], _∷_}
-use Prim.Native.Nat.{ℕ, zero, suc, _^_, _≤_, _<_, _-_}
+-- The first m chains have given what they give, and the cursor stands at the next. Assumes nothing.
+use mathlib.Core.Path.{_≡_, refl, sym, ap, _∙_, subst}
+use mathlib.Core.List.{[], _∷_, _++_}
+use Prim.Native.Nat.{ℕ, zero, suc, _+_, _*_, _^_, _≤_, _<_, _-_}
 use native.Mathlib.Numerals.{add-one}
+use native.Mathlib.Nat.{mul-le-mul}
 use native.Mathlib.Omega.{arith}
 use borrow.Author.Needs.{needs}
-use lib.ListN.{length, take, replicate}
-use lib.Seq.{length-take-le}
-use Rattle.multiindex.specs.Cartesian.{raised}
-use Rattle.lattice.specs.Children.{bases}
-use Rattle.pattern.proofs.Filled.{Filled, filled-none, filled-long, filled-at, filled-room, filled-part, filled-digits, filled-next, filled-end, bases-length}
+use lib.ListN.{length, take, drop, replicate}
+use Rattle.multiindex.proofs.Tables.{count-most, count-some}
+use Rattle.multiindex.proofs.Digits.{power-most}
+use Rattle.lattice.specs.Children.{chains}
+use Rattle.pattern.specs.Chains.{Steps, stepOf}
+use Rattle.pattern.specs.declared.Cursor.{Cursor}
+use Rattle.pattern.proofs.Filled.{Filled, filled-none, filled-long, filled-at, filled-stands, filled-room, filled-part, filled-steps, filled-next, filled-end, chains-length}
 use Rattle.pattern.proofs.pattern.Statement.{statement}
 use Rattle.pattern.proofs.pattern.Tie as tie
 
 abbrev Inv-loop : tie.InvT-loop
-Inv-loop d r to₀ n bases base₀ at₀ b₀ to base at b = Filled d r to₀ b base at to
+Inv-loop d r to₀ n chains c₀ at₀ m₀ to c at m = Filled d r to₀ m c at to
 
 abbrev μ-loop : tie.MeasureT-loop
-μ-loop d r to₀ n bases base₀ at₀ b₀ to base at b = bases - b
+μ-loop d r to₀ n chains c₀ at₀ m₀ to c at m = chains - m
 
 -- the first base
 zeros : (d : ℕ) → d ≤ 3 → take {A = ℕ} d (0 ∷ 0 ∷ 0 ∷ []) ≡ replicate d 0
@@ -27,90 +30,114 @@ zeros (suc (suc zero)) h = refl
 zeros (suc (suc (suc zero))) h = refl
 zeros (suc (suc (suc (suc d)))) h = absurd (omega arith)
 
+-- how many chains there are fits
+fit : (c : tie.After-count2 Inv-loop μ-loop) → c .before .count .result * c .count2 .result ≤ 1970324836974592
+fit c =
+    let a = c .before .before .before in
+    let n : c .before .count .result ≤ 281474976710656 =
+    omega (arith, c .before .count .ensures, power-most (a .args .d) (a .args .r + 1) (a .pre .axes) (omega (arith, a .pre .times))) in
+    let k : c .count2 .result ≤ 7 = omega (arith, c .count2 .ensures, count-most (a .args .d) (a .pre .axes)) in
+    omega (arith, mul-le-mul n k)
+
 module _ (l : tie.At-loop Inv-loop μ-loop) where
-  long : length (l .loop .to) ≡ length (l .before .before .before .args .to .now)
-  long = filled-long _ _ _ (l .before .before .before .pre) _ _ _ _ (l .loop .inv)
+  long : length (l .loop .to) ≡ length (l .before .before .before .before .args .to .now)
+  long = filled-long _ _ _ (l .before .before .before .before .pre) _ _ _ _ (l .loop .inv)
 
   reached : l .loop .at ≤ length (l .loop .to)
-  reached = filled-at _ _ _ (l .before .before .before .pre) _ _ _ _ (l .loop .inv)
+  reached = filled-at _ _ _ (l .before .before .before .before .pre) _ _ _ _ (l .loop .inv)
 
-  total : l .before .count .result ≡ length (bases (l .before .before .before .args .d) (l .before .before .before .args .r))
+  total : l .before .before .count .result * l .before .count2 .result ≡ length (chains (l .before .before .before .before .args .d) (l .before .before .before .before .args .r))
   total =
-      let a = l .before .before .before in
-      l .before .count .ensures ∙ ap (λ (n : ℕ). n ^ a .args .d) (add-one (a .args .r)) ∙ sym (bases-length (a .args .d) (a .args .r))
+      let a = l .before .before .before .before in
+      ap (λ (x : ℕ). x * l .before .count2 .result) (l .before .before .count .ensures ∙ ap (λ (n : ℕ). n ^ a .args .d) (add-one (a .args .r)))
+      ∙ ap (λ (x : ℕ). suc (a .args .r) ^ a .args .d * x) (l .before .count2 .ensures)
+      ∙ sym (chains-length (a .args .d) (a .args .r))
 
-inside : (c : tie.In-loop Inv-loop μ-loop) → c .before .loop .b < length (bases (c .before .before .before .before .args .d) (c .before .before .before .before .args .r))
+inside : (c : tie.In-loop Inv-loop μ-loop) → c .before .loop .m < length (chains (c .before .before .before .before .before .args .d) (c .before .before .before .before .before .args .r))
 inside c = omega (arith, c .loop-test .taken, total (c .before))
 
 add-n : tie.Need-add-n Inv-loop μ-loop
-add-n c = omega (arith, c .before .pre .within .times)
+add-n c = omega (arith, c .before .pre .times)
 
 cast-count : tie.Need-cast-count Inv-loop μ-loop
-cast-count c = omega (arith, c .before .pre .within .times)
+cast-count c = omega (arith, c .before .pre .times)
 
 count-requires : tie.Need-count-requires Inv-loop μ-loop
-count-requires c κs = (c .before .pre .within .axes, omega (arith, c .before .pre .within .times))
+count-requires c κs = (c .before .pre .axes, omega (arith, c .before .pre .times))
+
+count-requires-2 : tie.Need-count-requires-2 Inv-loop μ-loop
+count-requires-2 c κs = c .before .before .pre .axes
+
+mul-chains : tie.Need-mul-chains Inv-loop μ-loop
+mul-chains c = omega (arith, fit c)
 
 loop-holds : tie.Need-loop-holds Inv-loop μ-loop
-loop-holds c = filled-none _ _ _ (c .before .before .pre) _ (c .before .before .pre .within .axes) (zeros (c .before .before .args .d) (c .before .before .pre .within .axes))
+loop-holds c =
+    let a = c .before .before .before in
+    filled-none _ _ _ (a .pre) _ (a .pre .axes) (zeros (a .args .d) (a .pre .axes)) refl (count-some (a .args .d) (a .pre .axes))
 
-mul-write-base : tie.Need-mul-write-base Inv-loop μ-loop
-mul-write-base c = omega (arith, reached (c .before), long (c .before), c .before .before .before .before .good .1 .1 .0)
+mul-give : tie.Need-mul-give Inv-loop μ-loop
+mul-give c = omega (arith, reached (c .before), long (c .before), c .before .before .before .before .before .good .1 .1 .0)
 
-sub-write-base : tie.Need-sub-write-base Inv-loop μ-loop
-sub-write-base c = reached (c .before)
+sub-give : tie.Need-sub-give Inv-loop μ-loop
+sub-give c = reached (c .before)
 
-part-write-base-start : tie.Need-part-write-base-start Inv-loop μ-loop
-part-write-base-start c = reached (c .before)
+part-give-start : tie.Need-part-give-start Inv-loop μ-loop
+part-give-start c = reached (c .before)
 
-part-write-base-end : tie.Need-part-write-base-end Inv-loop μ-loop
-part-write-base-end c = search needs
+part-give-end : tie.Need-part-give-end Inv-loop μ-loop
+part-give-end c = search needs
 
-write-base-requires : tie.Need-write-base-requires Inv-loop μ-loop
-write-base-requires c κs =
+give-requires : tie.Need-give-requires Inv-loop μ-loop
+give-requires c κs =
     let l = c .before .before in
-    let a = l .before .before .before in
-    record { within = a .pre .within; room = filled-part _ _ _ (a .pre) _ _ _ _ (l .loop .inv) (inside (c .before)) }
+    let a = l .before .before .before .before in
+    record {
+      stands = filled-stands _ _ _ (a .pre) _ _ _ _ (l .loop .inv);
+      room = filled-part _ _ _ (a .pre) _ _ _ _ (l .loop .inv) (inside (c .before));
+    }
 
-array-borrow-prefix-base : tie.Need-array-borrow-prefix-base Inv-loop μ-loop
-array-borrow-prefix-base c = c .before .before .before .before .before .loop .inv .wide
-
-slice-aggregate-next : tie.Need-slice-aggregate-next Inv-loop μ-loop
-slice-aggregate-next c = sym (length-take-le _ _ (c .before .before .before .before .before .before .loop .inv .wide))
-
-next-requires : tie.Need-next-requires Inv-loop μ-loop
-next-requires c κs =
-    let l = c .before .before .before .before .before .before in
-    let a = l .before .before .before in
-    λ j h. omega (arith, filled-digits _ _ _ (a .pre) _ _ _ _ (l .loop .inv) (inside (c .before .before .before .before .before)) j (omega (arith, length-take-le (a .args .d) (l .loop .base) (l .loop .inv .wide))))
+step-requires : tie.Need-step-requires Inv-loop μ-loop
+step-requires c κs =
+    let l = c .before .before .before .before .before in
+    let a = l .before .before .before .before in
+    subst (λ (n : ℕ). Steps (a .args .d) n (l .loop .c)) (sym (add-one (a .args .r)))
+    (filled-steps _ _ _ (a .pre) _ _ _ _ (l .loop .inv) (inside (c .before .before .before .before)))
 
 add-at : tie.Need-add-at Inv-loop μ-loop
 add-at c =
-    let l = c .before .before .before .before .before .before .before .before in
-    let a = l .before .before .before in
+    let l = c .before .before .before .before .before .before in
+    let a = l .before .before .before .before in
     omega (
       arith,
-      filled-room _ _ _ (a .pre) _ _ _ _ (l .loop .inv) (inside (c .before .before .before .before .before .before .before)),
-      c .before .before .before .before .before .write-base .ensures .0,
+      filled-room _ _ _ (a .pre) _ _ _ _ (l .loop .inv) (inside (c .before .before .before .before .before)),
+      c .before .before .before .give .ensures .0,
       long l,
       a .good .1 .1 .0,
     )
 
-add-b : tie.Need-add-b Inv-loop μ-loop
-add-b c = search needs
+add-m : tie.Need-add-m Inv-loop μ-loop
+add-m c =
+    let l = c .before .before .before .before .before .before in
+    omega (arith, c .before .before .before .before .before .loop-test .taken, fit (l .before))
 
 loop-less : tie.Need-loop-less Inv-loop μ-loop
-loop-less c = search needs
+loop-less c =
+    let l = c .before .before .before .before .before .before in
+    omega (arith, c .before .before .before .before .before .loop-test .taken)
 
 loop-again : tie.Need-loop-again Inv-loop μ-loop
 loop-again c =
-    let l = c .before .before .before .before .before .before .before .before in
-    let a = l .before .before .before in
-    let f = c .before .before .before .before .before .write-base in
-    filled-next _ _ _ (a .pre) _ _ _ _ (l .loop .inv) (inside (c .before .before .before .before .before .before .before))
-    (length (l .loop .to) - l .loop .at) (f .result) (f .last .1 .1 .1 .0) (c .before .next .last .0)
-    (omega (arith, reached l)) (f .ensures .0) (f .ensures .1)
-    (c .before .next .ensures ∙ ap (λ (n : ℕ). raised n (take (a .args .d) (l .loop .base))) (add-one (a .args .r)))
+    let l = c .before .before .before .before .before .before in
+    let a = l .before .before .before .before in
+    let f = c .before .before .before .give in
+    subst
+    (λ (s : Cursor).
+    Filled (a .args .d) (a .args .r) (a .args .to .now) (l .loop .m + 1) s (l .loop .at + f .result)
+    (take (l .loop .at) (l .loop .to) ++ (f .last .1 .1 .1 .0 ++ drop (length (l .loop .to) - l .loop .at) (drop (l .loop .at) (l .loop .to)))))
+    (sym (c .step .ensures ∙ ap (λ (n : ℕ). stepOf (a .args .d) n (l .loop .c)) (add-one (a .args .r))))
+    (filled-next _ _ _ (a .pre) _ _ _ _ (l .loop .inv) (inside (c .before .before .before .before .before))
+    (length (l .loop .to) - l .loop .at) (f .result) (f .last .1 .1 .1 .0) (omega (arith, reached l)) (f .ensures .0) (f .ensures .1))
 
 same-length : tie.Need-same-length Inv-loop μ-loop
 same-length c = long (c .before)
@@ -118,7 +145,7 @@ same-length c = long (c .before)
 returns : tie.Need-returns Inv-loop μ-loop
 returns c =
     let l = c .before in
-    let a = l .before .before .before in
+    let a = l .before .before .before .before in
     filled-end _ _ _ (a .pre) _ _ _ _ (l .loop .inv) (omega (arith, c .loop-test .left, total l))
 
 pub pattern-spec : {M : Type 1} → statement M
@@ -130,17 +157,17 @@ pattern-spec =
     add-n
     cast-count
     count-requires
+    count-requires-2
+    mul-chains
     loop-holds
-    mul-write-base
-    sub-write-base
-    part-write-base-start
-    part-write-base-end
-    write-base-requires
-    array-borrow-prefix-base
-    slice-aggregate-next
-    next-requires
+    mul-give
+    sub-give
+    part-give-start
+    part-give-end
+    give-requires
+    step-requires
     add-at
-    add-b
+    add-m
     loop-less
     loop-again
     same-length

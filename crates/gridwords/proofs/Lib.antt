@@ -1,0 +1,6 @@
+-- Laws that the proofs of `gridwords` cite.
+pub mod Corners
+pub mod Inside
+pub mod Flat
+pub mod Listed
+pub mod Good

@@ -1,0 +1,3 @@
+-- What the contracts of `gridwords` cite.
+pub mod Cells
+pub mod Numbered
