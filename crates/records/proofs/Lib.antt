@@ -1,0 +1,4 @@
+pub mod Derive
+pub mod Enums
+pub mod Facet
+pub mod Steps
