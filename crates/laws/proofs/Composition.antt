@@ -135,21 +135,21 @@ module _ (d a b n : ℕ) (ks : List (List ℕ)) (pa : 0 < a) (pb : 0 < b) (stage
     first-fits = record {
       least = pa;
       most = omega (arith, fit .most, mul-le-mul-left a pb);
-      cells =
+      few-cells =
           omega (
             arith,
-            fit .cells,
+            fit .few-cells,
             mul-le-mul-left (length ks) (pow-le-pow-left {n = a} {m = a * b} (omega (arith, mul-le-mul-left a pb)) d),
           );
-      corners = omega (arith, fit .corners, as-many);
+      few-vertices = omega (arith, fit .few-vertices, as-many);
     }
 
     second-fits : Refines d b n₁ ks₁
     second-fits = record {
       least = pb;
       most = omega (arith, fit .most, mul-le-mul-right b pa);
-      cells = omega (arith, fit .cells, so-many);
-      corners = omega (arith, fit .corners, as-many);
+      few-cells = omega (arith, fit .few-cells, so-many);
+      few-vertices = omega (arith, fit .few-vertices, as-many);
     }
 
     -- the cells handed out by the first call, and their words
@@ -167,11 +167,11 @@ module _ (d a b n : ℕ) (ks : List (List ℕ)) (pa : 0 < a) (pb : 0 < b) (stage
           let (c, h, e) = number-of d n₁ cs₁ ks₁ listed₁ k m in
           omega arith
 
-      few-cells : length cs₁ ≤ mostCells
-      few-cells = omega (arith, first-fits .cells, sorted-many d a n ks pa (stage .sound) (stage .nodup), listed₁ .many)
+      not-too-many : length cs₁ ≤ mostCells
+      not-too-many = omega (arith, first-fits .few-cells, sorted-many d a n ks pa (stage .sound) (stage .nodup), listed₁ .many)
 
       passed : Passed d (flat cs₁)
-      passed = flat-passed d n₁ cs₁ ks₁ listed₁ some-cells (middle .sound .used) small few-cells (first-fits .corners)
+      passed = flat-passed d n₁ cs₁ ks₁ listed₁ some-cells (middle .sound .used) small not-too-many (first-fits .few-vertices)
 
       same-cells : cellsOf d (flat cs₁) ≡ cs₁
       same-cells = flat-cells d n₁ cs₁ ks₁ listed₁ (order-rising (suc d) (words d a n ks))
@@ -199,10 +199,10 @@ module _ (d a b n : ℕ) (ks : List (List ℕ)) (pa : 0 < a) (pb : 0 < b) (stage
         };
         counted = counted;
         second = subst (λ (ws : List (List ℕ)). Refines d b (coarse (flat cs₁)) ws) (sym same-order) (subst (λ (m : ℕ). Refines d b m ks₁) (sym counted) second-fits);
-        cells =
+        as-many-cells =
             subst (λ (ws : List (List ℕ)). length (refinedCells d b (coarse (flat cs₁)) ws) ≡ length (refinedCells d (a * b) n ks)) (sym same-order)
             (subst (λ (m : ℕ). length (refinedCells d b m ks₁) ≡ length (refinedCells d (a * b) n ks)) (sym counted) as-many-cells);
-        corners =
+        as-many-vertices =
             subst (λ (ws : List (List ℕ)). vertices d b (coarse (flat cs₁)) ws ≡ vertices d (a * b) n ks) (sym same-order)
             (subst (λ (m : ℕ). vertices d b m ks₁ ≡ vertices d (a * b) n ks) (sym counted) as-many);
         same =

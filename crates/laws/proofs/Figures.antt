@@ -35,7 +35,7 @@ accepted = record { fine = refl; uncrowded = subst (λ (cs : List (List ℕ)). C
         w .one .apart (omega arith)
 
 fits : Refines 2 (2 * 2) 3 (cellsOf 2 (0 ∷ 1 ∷ 2 ∷ []))
-fits = subst (λ (ks : List (List ℕ)). Refines 2 (2 * 2) 3 ks) (sym one-cell) (record { least = omega arith; most = omega arith; cells = omega arith; corners = few })
+fits = subst (λ (ks : List (List ℕ)). Refines 2 (2 * 2) 3 ks) (sym one-cell) (record { least = omega arith; most = omega arith; few-cells = omega arith; few-vertices = few })
   where
     so-many : vertices 2 4 3 triangle ≡ 15
     so-many = refl
