@@ -2,7 +2,7 @@
 -- Assumes nothing: these are definitions.
 use mathlib.Core.Path.{_≡_}
 use Prim.Native.Nat.{ℕ, _+_, _*_, _<_, _≤_, _^_}
-use mathlib.Core.List.{List, [], _∷_}
+use mathlib.Core.List.{[], _∷_}
 use lib.ListN.{length, set, getD}
 use mir.Syntax.{Ty, named, mut, imm, erased, w32, w64, tyInt, tyRef}
 use denote.RattleType.{RattleType}
@@ -12,7 +12,7 @@ use Rattle.refusal.proofs.Counted.Laws as C′
 use Rattle.records.specs.declared.Found.the-variants.{Facet, NoFacet}
 use Rattle.records.specs.Record.{noFacet, recordAt, firstRecords, least, loneOf, bordering, foundAt}
 use Rattle.records.specs.Fill.{fillAnswer, countOf, Filled}
-use Rattle.records.proofs.Derive.{Says, Rc, Free, Sc, sInt, rtF, fInt, pointee, now, rowR, pRec, rRec, pShrS, pMutS, pNum, rNum, rUnit}
+use Rattle.records.proofs.Derive.{Says, Rc, Sc, sInt, rtF, fInt, pointee, now, rowR, pRec, rRec, pShrS, pMutS, pNum, rNum, rUnit}
 use Rattle.records.proofs.Enums.{En, pEnum, rEnum}
 use Rattle.records.proofs.FacetRec as T
 use Rattle.records.proofs.FacetRec.Laws as T′

@@ -1,7 +1,6 @@
 -- What the loops and the tests say of lists and numbers. Assumes nothing.
 use mathlib.Core.Path.{_≡_, refl, ap, sym, _∙_}
-use Prim.Native.Nat.{ℕ, zero, suc, _+_, _*_, _/_, _%_, _<_, _≤_}
-use native.Mathlib.Numerals.{add-one}
+use Prim.Native.Nat.{ℕ, zero, suc, _*_, _/_, _%_, _<_, _≤_}
 use native.Mathlib.Nat.{div-add-mod' as div-mod}
 use native.Mathlib.Omega.{arith}
 use mathlib.Core.Bool.{Bool, true, false, not}
@@ -12,11 +11,11 @@ use lib.Dec.{eqb, ltb, lit≤}
 use borrow.Author.Needs.{zero≤}
 use borrow.Author.Tests.{ltb-true, ltb-false}
 use Rattle.refusal.specs.declared.Counted.{Counted}
-use Rattle.refusal.specs.declared.Counted.the-variants.{Count, Refused}
+use Rattle.refusal.specs.declared.Counted.the-variants.{Count}
 use Rattle.refusal.specs.Lent.{onto}
 use Rattle.refusal.specs.Table.{raggedWords, tooManyCells, tooShort}
 use Rattle.records.specs.declared.FacetRec.{FacetRec}
-use Rattle.records.specs.Record.{noFacet, recordAt, firstRecords, recordsOf, oneIf, loneOf, bordering, pick, least}
+use Rattle.records.specs.Record.{noFacet, recordAt, firstRecords, oneIf, bordering, pick, least}
 use Rattle.records.specs.Fill.{mostFacets, refuseCount, fillAnswer, countOf, handed, Filled}
 
 -- ---- the records written so far
@@ -74,8 +73,11 @@ said-handed table false false false = refl
 pub count-room : (long room : ℕ) → countOf (fillAnswer long room) ≤ room
 count-room long room = said-room room (long / 4) (not (eqb (long % 4) 0)) (ltb mostFacets (long / 4)) (ltb room (long / 4)) refl
 
+pub count-quarter : (long room : ℕ) → countOf (fillAnswer long room) ≤ long / 4
+count-quarter long room = said-most (long / 4) (not (eqb (long % 4) 0)) (ltb mostFacets (long / 4)) (ltb room (long / 4))
+
 pub count-most : (long room : ℕ) → countOf (fillAnswer long room) * 4 ≤ long
-count-most long room = omega (arith, said-most (long / 4) (not (eqb (long % 4) 0)) (ltb mostFacets (long / 4)) (ltb room (long / 4)), div-mod long 4)
+count-most long room = omega (arith, count-quarter long room, div-mod long 4)
 
 pub handed-first : (table : List ℕ) (room : ℕ) → handed (fillAnswer (length table) room) table ≡ firstRecords (countOf (fillAnswer (length table) room)) table
 handed-first table room = said-handed table (not (eqb (length table % 4) 0)) (ltb mostFacets (length table / 4)) (ltb room (length table / 4))

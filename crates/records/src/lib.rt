@@ -5,7 +5,7 @@ use refusal::RAGGED_WORDS;
 use refusal::TOO_MANY_CELLS;
 use refusal::TOO_SHORT;
 ghost use mathlib.Core.Path.{_≡_};
-ghost use Prim.Native.Nat.{ℕ, _<_, _≤_, _+_, _*_, _/_, _^_};
+ghost use Prim.Native.Nat.{_<_, _≤_, _+_, _*_, _^_};
 ghost use lib.ListN.{length, set, getD};
 ghost use Rattle.refusal.specs.Lent.{onto};
 ghost use Rattle.records.specs.Record.{noFacet, recordAt, firstRecords, least, loneOf, bordering, foundAt};

@@ -1,5 +1,5 @@
 -- `records::fill` meets its contract: a derivation of its MIR by hand (`Derive`), with calls of `answer`, `count_of` and `fill_first`. Assumes nothing.
-use mathlib.Core.Path.{_≡_, refl, ap}
+use mathlib.Core.Path.{refl, ap}
 use Prim.Native.Nat.{ℕ}
 use mathlib.Core.List.{List, [], _∷_}
 use lib.ListN.{replicate, length}
