@@ -51,7 +51,7 @@ sorted-row n (suc count) l (suc r) h k =
     ∙ ap (λ (w : List ℕ). sortWord (take n w)) (drop-drop (r * n) n l ∙ ap (λ (i : ℕ). drop i l) f)
 
 -- rows in colex order are words in colex order
-colex-row : (keys : List ℕ) (n c x y : ℕ) → c ≤ n → ColexLt (cell keys n) c x y → Colex c (row keys n x) (row keys n y)
+pub colex-row : (keys : List ℕ) (n c x y : ℕ) → c ≤ n → ColexLt (cell keys n) c x y → Colex c (row keys n x) (row keys n y)
 colex-row keys n zero x y h p = p
 colex-row keys n (suc c) x y h (inl l) = inl (rw (row-cell keys n x c (omega arith), row-cell keys n y c (omega arith)) l)
 colex-row keys n (suc c) x y h (inr e) = inr (row-cell keys n x c (omega arith) ∙ e .0 ∙ sym (row-cell keys n y c (omega arith)), colex-row keys n c x y (omega arith) (e .1))

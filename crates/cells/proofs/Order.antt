@@ -59,7 +59,7 @@ neither (suc n) v w p q c h = go (ltb (getD v n 0) (getD w n 0)) (eqb (getD v n 
 
 -- ---- a cell put into its place
 module _ (n : ℕ) where
-  place-from : (w : Word) (cs : List Word) (v : Word) → In v (place n w cs) → (w ≡ v) ⊎ In v cs
+  pub place-from : (w : Word) (cs : List Word) (v : Word) → In v (place n w cs) → (w ≡ v) ⊎ In v cs
   unfolding place placed
   place-from w [] v (inl e) = inl e
   place-from w [] v (inr m) = absurd m
@@ -72,7 +72,7 @@ module _ (n : ℕ) where
       go false true (inr m) r = ⊎-elim (λ e. inl e) (λ k. inr (inr k)) (r m)
       go false false m r = inr m
 
-  place-old : (w : Word) (cs : List Word) (v : Word) → In v cs → In v (place n w cs)
+  pub place-old : (w : Word) (cs : List Word) (v : Word) → In v cs → In v (place n w cs)
   unfolding place placed
   place-old w [] v m = absurd m
   place-old w (c ∷ cs) v m = go (comesBefore n w c) (comesBefore n c w) m (place-old w cs v)
@@ -83,7 +83,7 @@ module _ (n : ℕ) where
       go false true (inr m) r = inr (r m)
       go false false m r = m
 
-  place-new : (w : Word) (cs : List Word) → length w ≡ n → Each (λ v. length v ≡ n) cs → In w (place n w cs)
+  pub place-new : (w : Word) (cs : List Word) → length w ≡ n → Each (λ v. length v ≡ n) cs → In w (place n w cs)
   unfolding place placed
   place-new w [] l a = inl refl
   place-new w (c ∷ cs) l a = go (comesBefore n w c) (comesBefore n c w) refl refl (place-new w cs l (a .1))
@@ -93,7 +93,7 @@ module _ (n : ℕ) where
       go false true p q r = inr r
       go false false p q r = inl (sym (ext-getD 0 w c (l ∙ sym (a .0)) (λ i h. neither n w c p q i (omega arith))))
 
-  place-rising : (w : Word) (cs : List Word) → Rising (Colex n) cs → Rising (Colex n) (place n w cs)
+  pub place-rising : (w : Word) (cs : List Word) → Rising (Colex n) cs → Rising (Colex n) (place n w cs)
   unfolding place placed
   place-rising w [] p = (tt, tt)
   place-rising w (c ∷ cs) p = go (comesBefore n w c) (comesBefore n c w) refl refl (place-rising w cs (p .1))

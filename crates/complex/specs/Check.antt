@@ -8,7 +8,8 @@ use lib.Dec.{eqb, leb, ltb}
 use Rattle.refusal.specs.declared.Answer.{Answer}
 use Rattle.refusal.specs.declared.Answer.the-variants.{Fine, Refused}
 use Rattle.refusal.specs.Refuse.{refuse}
-use Rattle.refusal.specs.Limits.{mostCells, mostVertices}
+use Rattle.refusal.specs.Limits.{mostDimension, mostCells, mostVertices}
+use Rattle.refusal.specs.Table.{badDimension, raggedWords, tooManyCells, vertexTwice, unusedNumber, tooManyVertices}
 use Rattle.lists.specs.Words.{among, either, hasRepeat, largestOf, wordAt, firstWhere}
 
 -- which word is the first that names a vertex twice: the number of words, where none does
@@ -24,18 +25,18 @@ unfoldable pub answerOf : ℕ → List ℕ → Answer
 answerOf d ws =
     let n = d + 1 in
     let count = length ws / n in
-    refuse (ltb 3 d) 1 0
-    (refuse (eqb (length ws) 0) 2 0
-    (refuse (not (eqb (length ws % n) 0)) 2 0
-    (refuse (ltb mostCells count) 3 0
-    (refuse (ltb (firstRepeat n ws count) count) 4 (firstRepeat n ws count)
-    (refuse (leb mostVertices (largestOf ws)) 6 0
-    (refuse (ltb (leastUnused ws) (largestOf ws)) 5 (leastUnused ws)
+    refuse (ltb mostDimension d) badDimension 0
+    (refuse (eqb (length ws) 0) raggedWords 0
+    (refuse (not (eqb (length ws % n) 0)) raggedWords 0
+    (refuse (ltb mostCells count) tooManyCells 0
+    (refuse (ltb (firstRepeat n ws count) count) vertexTwice (firstRepeat n ws count)
+    (refuse (leb mostVertices (largestOf ws)) tooManyVertices 0
+    (refuse (ltb (leastUnused ws) (largestOf ws)) unusedNumber (leastUnused ws)
     Fine))))))
 
 -- what the answer Fine tells of a list: none of the six refusals applies
 pub record Passed (d : ℕ) (ws : List ℕ) : Type 0 where
-  pub small : d ≤ 3
+  pub small : d ≤ mostDimension
   pub some-words : length ws ≡ 0 → ⊥
   pub whole : length ws % (d + 1) ≡ 0
   pub few : length ws / (d + 1) ≤ mostCells

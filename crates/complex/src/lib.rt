@@ -1,13 +1,20 @@
 // The check of a cell list: a flat list of words of d+1 vertex numbers each.
 use refusal::Answer;
+use refusal::BAD_DIMENSION;
 use refusal::MOST_CELLS;
+use refusal::MOST_DIMENSION;
 use refusal::MOST_VERTICES;
+use refusal::RAGGED_WORDS;
 use refusal::Room;
+use refusal::TOO_MANY_CELLS;
+use refusal::TOO_MANY_VERTICES;
+use refusal::UNUSED_NUMBER;
+use refusal::VERTEX_TWICE;
 ghost use mathlib.Core.Path.{_≡_};
 ghost use Prim.Native.Nat.{ℕ, _+_, _*_, _<_, _≤_};
 ghost use lib.ListN.{length, getD};
 ghost use lib.Dec.{eqb};
-ghost use Rattle.refusal.specs.Limits.{mostVertices};
+ghost use Rattle.refusal.specs.Limits.{mostDimension, mostVertices};
 ghost use Rattle.lists.specs.Words.{among, hasRepeat, largestOf, firstWhere, marked};
 ghost use Rattle.complex.specs.Check.{firstRepeat, answerOf};
 ghost use Rattle.complex.specs.Room.{keyRoom, needOf};
@@ -110,41 +117,41 @@ fn least_unmarked(seen: &[u8; MOST_VERTICES], top: u32) -> u32
 pub fn check_cells(d: u32, words: &[u32]) -> Answer
     ensures { λ r. ⌜ r ≡ answerOf d (now (words .entry)) ⌝ }
 {
-    if 3 < d {
-        return Answer::Refused(1, 0);
+    if MOST_DIMENSION < d {
+        return Answer::Refused(BAD_DIMENSION, 0);
     }
     let n = d as usize + 1;
     let len = words.len();
     if len == 0 {
-        return Answer::Refused(2, 0);
+        return Answer::Refused(RAGGED_WORDS, 0);
     }
     if len % n != 0 {
-        return Answer::Refused(2, 0);
+        return Answer::Refused(RAGGED_WORDS, 0);
     }
     let count = len / n;
     if MOST_CELLS < count {
-        return Answer::Refused(3, 0);
+        return Answer::Refused(TOO_MANY_CELLS, 0);
     }
     let first = first_repeat(words, n, count);
     if first < count {
-        return Answer::Refused(4, first as u32);
+        return Answer::Refused(VERTEX_TWICE, first as u32);
     }
     let top = largest(words);
     if LAST_VERTEX < top {
-        return Answer::Refused(6, 0);
+        return Answer::Refused(TOO_MANY_VERTICES, 0);
     }
     let mut seen = [0u8; MOST_VERTICES];
     mark(words, &mut seen);
     let gap = least_unmarked(&seen, top);
     if gap < top {
-        return Answer::Refused(5, gap);
+        return Answer::Refused(UNUSED_NUMBER, gap);
     }
     Answer::Fine
 }
 
 // How many numbers the facet rows of words with len corners need for their keys.
 fn key_room(d: usize, len: usize) -> usize
-    requires { ⌜ (d ≤ 3) × (len < 65536) ⌝ }
+    requires { ⌜ (d ≤ mostDimension) × (len < 65536) ⌝ }
     ensures { λ r. ⌜ r ≡ keyRoom d len ⌝ }
 {
     if d == 0 {
@@ -155,7 +162,7 @@ fn key_room(d: usize, len: usize) -> usize
 
 // What a call on words with len corners needs of its working lists.
 pub fn need(d: usize, len: usize) -> Room
-    requires { ⌜ (d ≤ 3) × (len < 65536) ⌝ }
+    requires { ⌜ (d ≤ mostDimension) × (len < 65536) ⌝ }
     ensures { λ r. ⌜ r ≡ needOf d len ⌝ }
 {
     Room {

@@ -52,7 +52,7 @@ pub fn slots(d: usize) -> usize
 }
 
 // Writes the facets of m cells, k a cell, from the last position dropped to the first.
-fn facet_rows(d: usize, k: usize, m: usize, cells: &[u32], keys: &mut [u32])
+pub fn facet_rows(d: usize, k: usize, m: usize, cells: &[u32], keys: &mut [u32])
     requires { ⌜ Writing d k m (now cells) (now keys) ⌝ }
     ensures { λ _. ⌜ Written d k (now (cells .entry)) (now (keys .exit)) (m * k) ⌝ }
 {
@@ -70,7 +70,7 @@ fn facet_rows(d: usize, k: usize, m: usize, cells: &[u32], keys: &mut [u32])
 }
 
 // No row has a mate yet.
-fn blank(mates: &mut [u32])
+pub fn blank(mates: &mut [u32])
     ensures { λ _. ⌜ now (mates .exit) ≡ replicate (length (now (mates .entry))) none ⌝ }
 {
     let mut i = 0;

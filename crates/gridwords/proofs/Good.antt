@@ -202,7 +202,7 @@ module _ (g : Grid) (fine : checkOf g ≡ Fine) where
       mem-among v (flatWords g) (subst (λ (u : ℕ). Mem u (flatWords g)) e (Mem-of (flatWords g) (m .cell * suc (g .d) + m .place) (rw (words-long g fine) (digits-lt (m .cell-in) p))))
 
   -- ---- the checks
-  words-count : length (flatWords g) / (g .d + 1) ≡ cellsOf g
+  pub words-count : length (flatWords g) / (g .d + 1) ≡ cellsOf g
   words-count =
       let e : length (flatWords g) ≡ cellsOf g * (g .d + 1) + 0 = omega (arith, words-long g fine, ap (λ (n : ℕ). cellsOf g * n) (add-one (g .d))) in
       ap (λ (l : ℕ). l / (g .d + 1)) e ∙ digits-div (cellsOf g) (omega arith)
@@ -212,7 +212,7 @@ module _ (g : Grid) (fine : checkOf g ≡ Fine) where
       let e : length (flatWords g) ≡ cellsOf g * (g .d + 1) + 0 = omega (arith, words-long g fine, ap (λ (n : ℕ). cellsOf g * n) (add-one (g .d))) in
       ap (λ (l : ℕ). l % (g .d + 1)) e ∙ digits-mod (cellsOf g) (omega arith)
 
-  some-cells : 1 ≤ cellsOf g
+  pub some-cells : 1 ≤ cellsOf g
   some-cells =
       let b : numberOf (cellsOn g) (λ k. 0) (g .d) < boxesOf g = number-lt (cellsOn g) (λ k. 0) (g .d) (λ k l. some-cell g fine k l) in
       let c : 1 ≤ boxesOf g = omega arith in

@@ -1,1 +1,6 @@
 pub mod Orders
+pub mod Without
+pub mod Reading
+pub mod Lists
+pub mod Matching
+pub mod Arranging

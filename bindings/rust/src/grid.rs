@@ -1,0 +1,140 @@
+//! Grids with glued axes.
+use crate::answer::said;
+use crate::{raw, Refusal};
+
+/// A point of the grid before gluing.
+#[derive(Clone, Copy, Debug, PartialEq, Eq, Hash, PartialOrd, Ord)]
+pub struct GridVertex(pub u32);
+
+/// A vertex after gluing. Only [`Grid::reduce`] leads from a [`GridVertex`] to it.
+#[derive(Clone, Copy, Debug, PartialEq, Eq, Hash, PartialOrd, Ord)]
+pub struct GluedVertex(pub u32);
+
+/// How the two ends of an axis are glued.
+#[derive(Clone, Copy, Debug, PartialEq, Eq, Hash)]
+pub enum Gluing {
+    /// Not at all.
+    Open,
+    /// By a shift.
+    Periodic,
+    /// By a shift that reflects the axes whose bits are set.
+    Twisted(u8),
+}
+
+impl Gluing {
+    fn code(self) -> u32 {
+        match self {
+            Gluing::Open => 0,
+            Gluing::Periodic => 256,
+            Gluing::Twisted(mask) => 512 + u32::from(mask),
+        }
+    }
+
+    fn from_code(code: u32) -> Gluing {
+        match code {
+            0..=255 => Gluing::Open,
+            256..=511 => Gluing::Periodic,
+            _ => Gluing::Twisted(code as u8),
+        }
+    }
+}
+
+/// An axis: how many cells, and how its ends are glued.
+#[derive(Clone, Copy, Debug, PartialEq, Eq, Hash)]
+pub struct Axis {
+    /// Its cells.
+    pub cells: u32,
+    /// Its gluing.
+    pub gluing: Gluing,
+}
+
+/// A grid: plain data, filled in freely and checked by every call. Its dimension is the number of its axes. A side that is missing is refused with 10 by
+/// the calls that read sides.
+#[derive(Clone, Debug, PartialEq)]
+pub struct Grid {
+    /// Its axes; the number of a point counts along axis 0 first.
+    pub axes: Vec<Axis>,
+    /// The length of each axis.
+    pub sides: Vec<f64>,
+}
+
+impl Grid {
+    /// A torus with n cells on every axis, of the dimension that `sides` has.
+    ///
+    /// ```
+    /// let torus = planner::Grid::torus(&[1.0, 2.0], 4).unwrap();
+    /// assert_eq!(torus.nvertices(), Ok(16));
+    /// assert_eq!(planner::Grid::torus(&[1.0, 2.0], 2).unwrap_err().number, 8);
+    /// ```
+    pub fn torus(sides: &[f64], n: u32) -> Result<Grid, Refusal> {
+        let mut axes = [0; 6];
+        said(unsafe { raw::planner_torus(sides.len() as u32, n, sides.as_ptr(), sides.len(), axes.as_mut_ptr()) })?;
+        Ok(Grid::made(sides, axes))
+    }
+
+    /// A Klein bottle with n cells on both axes; other than two sides are refused with 1.
+    ///
+    /// ```
+    /// let bottle = planner::Grid::klein(&[1.0, 1.0], 3).unwrap();
+    /// assert_eq!(bottle.is_orientation_preserving(), Ok(false));
+    /// ```
+    pub fn klein(sides: &[f64], n: u32) -> Result<Grid, Refusal> {
+        let mut axes = [0; 6];
+        said(unsafe { raw::planner_klein(sides.len() as u32, n, sides.as_ptr(), sides.len(), axes.as_mut_ptr()) })?;
+        Ok(Grid::made(sides, axes))
+    }
+
+    /// A Moebius band with counts from its sides, n cells on the longer one.
+    ///
+    /// ```
+    /// let band = planner::Grid::moebius(6.0, 1.0, 12).unwrap();
+    /// assert_eq!((band.axes[0].cells, band.axes[1].cells), (12, 2));
+    /// ```
+    pub fn moebius(circumference: f64, width: f64, n: u32) -> Result<Grid, Refusal> {
+        let mut axes = [0; 6];
+        said(unsafe { raw::planner_moebius(n, circumference, width, axes.as_mut_ptr()) })?;
+        Ok(Grid::made(&[circumference, width], axes))
+    }
+
+    /// A grid with these gluings and counts from its sides, n cells on the longest. Its dimension is the number of gluings.
+    ///
+    /// ```
+    /// use planner::{Gluing, Grid};
+    /// let grid = Grid::quasi_uniform(&[Gluing::Periodic, Gluing::Open], &[2.0, 1.0], 8).unwrap();
+    /// assert_eq!((grid.axes[0].cells, grid.axes[1].cells), (8, 4));
+    /// ```
+    pub fn quasi_uniform(gluings: &[Gluing], sides: &[f64], n: u32) -> Result<Grid, Refusal> {
+        let codes: Vec<u32> = gluings.iter().map(|g| g.code()).collect();
+        let mut axes = [0; 6];
+        said(unsafe { raw::planner_quasi_uniform(codes.len() as u32, n, codes.as_ptr(), codes.len(), sides.as_ptr(), sides.len(), axes.as_mut_ptr()) })?;
+        Ok(Grid::made(&sides[..codes.len()], axes))
+    }
+
+    fn made(sides: &[f64], axes: [u32; 6]) -> Grid {
+        let axis = |i: usize| Axis { cells: axes[2 * i], gluing: Gluing::from_code(axes[2 * i + 1]) };
+        Grid { axes: (0..sides.len()).map(axis).collect(), sides: sides.to_vec() }
+    }
+
+    pub(crate) fn codes(&self) -> (u32, Vec<u32>) {
+        (self.axes.len() as u32, self.axes.iter().flat_map(|a| [a.cells, a.gluing.code()]).collect())
+    }
+
+    /// The vertex of a grid point after gluing, or `None` past the last point.
+    pub fn reduce(&self, v: GridVertex) -> Result<Option<GluedVertex>, Refusal> {
+        let (d, axes) = self.codes();
+        let glued = said(unsafe { raw::planner_reduce(d, v.0, axes.as_ptr(), axes.len()) })?;
+        Ok(if glued == u32::MAX { None } else { Some(GluedVertex(glued)) })
+    }
+
+    /// How many vertices there are after gluing.
+    pub fn nvertices(&self) -> Result<u32, Refusal> {
+        let (d, axes) = self.codes();
+        said(unsafe { raw::planner_nvertices(d, axes.as_ptr(), axes.len()) })
+    }
+
+    /// Whether every axis reflects an even number of axes.
+    pub fn is_orientation_preserving(&self) -> Result<bool, Refusal> {
+        let (d, axes) = self.codes();
+        Ok(said(unsafe { raw::planner_is_orientation_preserving(d, axes.as_ptr(), axes.len()) })? == 1)
+    }
+}

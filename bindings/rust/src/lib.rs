@@ -1,0 +1,28 @@
+//! Safe functions over the proved mesh core: grids with glued axes, cell lists, facets, coherent signs, cell orders and refinement.
+//!
+//! Nothing here checks an input: every call of the core answers every input, and a refusal comes back as a [`Refusal`] with the number and the
+//! place that document 01's table gives it. Results are owned; working lists are made and dropped inside a call.
+//!
+//! ```
+//! use planner::{Axis, Gluing, Grid, GridVertex};
+//!
+//! // a band of 3 cells by 1, its ends glued with a twist
+//! let band = Grid { axes: vec![Axis { cells: 3, gluing: Gluing::Twisted(0b10) }, Axis { cells: 1, gluing: Gluing::Open }], sides: vec![3.0, 1.0] };
+//! let glued: Vec<u32> = (0..8).map(|v| band.reduce(GridVertex(v)).unwrap().unwrap().0).collect();
+//! assert_eq!(glued, [0, 1, 2, 3, 3, 4, 5, 0]);
+//! assert!(!band.is_orientation_preserving().unwrap());
+//!
+//! // its cells have no coherent signs: refusal 13
+//! let refusal = planner::orientation(2, &[0, 1, 4, 0, 3, 4, 1, 2, 5, 1, 4, 5, 2, 3, 0, 2, 5, 0]).unwrap_err();
+//! assert_eq!((refusal.number, refusal.place), (13, 0));
+//! ```
+#![warn(missing_docs)]
+
+mod answer;
+mod complex;
+mod grid;
+mod raw;
+
+pub use answer::Refusal;
+pub use complex::orientation;
+pub use grid::{Axis, Gluing, GluedVertex, Grid, GridVertex};

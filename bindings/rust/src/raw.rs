@@ -1,0 +1,27 @@
+//! The C functions, as `include/planner.h` has them: a list is a pointer and a length.
+#![allow(missing_docs)]
+
+extern "C" {
+    pub fn planner_torus(d: u32, n: u32, sides: *const f64, sides_len: usize, axes: *mut u32) -> u64;
+    pub fn planner_klein(d: u32, n: u32, sides: *const f64, sides_len: usize, axes: *mut u32) -> u64;
+    pub fn planner_moebius(n: u32, circumference: f64, width: f64, axes: *mut u32) -> u64;
+    pub fn planner_quasi_uniform(d: u32, n: u32, gluings: *const u32, gluings_len: usize, sides: *const f64, sides_len: usize, axes: *mut u32) -> u64;
+    pub fn planner_reduce(d: u32, v: u32, axes: *const u32, axes_len: usize) -> u64;
+    pub fn planner_nvertices(d: u32, axes: *const u32, axes_len: usize) -> u64;
+    pub fn planner_is_orientation_preserving(d: u32, axes: *const u32, axes_len: usize) -> u64;
+    pub fn planner_orientation(
+        d: u32,
+        words: *const u32,
+        words_len: usize,
+        signs: *mut i32,
+        signs_len: usize,
+        keys: *mut u32,
+        keys_len: usize,
+        rows: *mut u32,
+        rows_len: usize,
+        spare: *mut u32,
+        spare_len: usize,
+        counts: *mut u32,
+        counts_len: usize,
+    ) -> u64;
+}

@@ -1,0 +1,6 @@
+pub mod Points
+pub mod Seek
+pub mod Visiting
+pub mod Numbering
+pub mod Bear
+pub mod Complex

@@ -1,0 +1,4 @@
+pub mod Support
+pub mod Visits
+pub mod Numbers
+pub mod Promise

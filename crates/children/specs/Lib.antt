@@ -1,0 +1,2 @@
+pub mod Colex
+pub mod Family

@@ -1,0 +1,4 @@
+-- What the contracts of `gridlengths` cite.
+pub mod Edges
+pub mod Settled
+pub mod Noted

@@ -1,0 +1,3 @@
+-- What the contracts of `gridmesh` cite.
+pub mod Words
+pub mod Work

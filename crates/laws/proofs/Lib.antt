@@ -1,0 +1,13 @@
+pub mod Words
+pub mod Listed
+pub mod Facets
+pub mod Arranged
+pub mod Checked
+pub mod Flat
+pub mod Renaming
+pub mod Again
+pub mod Parents
+pub mod Refinement
+pub mod Unrefined
+pub mod Composition
+pub mod Figures

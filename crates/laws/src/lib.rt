@@ -1,0 +1,1 @@
+// What the definitions of refinement are worth: theorems over what the public calls promise, the composition law above all. Definitions are in specs/, theorems in proofs/.

@@ -1,0 +1,43 @@
+// The calls on cell lists.
+use crate::said;
+ghost use Rattle.orientation.specs.Promise.{Orientation};
+ghost use Rattle.oriented.specs.Promise.{OrientBy};
+ghost use Rattle.planner.specs.Said.{Said, countedCode, verdictCode};
+
+// One sign a cell, +1 or -1, coherent, +1 at the lowest cell of each piece: how many. Refused: 1, 2, 3, 4, 6, 5, then 12 where a working list is too short, then 7,
+// 13 where no coherent signs exist, 12 where the sign list is too short.
+#[no_mangle]
+pub extern "C" fn planner_orientation(
+    d: u32,
+    words: &[u32],
+    signs: &mut [i32],
+    keys: &mut [u32],
+    rows: &mut [u32],
+    spare: &mut [u32],
+    counts: &mut [u32],
+) -> u64
+    ensures { λ r.
+        ⌜ Said countedCode (λ a. Orientation d (now (words .entry)) a (now (signs .entry)) (now (signs .exit)) (now (keys .entry)) (now (keys .exit)) (now (rows .entry)) (now (rows .exit))
+        (now (spare .entry)) (now (spare .exit)) (now (counts .entry)) (now (counts .exit))) r ⌝ }
+{
+    said::counted(orientation::orientation(d, words, signs, keys, rows, spare, counts))
+}
+
+// 1 exactly if the signs are coherent, else 0; in dimension 0 always 0. Refused: 1, 2, 3, 4, 6, 5, then 12 where a working list is too short, then 7, 14 where the
+// sign list is not one +1 or -1 for each cell.
+#[no_mangle]
+pub extern "C" fn planner_orient_by(
+    d: u32,
+    words: &[u32],
+    signs: &[i32],
+    keys: &mut [u32],
+    rows: &mut [u32],
+    spare: &mut [u32],
+    counts: &mut [u32],
+) -> u64
+    ensures { λ r.
+        ⌜ Said verdictCode (λ a. OrientBy d (now (words .entry)) (now (signs .entry)) a (now (keys .entry)) (now (keys .exit)) (now (rows .entry)) (now (rows .exit)) (now (spare .entry))
+        (now (spare .exit)) (now (counts .entry)) (now (counts .exit))) r ⌝ }
+{
+    said::verdict(oriented::orient_by(d, words, signs, keys, rows, spare, counts))
+}

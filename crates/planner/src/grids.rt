@@ -1,0 +1,89 @@
+// The calls on grids.
+use crate::given;
+use crate::said;
+use quotient::Grid;
+use quotient::GridVertex;
+ghost use mathlib.Core.Path.{_≡_};
+ghost use Rattle.quotient.specs.Reduce.{reduceOf};
+ghost use Rattle.quotient.specs.Shape.{parityOf, nverticesOf};
+ghost use Rattle.quotient.specs.Makers.{torusOf, kleinOf, quasiOf, bandOf};
+ghost use Rattle.planner.specs.Said.{reducedCode, parityCode, countedCode, madeCode, madeAxes};
+ghost use Rattle.planner.specs.Given.{plainGiven, vertexGiven, sidesGiven, gluesGiven};
+
+// The glued number of grid point v, 4294967295 where v is past the last point. Refused: 1, 9, 8, 3, 6.
+#[no_mangle]
+pub extern "C" fn planner_reduce(d: u32, v: u32, axes: &[u32]) -> u64
+    ensures { λ r. ⌜ r ≡ reducedCode (reduceOf (plainGiven d (now (axes .entry))) (vertexGiven v)) ⌝ }
+{
+    let g = given::plain(d, axes);
+    said::reduced(g.reduce(GridVertex(v)))
+}
+
+// 1 where every axis reflects an even number of axes, else 0. Refused: 1, 9, 8, 3, 6.
+#[no_mangle]
+pub extern "C" fn planner_is_orientation_preserving(d: u32, axes: &[u32]) -> u64
+    ensures { λ r. ⌜ r ≡ parityCode (parityOf (plainGiven d (now (axes .entry)))) ⌝ }
+{
+    let g = given::plain(d, axes);
+    said::parity(g.is_orientation_preserving())
+}
+
+// The number of vertices after gluing. Refused: 1, 9, 8, 3, 6.
+#[no_mangle]
+pub extern "C" fn planner_nvertices(d: u32, axes: &[u32]) -> u64
+    ensures { λ r. ⌜ r ≡ countedCode (nverticesOf (plainGiven d (now (axes .entry)))) ⌝ }
+{
+    let g = given::plain(d, axes);
+    said::counted(g.nvertices())
+}
+
+// The axes of a torus with n cells on every axis. Refused: 1, 10, 8, 3, 6.
+#[no_mangle]
+pub extern "C" fn planner_torus(d: u32, n: u32, sides: &[f64], axes: &mut [u32; 6]) -> u64
+    ensures { λ r. ⌜ r ≡ madeCode (torusOf d (sidesGiven (now (sides .entry))) n) ⌝ }
+    ensures { λ _. ⌜ now (axes .exit) ≡ madeAxes (torusOf d (sidesGiven (now (sides .entry))) n) (now (axes .entry)) ⌝ }
+{
+    let s = given::sides(sides);
+    said::made(Grid::torus(d, s, n), axes)
+}
+
+// The axes of a Klein bottle with n cells on both axes. Refused: 1 where d is not 2, 10, 8, 3, 6.
+#[no_mangle]
+pub extern "C" fn planner_klein(d: u32, n: u32, sides: &[f64], axes: &mut [u32; 6]) -> u64
+    ensures { λ r. ⌜ r ≡ madeCode (kleinOf d (sidesGiven (now (sides .entry))) n) ⌝ }
+    ensures { λ _. ⌜ now (axes .exit) ≡ madeAxes (kleinOf d (sidesGiven (now (sides .entry))) n) (now (axes .entry)) ⌝ }
+{
+    let s = given::sides(sides);
+    said::made(Grid::klein(d, s, n), axes)
+}
+
+// The axes of a Moebius band, with counts from its sides, n cells on the longest. Refused: 10, 3, 6.
+#[no_mangle]
+pub extern "C" fn planner_moebius(
+    n: u32,
+    circumference: f64,
+    width: f64,
+    axes: &mut [u32; 6],
+) -> u64
+    ensures { λ r. ⌜ r ≡ madeCode (bandOf circumference width n) ⌝ }
+    ensures { λ _. ⌜ now (axes .exit) ≡ madeAxes (bandOf circumference width n) (now (axes .entry)) ⌝ }
+{
+    said::made(Grid::moebius(circumference, width, n), axes)
+}
+
+// The axes of a grid with these gluings and counts from its sides, n cells on the longest. Refused: 1, 10, 9, 3, 6.
+#[no_mangle]
+pub extern "C" fn planner_quasi_uniform(
+    d: u32,
+    n: u32,
+    gluings: &[u32],
+    sides: &[f64],
+    axes: &mut [u32; 6],
+) -> u64
+    ensures { λ r. ⌜ r ≡ madeCode (quasiOf d (sidesGiven (now (sides .entry))) (gluesGiven (now (gluings .entry))) n) ⌝ }
+    ensures { λ _. ⌜ now (axes .exit) ≡ madeAxes (quasiOf d (sidesGiven (now (sides .entry))) (gluesGiven (now (gluings .entry))) n) (now (axes .entry)) ⌝ }
+{
+    let g = given::glues(gluings);
+    let s = given::sides(sides);
+    said::made(Grid::quasi_uniform(d, s, g, n), axes)
+}

@@ -1,0 +1,105 @@
+/* planner.h: the proved mesh core, for C and for whatever links C.
+ *
+ * Every function answers every input: none stops, none asks its caller to check first, none keeps anything between calls.
+ *
+ * WHAT IS RETURNED. One 64-bit number r. planner_number(r) is the number of a refusal in document 01's table, or 0; planner_value(r)
+ * is then its place, counted from 0, and otherwise the answer: a count, a vertex, or 1 and 0 for yes and no.
+ *
+ * LISTS are a pointer and a length in elements, one after the other. A list may be empty, and its pointer must still be one that may be
+ * read or written that often. Lists that are written must not overlap any other list of the call. The order of parameters is: numbers, lists
+ * that are read, result lists, working lists.
+ *
+ * RESULT LISTS get exactly as many elements as the meaning of the call says, from the start; what lies past them keeps its values. A
+ * refusal changes no result list. One that is too short is refused with 12.
+ *
+ * WORKING LISTS: keys, rows, spare, counts. A call says how many elements it needs of each; fewer are refused with 12. Their values before the
+ * call do not matter. After the call what is needed of them is all zero, unless the call was refused before it tested them: then they are as
+ * they were. What lies past the need is never touched.
+ *
+ * A GRID is its dimension d, a list `axes` with two numbers for each axis, its count of cells and its gluing, and a list `sides` where the
+ * call reads them. A gluing is PLANNER_OPEN, PLANNER_PERIODIC or PLANNER_TWISTED(mask), where bit j of the mask is set if axis j is
+ * reflected. An axis that is not in the list has no cells (refused with 8), a side that is not there is 0 (refused with 10). What stands
+ * past d is not looked at.
+ *
+ * A CELL LIST is its dimension d and a list `words` of d+1 vertex numbers for each cell, in any order. n is the length of `words`.
+ */
+#ifndef PLANNER_H
+#define PLANNER_H
+
+#include <stddef.h>
+#include <stdint.h>
+
+#ifdef __cplusplus
+extern "C" {
+#endif
+
+/* ---- answers */
+
+#define planner_number(r) ((uint32_t)((uint64_t)(r) >> 32))
+#define planner_value(r) ((uint32_t)((uint64_t)(r) & 0xFFFFFFFFu))
+
+enum {
+    PLANNER_FINE = 0,
+    PLANNER_BAD_DIMENSION = 1,      /* d outside its range: cells 0 to 3, grids 1 to 3 */
+    PLANNER_RAGGED_WORDS = 2,       /* word list empty or no multiple of d+1 */
+    PLANNER_TOO_MANY_CELLS = 3,     /* more than 4,096 cells */
+    PLANNER_VERTEX_TWICE = 4,       /* a word names a vertex twice; place: the first such word */
+    PLANNER_UNUSED_NUMBER = 5,      /* some number below the largest is unused; place: the least such number */
+    PLANNER_TOO_MANY_VERTICES = 6,  /* more than 4,096 vertices, or a number above 4,095 */
+    PLANNER_CROWDED_FACET = 7,      /* a facet in three or more cells */
+    PLANNER_SHORT_AXIS = 8,         /* open axis under 1 cell, closed under 3; place: the least such axis */
+    PLANNER_BAD_REFLECTION = 9,     /* an axis reflects itself, or one outside the grid; place: the least such axis */
+    PLANNER_BAD_SIDE = 10,          /* a side not a number from 2^-100 to 2^100; place: the least such axis */
+    PLANNER_BAD_REFINEMENT = 11,    /* R outside 1 to 64 */
+    PLANNER_TOO_SHORT = 12,         /* a lent list too short for the exact result, or working space too short */
+    PLANNER_NO_SIGNS = 13,          /* no coherent signs exist */
+    PLANNER_BAD_SIGNS = 14,         /* sign list not one +1 or -1 for each cell */
+    PLANNER_TWO_LENGTHS = 15,       /* some grid edge gets two lengths */
+    PLANNER_BAD_ORDER = 16          /* order words not one for each cell, no more */
+};
+
+/* ---- grids */
+
+#define PLANNER_OPEN 0u
+#define PLANNER_PERIODIC 256u
+#define PLANNER_TWISTED(mask) (512u + (uint32_t)(uint8_t)(mask))
+#define PLANNER_NO_VERTEX 4294967295u
+
+/* The makers write count and gluing of the three axes to axes[6], those past d as 0 and PLANNER_OPEN; the grid's sides are the caller's. They
+ * return 0. A refusal leaves axes as it was. */
+
+/* n cells on every axis, all periodic. Refused: 1, 10, 8 (n under 3), 3, 6. */
+uint64_t planner_torus(uint32_t d, uint32_t n, const double *sides, size_t sides_len, uint32_t axes[6]);
+
+/* n cells on both axes; axis 0 reflects axis 1, axis 1 is periodic. Refused: 1 (d other than 2), 10, 8 (n under 3), 3, 6. */
+uint64_t planner_klein(uint32_t d, uint32_t n, const double *sides, size_t sides_len, uint32_t axes[6]);
+
+/* Axis 0 reflects axis 1, axis 1 is open; counts from the sides, n cells on the longer one, at least 3 and 1. Refused: 10, 3, 6. */
+uint64_t planner_moebius(uint32_t n, double circumference, double width, uint32_t axes[6]);
+
+/* These gluings; counts from the sides, n cells on the longest, at least 3 on a closed axis and 1 on an open one. Refused: 1, 10, 9, 3 (n above
+ * 4,096 too), 6. */
+uint64_t planner_quasi_uniform(uint32_t d, uint32_t n, const uint32_t *gluings, size_t gluings_len, const double *sides, size_t sides_len,
+                               uint32_t axes[6]);
+
+/* The glued vertex of grid point v; PLANNER_NO_VERTEX where v is past the last point. Refused: 1, 9, 8, 3, 6. */
+uint64_t planner_reduce(uint32_t d, uint32_t v, const uint32_t *axes, size_t axes_len);
+
+/* How many vertices there are after gluing. Refused: 1, 9, 8, 3, 6. */
+uint64_t planner_nvertices(uint32_t d, const uint32_t *axes, size_t axes_len);
+
+/* 1 where every axis reflects an even number of axes, else 0. Refused: 1, 9, 8, 3, 6. */
+uint64_t planner_is_orientation_preserving(uint32_t d, const uint32_t *axes, size_t axes_len);
+
+/* ---- cell lists */
+
+/* One sign a cell, in the colex order of the cells: +1 or -1, coherent, +1 at the lowest cell of each facet-connected piece. Returns how many
+ * cells there are, which is the length needed of signs. Refused: 1, 2, 3, 4, 6, 5, 12 (working lists), 7, 13, 12 (signs).
+ * Working lists: keys max(1, d) * n, rows n, spare n, counts n. */
+uint64_t planner_orientation(uint32_t d, const uint32_t *words, size_t n, int32_t *signs, size_t signs_len, uint32_t *keys, size_t keys_len,
+                             uint32_t *rows, size_t rows_len, uint32_t *spare, size_t spare_len, uint32_t *counts, size_t counts_len);
+
+#ifdef __cplusplus
+}
+#endif
+#endif
