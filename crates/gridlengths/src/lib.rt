@@ -1,5 +1,11 @@
 // Squared lengths of the edges of a flat grid. An edge is measured before gluing, where its steps along the axes are plain; every cell that has the glued edge
 // measures it again, in the order of the cells, and a later value must agree with the one before it.
+//
+// What the working lists of `edge_lengths_sq` hold, one phase after the other:
+//   keys     ends of the edges, sorted
+//   rows     visits in the order of their edges    last visit of each edge
+//   spare    first visit of each edge
+//   counts   buckets                               edge of each visit
 ghost use mathlib.Core.Path.{_≡_};
 ghost use mathlib.Core.Bool.{true, false};
 ghost use Prim.Native.Nat.{ℕ, suc, _+_, _-_, _*_, _<_, _≤_, min, max};
