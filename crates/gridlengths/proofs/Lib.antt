@@ -2,3 +2,8 @@
 pub mod Measuring
 pub mod Values
 pub mod Notes
+pub mod Gathered
+pub mod Steps
+pub mod Entry
+pub mod Determined
+pub mod Every

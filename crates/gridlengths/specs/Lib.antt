@@ -2,3 +2,5 @@
 pub mod Edges
 pub mod Settled
 pub mod Noted
+pub mod Lengths
+pub mod Work

@@ -1,5 +1,11 @@
 // Squared lengths of the edges of a flat grid. An edge is measured before gluing, where its steps along the axes are plain; every cell that has the glued edge
 // measures it again, in the order of the cells, and a later value must agree with the one before it.
+//
+// What the working lists of `edge_lengths_sq` hold, one phase after the other:
+//   keys     ends of the edges, sorted
+//   rows     visits in the order of their edges    last visit of each edge
+//   spare    first visit of each edge
+//   counts   buckets                               edge of each visit
 ghost use mathlib.Core.Path.{_≡_};
 ghost use mathlib.Core.Bool.{true, false};
 ghost use Prim.Native.Nat.{ℕ, suc, _+_, _-_, _*_, _<_, _≤_, min, max};
@@ -10,6 +16,10 @@ ghost use Rattle.quotient.specs.Reduce.{coordAt, vertexOf};
 ghost use Rattle.gridlengths.specs.Edges.{firstEnd, secondEnd, edgesEach, visitsOf, fromAt, toAt, spacingsOf, squareAt, sameEnds, visitsEdge};
 ghost use Rattle.gridlengths.specs.Settled.{metBy, settle, edgeValues, afterVisit, edgeLengthOf};
 ghost use Rattle.gridlengths.specs.Noted.{endOf, endsOf, told, isLength, Noting, Noted, Clashed};
+ghost use Rattle.gridlengths.specs.Lengths.{lengthsNeed, EdgeLengths};
+ghost use Rattle.gridlengths.specs.Work.{Working, Classed, Handing, Worked};
+ghost use Rattle.multiindex.specs.Permutation.{tab};
+ghost use Rattle.lists.specs.Zero.{AllZero};
 use quotient::GluedVertex;
 use quotient::Grid;
 use refusal::Answer;
@@ -301,4 +311,136 @@ fn note_last(grid: Grid, total: usize, ids: &[u32], last: &mut [u32]) -> bool
         r += 1;
     }
     true
+}
+
+// Numbers the glued edges, colex: the number of each visit's edge goes to `counts`. Returns how many edges there are.
+fn classes(
+    grid: Grid,
+    keys: &mut [u32],
+    rows: &mut [u32],
+    spare: &mut [u32],
+    counts: &mut [u32],
+) -> usize
+    requires { ⌜ Working grid (now keys) (now rows) (now spare) (now counts) ⌝ }
+    ensures { λ m. ⌜ Classed grid m (now (counts .exit)) ⌝ }
+{
+    let total = visits(grid);
+    let ends = total * 2;
+    write_ends(grid, keys);
+    multiindex::word::sort_words(keys, 2, total);
+    sorting::sort_rows(keys, 2, total, ends, rows, spare, counts);
+    sorting::distinct(keys, 2, total, rows, spare, counts)
+}
+
+// Writes the value of the visit noted for each edge.
+fn hand_out(grid: Grid, last: &[u32], lengths: &mut [f64])
+    requires { ⌜ Handing grid (length (now lengths)) (now last) ⌝ }
+    ensures { λ _. ⌜ now (lengths .exit) ≡ tab (length (now (lengths .entry))) (λ i. squareAt grid (getD (now (last .entry)) i 0 - 1)) ⌝ }
+{
+    let mut i = 0;
+    while i < lengths.len() {
+        lengths[i] = measured(grid, wide(last[i]) - 1);
+        i += 1;
+    }
+}
+
+// The work of `edge_lengths_sq`, in working lists of just the sizes that are needed.
+fn work(
+    grid: Grid,
+    lengths: &mut [f64],
+    keys: &mut [u32],
+    rows: &mut [u32],
+    spare: &mut [u32],
+    counts: &mut [u32],
+) -> Counted
+    requires { ⌜ Working grid (now keys) (now rows) (now spare) (now counts) ⌝ }
+    ensures { λ r. ⌜ Worked grid r (now (lengths .entry)) (now (lengths .exit)) ⌝ }
+{
+    let m = classes(grid, keys, rows, spare, counts);
+    let total = visits(grid);
+    lists::clear(rows);
+    if !note_last(grid, total, counts, rows) {
+        return Counted::Refused(TWO_LENGTHS, 0);
+    }
+    if lengths.len() < m {
+        return Counted::Refused(TOO_SHORT, 0);
+    }
+    hand_out(grid, rows, &mut lengths[..m]);
+    Counted::Count(m as u32)
+}
+
+// The work, and then the working lists are all zero.
+fn cleared(
+    grid: Grid,
+    lengths: &mut [f64],
+    keys: &mut [u32],
+    rows: &mut [u32],
+    spare: &mut [u32],
+    counts: &mut [u32],
+) -> Counted
+    requires { ⌜ Working grid (now keys) (now rows) (now spare) (now counts) ⌝ }
+    ensures work { λ r. ⌜ Worked grid r (now (lengths .entry)) (now (lengths .exit)) ⌝ }
+    ensures room { λ _.
+        ⌜ AllZero (now (keys .entry)) (now (keys .exit)) (now (rows .entry)) (now (rows .exit)) (now (spare .entry)) (now (spare .exit)) (now (counts .entry))
+        (now (counts .exit)) ⌝ }
+{
+    let said = work(grid, lengths, keys, rows, spare, counts);
+    lists::clear_four(keys, rows, spare, counts);
+    said
+}
+
+// How long each working list has to be: two ends for each edge of each cell.
+fn need(grid: Grid) -> Room
+    requires { ⌜ checkOf grid ≡ Fine ⌝ }
+    ensures { λ r. ⌜ r ≡ lengthsNeed grid ⌝ }
+{
+    let n = visits(grid) * 2;
+    Room {
+        keys: n,
+        rows: n,
+        spare: n,
+        counts: n,
+    }
+}
+
+// The squared length of each edge, colex. Refused: 1, 10, 9, 8, 3, 6, then 12 where a working list is too short, then 15 where an edge gets two lengths, 12 where
+// the length list is too short. A refusal changes no length; from the room's test on what is needed of the working lists is zero at the end.
+pub fn edge_lengths_sq(
+    grid: Grid,
+    lengths: &mut [f64],
+    keys: &mut [u32],
+    rows: &mut [u32],
+    spare: &mut [u32],
+    counts: &mut [u32],
+) -> Counted
+    ensures { λ r.
+        ⌜ EdgeLengths grid r (now (lengths .entry)) (now (lengths .exit)) (now (keys .entry)) (now (keys .exit)) (now (rows .entry)) (now (rows .exit)) (now (spare .entry))
+        (now (spare .exit)) (now (counts .entry)) (now (counts .exit)) ⌝ }
+{
+    let checked = grid.check_with_sides();
+    if let Answer::Refused(number, place) = checked {
+        return Counted::Refused(number, place);
+    }
+    let need = need(grid);
+    let have = Room {
+        keys: keys.len(),
+        rows: rows.len(),
+        spare: spare.len(),
+        counts: counts.len(),
+    };
+    if !refusal::has_room(need, have) {
+        return Counted::Refused(TOO_SHORT, 0);
+    }
+    let k = need.keys;
+    let r = need.rows;
+    let s = need.spare;
+    let c = need.counts;
+    cleared(
+        grid,
+        lengths,
+        &mut keys[..k],
+        &mut rows[..r],
+        &mut spare[..s],
+        &mut counts[..c],
+    )
 }
