@@ -9,3 +9,5 @@ pub mod Agreeing
 pub mod Ends
 pub mod Entry
 pub mod Determined
+pub mod Winding
+pub mod InducedEntry
