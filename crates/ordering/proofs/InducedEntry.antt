@@ -1,12 +1,13 @@
--- The ways out of `induced_orientation`, and its promise determines what it says and every list. Assumes nothing.
+-- The ways out of `induced_orientation`; its promise determines what it says and every list, and yes is said exactly of coherent signs. Assumes nothing.
 use mathlib.Core.List.{List, _++_}
 use mathlib.Core.Path.{_≡_, refl, subst}
-use Prim.Native.Nat.{ℕ}
+use Prim.Native.Nat.{ℕ, _<_}
+use native.Mathlib.Omega.{arith}
 use lib.ListN.{length, take, drop}
 use Rattle.refusal.specs.declared.Answer.the-variants as Answer
 use Rattle.refusal.specs.declared.Room.{Room}
 use Rattle.refusal.specs.declared.Verdict.{Verdict}
-use Rattle.refusal.specs.declared.Verdict.the-variants.{Refused}
+use Rattle.refusal.specs.declared.Verdict.the-variants.{Yes, Refused}
 use Rattle.refusal.specs.Table.{tooShort}
 use Rattle.refusal.specs.Lent.{untouched, lengths, Roomy}
 use Rattle.refusal.specs.Call.{Comes, refused, cramped, ended}
@@ -15,7 +16,10 @@ use Rattle.refusal.proofs.Determined.{comes-one, cleared-one}
 use Rattle.lists.specs.Zero.{AllZero}
 use Rattle.complex.specs.Check.{answerOf}
 use Rattle.complex.specs.Cells.{cellsOf}
-use Rattle.ordering.specs.Promise.{orderNeed, Wound, Induced}
+use Rattle.complex.specs.Facets.{cellAt, Crowded}
+use Rattle.signs.specs.Signs.{Coherent}
+use Rattle.ordering.specs.Order.{Orders}
+use Rattle.ordering.specs.Promise.{orderNeed, wordsBy, wordSign, Wound, Induced}
 use Rattle.ordering.specs.Promise.Wound.{crowded as wound-crowded, unordered as wound-unordered, coherent as wound-coherent, incoherent as wound-incoherent}
 
 module _ (d : ℕ) (ws order keys rows spare counts : List ℕ) where
@@ -59,6 +63,14 @@ module _ (d : ℕ) (cs : List (List ℕ)) (order : List ℕ) where
   wound-one r r′ h h′ (wound-incoherent n o g) (wound-unordered n′ f′) = absurd (f′ o)
   wound-one r r′ h h′ (wound-incoherent n o g) (wound-coherent n′ o′ l′ a′) = absurd (g l′ a′)
   wound-one r r′ h h′ (wound-incoherent n o g) (wound-incoherent n′ o′ g′) = (refl, refl)
+
+-- where nothing is refused, yes is said exactly of words with coherent signs, above dimension 0
+module _ (d : ℕ) (cs : List (List ℕ)) (order : List ℕ) (free : Crowded d cs → ⊥) (ordered : Orders d cs order) where
+  pub induced-exactly : (r : Verdict) (h : Unit {0}) → Wound d cs order r h → (r ≡ Yes → (0 < d) × Coherent d cs (λ c. wordSign (cellAt (wordsBy d cs order) c))) × ((0 < d) × Coherent d cs (λ c. wordSign (cellAt (wordsBy d cs order) c)) → r ≡ Yes)
+  induced-exactly r h (wound-crowded x) = absurd (free x)
+  induced-exactly r h (wound-unordered n f) = absurd (f ordered)
+  induced-exactly r h (wound-coherent n o l a) = (λ e. (l, a), λ q. refl)
+  induced-exactly r h (wound-incoherent n o g) = (λ e. let z : _≡_ {A = ℕ} 0 1 = cc in absurd (omega arith), λ q. absurd (g (q .0) (q .1)))
 
 -- two exits of one call agree in everything
 pub induced-one : (d : ℕ) (ws order : List ℕ) (r r′ : Verdict) (keys k k′ rows o o′ spare p p′ counts c c′ : List ℕ) → Induced d ws order r keys k rows o spare p counts c → Induced d ws order r′ keys k′ rows o′ spare p′ counts c′ → (r ≡ r′) × ((k ≡ k′) × (o ≡ o′) × (p ≡ p′) × (c ≡ c′))
