@@ -9,6 +9,10 @@ from judge import Judge, Rust
 from port import Port
 
 
+# calls that the library does not have yet: anything else that is missing is an error
+LATER = {"planner_" + name for name in ("facets", "border", "ordering", "induced_orientation", "triangulate_ordered", "edge_lengths_sq", "edge_length_sq")}
+
+
 def cell_lists(j, lists):
     for d, ws in lists:
         c = calls.Cells(j, d, ws)
@@ -63,8 +67,9 @@ def main():
     print("answers: " + ", ".join("%s %d" % ("fine" if k == 0 else k, n) for k, n in sorted(j.by_answer.items())))
     if j.missing:
         print("not in the library: " + " ".join(sorted(j.missing)))
+    wrong = j.missing ^ LATER
     print("compared %d requests, %d differences" % (j.requests, j.differences))
-    sys.exit(1 if j.differences or j.missing or not j.requests else 0)
+    sys.exit(1 if j.differences or wrong or not j.requests else 0)
 
 
 if __name__ == "__main__":

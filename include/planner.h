@@ -91,13 +91,38 @@ uint64_t planner_nvertices(uint32_t d, const uint32_t *axes, size_t axes_len);
 /* 1 where every axis reflects an even number of axes, else 0. Refused: 1, 9, 8, 3, 6. */
 uint64_t planner_is_orientation_preserving(uint32_t d, const uint32_t *axes, size_t axes_len);
 
+/* The words of the grid's cells, d+1 glued vertices each, in the order of the sorted grid cells. Returns how many words there are, d! times the boxes; d+1 times
+ * as many numbers, n, are needed of words. Refused: 1, 9, 8, 3, 6, 12 (working lists), 7, 12 (words). Working lists: keys d * n, rows n, spare n, counts n. */
+uint64_t planner_cell_words(
+    uint32_t d, const uint32_t *axes, size_t axes_len, uint32_t *words, size_t words_len, uint32_t *keys, size_t keys_len, uint32_t *rows, size_t rows_len,
+    uint32_t *spare, size_t spare_len, uint32_t *counts, size_t counts_len);
+
 /* ---- cell lists */
+
+/* The cells, d+1 vertices each, in colex order without repeats. Returns how many; d+1 times as many numbers are needed of cells. Refused: 1, 2, 3, 4, 6,
+ * 5, 12 (working lists), 7, 12 (cells). Working lists: keys max(1, d) * n, rows n, spare n, counts n. */
+uint64_t planner_cells(
+    uint32_t d, const uint32_t *words, size_t n, uint32_t *cells, size_t cells_len, uint32_t *keys, size_t keys_len, uint32_t *rows, size_t rows_len,
+    uint32_t *spare, size_t spare_len, uint32_t *counts, size_t counts_len);
+
+/* The edges, two vertices each, the lower first, in colex order without repeats. Returns how many; twice as many numbers are needed of edges.
+ * Refused: 1, 2, 3, 4, 6, 5, 12 (working lists), 7, 12 (edges). Working lists: keys 2 * max(1, d) * n, rows, spare and counts max(1, d) * n each. */
+uint64_t planner_edges(
+    uint32_t d, const uint32_t *words, size_t n, uint32_t *edges, size_t edges_len, uint32_t *keys, size_t keys_len, uint32_t *rows, size_t rows_len,
+    uint32_t *spare, size_t spare_len, uint32_t *counts, size_t counts_len);
 
 /* One sign a cell, in the colex order of the cells: +1 or -1, coherent, +1 at the lowest cell of each facet-connected piece. Returns how many
  * cells there are, which is the length needed of signs. Refused: 1, 2, 3, 4, 6, 5, 12 (working lists), 7, 13, 12 (signs).
  * Working lists: keys max(1, d) * n, rows n, spare n, counts n. */
-uint64_t planner_orientation(uint32_t d, const uint32_t *words, size_t n, int32_t *signs, size_t signs_len, uint32_t *keys, size_t keys_len,
-                             uint32_t *rows, size_t rows_len, uint32_t *spare, size_t spare_len, uint32_t *counts, size_t counts_len);
+uint64_t planner_orientation(
+    uint32_t d, const uint32_t *words, size_t n, int32_t *signs, size_t signs_len, uint32_t *keys, size_t keys_len, uint32_t *rows, size_t rows_len,
+    uint32_t *spare, size_t spare_len, uint32_t *counts, size_t counts_len);
+
+/* 1 exactly if the caller's signs are coherent, else 0; in dimension 0 always 0. Refused: 1, 2, 3, 4, 6, 5, 12 (working lists), 7, 14 (the list is not one
+ * +1 or -1 for each cell). Working lists: keys max(1, d) * n, rows n, spare n, counts n. */
+uint64_t planner_orient_by(
+    uint32_t d, const uint32_t *words, size_t n, const int32_t *signs, size_t signs_len, uint32_t *keys, size_t keys_len, uint32_t *rows, size_t rows_len,
+    uint32_t *spare, size_t spare_len, uint32_t *counts, size_t counts_len);
 
 #ifdef __cplusplus
 }

@@ -1,5 +1,6 @@
 //! Grids with glued axes.
 use crate::answer::said;
+use crate::complex::listed;
 use crate::{raw, Refusal};
 
 /// A point of the grid before gluing.
@@ -136,5 +137,22 @@ impl Grid {
     pub fn is_orientation_preserving(&self) -> Result<bool, Refusal> {
         let (d, axes) = self.codes();
         Ok(said(unsafe { raw::planner_is_orientation_preserving(d, axes.as_ptr(), axes.len()) })? == 1)
+    }
+
+    /// The words of the cells, d+1 glued vertices each, in the order of the sorted grid cells.
+    ///
+    /// ```
+    /// use planner::{Axis, Gluing, Grid};
+    /// let ring = Grid { axes: vec![Axis { cells: 3, gluing: Gluing::Periodic }], sides: vec![1.0] };
+    /// assert_eq!(ring.cell_words().unwrap(), [0, 1, 1, 2, 2, 0]);
+    /// ```
+    pub fn cell_words(&self) -> Result<Vec<u32>, Refusal> {
+        let (d, axes) = self.codes();
+        let boxes = self.axes.iter().fold(1u64, |n, a| n.saturating_mul(u64::from(a.cells)));
+        let each = [1, 1, 2, 6].get(d as usize).copied().unwrap_or(0);
+        let words = boxes.saturating_mul(each);
+        // more words than the limit are refused before the working lists are tested
+        let n = if words <= 4096 { words as usize * (d as usize + 1) } else { 0 };
+        listed(raw::planner_cell_words, d, &axes, n, d as usize + 1, [d as usize * n, n, n, n])
     }
 }

@@ -24,5 +24,5 @@ mod grid;
 mod raw;
 
 pub use answer::Refusal;
-pub use complex::orientation;
+pub use complex::{cells, edges, orient_by, orientation};
 pub use grid::{Axis, Gluing, GluedVertex, Grid, GridVertex};

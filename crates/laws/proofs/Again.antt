@@ -1,13 +1,11 @@
 -- The refined words in the colex order of their cells: the same words as in visiting order, so a refined complex again, with as many cells. Assumes nothing.
-use mathlib.Core.Path.{_≡_, refl, sym, ap, _∙_, subst}
-use mathlib.Core.Logic.{_≢_, _⊎_, inl, inr, ⊎-elim}
-use mathlib.Core.List.{List, [], _∷_, List·Memᴰ}
-use Prim.Native.Nat.{ℕ, zero, suc, _+_, _*_, _^_, _≤_, _<_}
+use mathlib.Core.Path.{_≡_, refl, sym, _∙_}
+use mathlib.Core.Logic.{_⊎_, inl, inr, ⊎-elim}
+use mathlib.Core.List.{List}
+use Prim.Native.Nat.{ℕ, _*_, _^_, _<_}
 use native.Mathlib.Omega.{arith}
-use lib.ListN.{length, getD}
-use Rattle.complex.specs.Cells.{inOrder}
-use Rattle.ordering.specs.Order.{byCell}
-use Rattle.lattice.specs.Complex.{Words, Complex, Apart, Refined, Within, Alike, AgreeOnFaces, AgreeOnFacets}
+use lib.ListN.{length}
+use Rattle.lattice.specs.Complex.{Words, Apart, Refined, AgreeOnFaces, AgreeOnFacets}
 use Rattle.lattice.specs.Refine.{words, vertices, share, In}
 use Rattle.lattice.specs.Conform.{Used, Distinct, Thin, Sound, Facewise}
 use Rattle.lattice.proofs.Count.{Nodup, no-longer}
@@ -15,7 +13,7 @@ use Rattle.lattice.proofs.Whole.{sound-words, nodup-words}
 use Rattle.lattice.proofs.Fits.{Stage, facewise-words, length-words}
 use Rattle.lattice.proofs.Refines.{refined}
 use Rattle.refine.specs.Refined.{refinedCells, refinedWords}
-use Rattle.laws.proofs.Listed.{Listed, listed-complex, listed-distinct}
+use Rattle.laws.proofs.Listed.{Listed}
 use Rattle.laws.proofs.Facets.{listed-nodup}
 use Rattle.laws.proofs.Arranged.{listed-by, in-by, of-by}
 

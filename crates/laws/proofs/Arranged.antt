@@ -1,32 +1,28 @@
 -- Words in colex order of their cells: the cells of a list of words with a word for each, and where no two words have the same vertices, the words themselves in
 -- another sequence. Assumes nothing.
-use mathlib.Core.Bool.{Bool, true, false, _&&_}
+use mathlib.Core.Bool.{Bool, true, false}
 use mathlib.Core.Path.{_≡_, refl, sym, ap, _∙_, subst}
-use mathlib.Core.Logic.{_≢_, _⊎_, inl, inr, ⊎-elim}
+use mathlib.Core.Logic.{_⊎_, inl, inr}
 use mathlib.Core.List.{List, [], _∷_, List·Memᴰ, List·Memᴰ·head, List·Memᴰ·tail, List·Memᴰ·not-nil, List·Memᴰ·cases-cons, Memᴰ·cast}
-use Prim.Native.Nat.{ℕ, zero, suc, _+_, _≤_, _<_, zero-le, suc-le-suc}
+use Prim.Native.Nat.{ℕ, zero, suc, _<_}
 use native.Mathlib.Nat.{le-of-suc-le-suc, not-suc-le-zero}
 use native.Mathlib.Decide.{decLt}
 use native.Mathlib.Omega.{arith}
-use lib.Dec.{eqb}
 use lib.ListN.{length, getD}
-use borrow.Author.Tests.{eq-eqb, eqb-true}
 use Rattle.multiindex.specs.Sort.{sortWord}
 use Rattle.multiindex.proofs.SortLaws.{sort-length}
-use Rattle.multiindex.proofs.Tables.{first-of, second-of}
 use Rattle.complex.specs.Cells.{inOrder}
 use Rattle.complex.specs.Facets.{cellAt}
 use Rattle.ordering.specs.Order.{sameWord, wordIf, wordOf, byCell}
 use Rattle.ordering.proofs.Orders.{same-true, true-same, by-cell-at, by-cell-length}
-use Rattle.cells.proofs.Words.{Word, Each, Rising, each-in, each-of, in-at, at-in, one-list}
-use Rattle.cells.proofs.Words as cells
-use Rattle.cells.proofs.Order.{Colex, colex-irr, colex-trans, order-rising, order-from, order-has}
+use Rattle.cells.proofs.Words.{Word, Each, Rising, each-in, each-of, in-at, at-in}
+use Rattle.cells.proofs.Order.{Colex, colex-irr, order-rising, order-from, order-has}
 use Rattle.lattice.specs.Complex.{times, Complex, Rises}
 use Rattle.lattice.specs.Refine.{In}
 use Rattle.lattice.specs.Conform.{Distinct}
 use Rattle.lattice.proofs.Refines.{mem-at}
 use Rattle.laws.proofs.Words.{to-mem, of-mem, sort-times, rises-sort, sort-fixed}
-use Rattle.laws.proofs.Listed.{Listed, number-of, counts-at}
+use Rattle.laws.proofs.Listed.{Listed, number-of}
 
 -- ---- the word of a cell
 -- where some word sorts to the cell, the cell's word is one of them

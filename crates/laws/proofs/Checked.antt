@@ -1,17 +1,15 @@
 -- An accepted cell list is a complex that lattice's theorems take, along its sorted cells or along an order that agrees. Assumes nothing.
-use mathlib.Core.Bool.{Bool, true, false}
 use mathlib.Core.Path.{_≡_, refl, sym, ap, _∙_, subst}
-use mathlib.Core.Logic.{_≢_, _⊎_, inl, inr, ⊎-elim}
-use mathlib.Core.List.{List, [], _∷_, _++_, List·Memᴰ, List·Memᴰ·head, List·Memᴰ·tail, List·Memᴰ·not-nil, List·Memᴰ·cases-cons, Memᴰ·cast}
-use Prim.Native.Nat.{ℕ, zero, suc, _+_, _*_, _/_, _%_, _≤_, _<_, max, zero-le, suc-le-suc}
+use mathlib.Core.Logic.{_⊎_, inl, inr, ⊎-elim}
+use mathlib.Core.List.{List, [], _∷_, _++_, List·Memᴰ, List·Memᴰ·head, List·Memᴰ·tail, List·Memᴰ·not-nil, List·Memᴰ·cases-cons}
+use Prim.Native.Nat.{ℕ, zero, suc, _+_, _*_, _/_, _≤_, _<_, max}
 use native.Mathlib.Numerals.{add-one}
 use native.Mathlib.Nat.{suc-mul, zero-mul, le-of-eq}
-use native.Mathlib.Decide.{ℕ-discrete, decLt}
+use native.Mathlib.Decide.{decLt}
 use native.Mathlib.Omega.{arith}
-use lib.ListN.{length, getD, take, drop, length-drop, take-append-drop}
-use lib.Seq.{length-take-le}
+use lib.ListN.{length, take, drop, length-drop, take-append-drop}
 use Rattle.lists.specs.Rows.{cut, rows}
-use Rattle.lists.specs.Words.{among, hasRepeat, largestOf, wordAt}
+use Rattle.lists.specs.Words.{largestOf}
 use Rattle.lists.proofs.Rows.{cut-length, cut-at}
 use Rattle.lists.proofs.Words.{below-largest, word-within}
 use Rattle.multiindex.specs.Sort.{sortWord}
@@ -21,12 +19,12 @@ use Rattle.complex.specs.Check.{Passed}
 use Rattle.complex.specs.Facets.{cellAt, Crowded}
 use Rattle.cells.proofs.Words.{at-in}
 use Rattle.cells.proofs.Making.{whole-words}
-use Rattle.ordering.specs.Order.{IsOrder, Orders, byCell}
+use Rattle.ordering.specs.Order.{Orders}
 use Rattle.ordering.specs.Order as order
 use Rattle.lattice.specs.Complex.{same, times, Complex, AgreeOnFaces, Rises}
 use Rattle.lattice.specs.Refine.{In}
 use Rattle.lattice.specs.Conform.{Used, Sound, Facewise}
-use Rattle.lattice.proofs.Sums.{same-self, same-yes, same-no}
+use Rattle.lattice.proofs.Sums.{same-self}
 use Rattle.lattice.proofs.Enumerate.{place-of}
 use Rattle.lattice.proofs.Faces.{rising}
 use Rattle.lattice.proofs.Fits.{Stage}
@@ -35,7 +33,7 @@ use Rattle.laws.proofs.Words.{of-mem, sort-times, times-among, plain-of
 use Rattle.laws.proofs.Listed.{Listed, counts-at, number-of, word-in, listed-complex, listed-distinct}
 use Rattle.laws.proofs.Facets.{listed-nodup, listed-thin, listed-agree}
 use Rattle.ordering.proofs.Orders.{by-cell-length, by-cell-at}
-use Rattle.laws.proofs.Arranged.{to-cell, from-word, listed, listed-cells}
+use Rattle.laws.proofs.Arranged.{to-cell, listed, listed-cells}
 
 -- ---- a flat list and its words
 pub times-append : (a b : List ℕ) (v : ℕ) → times (a ++ b) v ≡ times a v + times b v

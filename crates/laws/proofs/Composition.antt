@@ -1,36 +1,36 @@
 -- THE COMPOSITION LAW over the definitions that the refinement calls promise. Assumes nothing.
-use mathlib.Core.Path.{_≡_, refl, sym, ap, _∙_, subst}
-use mathlib.Core.Logic.{_≢_, _⊎_, inl, inr, ⊎-elim}
-use mathlib.Core.List.{List, [], _∷_, List·Memᴰ}
-use Prim.Native.Nat.{ℕ, zero, suc, _+_, _*_, _^_, _≤_, _<_}
+use mathlib.Core.Path.{_≡_, sym, ap, _∙_, subst}
+use mathlib.Core.Logic.{_⊎_, ⊎-elim}
+use mathlib.Core.List.{List}
+use Prim.Native.Nat.{ℕ, zero, suc, _*_, _^_, _≤_, _<_}
 use native.Mathlib.Nat.{zero-mul, mul-zero, mul-le-mul-left, mul-le-mul-right, pow-le-pow-left}
 use native.Mathlib.Decide.{ℕ-discrete}
 use native.Mathlib.Omega.{arith}
-use lib.ListN.{length, getD}
+use lib.ListN.{length}
 use Rattle.refusal.specs.Limits.{mostCells}
-use Rattle.complex.specs.Cells.{inOrder, cellsOf}
+use Rattle.complex.specs.Cells.{cellsOf}
 use Rattle.complex.specs.Check.{Passed}
 use Rattle.complex.specs.Facets.{Crowded}
 use Rattle.complex.proofs.Fine.{fine-passed, passed-fine}
 use Rattle.cells.proofs.Order.{order-rising}
 use Rattle.ordering.specs.Order.{Orders, flat}
 use Rattle.ordering.specs.Order as order
-use Rattle.lattice.specs.Complex.{Words, same, sum, times, through, Complex, Refined, Alike, AgreeOnFacets}
-use Rattle.lattice.specs.Refine.{births, words, vertices, share, In}
-use Rattle.lattice.specs.Conform.{Used, Sound, Facewise}
-use Rattle.lattice.proofs.Sums.{same-self, same-yes, same-no, sum-ext, sum-scale, sum-pick}
+use Rattle.lattice.specs.Complex.{same, through, Alike, AgreeOnFacets}
+use Rattle.lattice.specs.Refine.{words, vertices, share, In}
+use Rattle.lattice.specs.Conform.{Used, Facewise}
+use Rattle.lattice.proofs.Sums.{same-yes, same-no, sum-ext, sum-scale, sum-pick}
 use Rattle.lattice.proofs.Faces.{by-facets, by-faces}
 use Rattle.lattice.proofs.Fits.{Stage, fits, length-words, tower-words}
 use Rattle.refine.specs.Refined.{coarse, orderWords, refinedCells, refinedWords}
 use Rattle.laws.specs.Refinement.{Counted}
-use Rattle.laws.specs.Composition.{Accepted, Ordered, Refines, Renamed, Composes, Law, LawSorted}
+use Rattle.laws.specs.Composition.{Refines, Renamed, Composes, Law, LawSorted}
 use Rattle.laws.proofs.Listed.{Listed, number-of}
 use Rattle.laws.proofs.Facets.{listed-uncrowded, listed-agree-back}
-use Rattle.laws.proofs.Checked.{cells-listed, order-listed, stage-of, stage-sorted}
+use Rattle.laws.proofs.Checked.{order-listed, stage-of, stage-sorted}
 use Rattle.laws.proofs.Flat.{flat-cells, flat-coarse, flat-passed, flat-orders, flat-words}
 use Rattle.laws.proofs.Renaming.{renamed}
 use Rattle.laws.proofs.Refinement.{share-old}
-use Rattle.laws.proofs.Again.{facets-of, refined-listed, sorted-stage, sorted-refined, sorted-many}
+use Rattle.laws.proofs.Again.{facets-of, refined-listed, sorted-stage, sorted-refined, sorted-many, cells-many}
 
 same-turn : (x y : ℕ) → same x y ≡ same y x
 same-turn x y =
@@ -98,6 +98,22 @@ module _ (d a b n : ℕ) (ks : List (List ℕ)) (pa : 0 < a) (pb : 0 < b) (stage
             (through n₁ outer inner) (alike .back) (alike .apart′) (single .sound .complex .long) (single .sound .used) (tower .sound .complex),
       )
 
+  -- and as many cells
+  so-many : length ks₁ * b ^ d ≡ length ks * (a * b) ^ d
+  so-many =
+      omega (
+        arith,
+        ap (λ (z : ℕ). z * b ^ d) (sorted-many d a n ks pa (stage .sound) (stage .nodup)),
+        length-words d (a * b) n ks,
+        tower-words d a b n ks,
+        length-words d b n₁ (words d a n ks),
+        ap (λ (z : ℕ). z * b ^ d) (length-words d a n ks),
+      )
+
+  pub as-many-cells : length (refinedCells d b (vertices d a n ks) (refinedWords d a n ks)) ≡ length (refinedCells d (a * b) n ks)
+  as-many-cells =
+      cells-many d b n₁ ks₁ pb (middle .sound) (middle .nodup) ∙ so-many ∙ sym (cells-many d (a * b) n ks pab (stage .sound) (stage .nodup))
+
   fixed : (x : ℕ) → x < n → (v : ℕ) → through n₁ outer inner x v ≡ share d (a * b) n ks x v
   fixed x h v =
       through-old n₁ b x outer inner (omega arith) (share-old d b n₁ ks₁ x (omega arith)) v
@@ -119,30 +135,21 @@ module _ (d a b n : ℕ) (ks : List (List ℕ)) (pa : 0 < a) (pb : 0 < b) (stage
     first-fits = record {
       least = pa;
       most = omega (arith, fit .most, mul-le-mul-left a pb);
-      cells =
+      few-cells =
           omega (
             arith,
-            fit .cells,
+            fit .few-cells,
             mul-le-mul-left (length ks) (pow-le-pow-left {n = a} {m = a * b} (omega (arith, mul-le-mul-left a pb)) d),
           );
-      corners = omega (arith, fit .corners, as-many);
+      few-vertices = omega (arith, fit .few-vertices, as-many);
     }
 
     second-fits : Refines d b n₁ ks₁
     second-fits = record {
       least = pb;
       most = omega (arith, fit .most, mul-le-mul-right b pa);
-      cells =
-          omega (
-            arith,
-            fit .cells,
-            ap (λ (z : ℕ). z * b ^ d) (sorted-many d a n ks pa (stage .sound) (stage .nodup)),
-            length-words d (a * b) n ks,
-            tower-words d a b n ks,
-            length-words d b n₁ (words d a n ks),
-            ap (λ (z : ℕ). z * b ^ d) (length-words d a n ks),
-          );
-      corners = omega (arith, fit .corners, as-many);
+      few-cells = omega (arith, fit .few-cells, so-many);
+      few-vertices = omega (arith, fit .few-vertices, as-many);
     }
 
     -- the cells handed out by the first call, and their words
@@ -160,11 +167,11 @@ module _ (d a b n : ℕ) (ks : List (List ℕ)) (pa : 0 < a) (pb : 0 < b) (stage
           let (c, h, e) = number-of d n₁ cs₁ ks₁ listed₁ k m in
           omega arith
 
-      few-cells : length cs₁ ≤ mostCells
-      few-cells = omega (arith, first-fits .cells, sorted-many d a n ks pa (stage .sound) (stage .nodup), listed₁ .many)
+      not-too-many : length cs₁ ≤ mostCells
+      not-too-many = omega (arith, first-fits .few-cells, sorted-many d a n ks pa (stage .sound) (stage .nodup), listed₁ .many)
 
       passed : Passed d (flat cs₁)
-      passed = flat-passed d n₁ cs₁ ks₁ listed₁ some-cells (middle .sound .used) small few-cells (first-fits .corners)
+      passed = flat-passed d n₁ cs₁ ks₁ listed₁ some-cells (middle .sound .used) small not-too-many (first-fits .few-vertices)
 
       same-cells : cellsOf d (flat cs₁) ≡ cs₁
       same-cells = flat-cells d n₁ cs₁ ks₁ listed₁ (order-rising (suc d) (words d a n ks))
@@ -192,6 +199,12 @@ module _ (d a b n : ℕ) (ks : List (List ℕ)) (pa : 0 < a) (pb : 0 < b) (stage
         };
         counted = counted;
         second = subst (λ (ws : List (List ℕ)). Refines d b (coarse (flat cs₁)) ws) (sym same-order) (subst (λ (m : ℕ). Refines d b m ks₁) (sym counted) second-fits);
+        as-many-cells =
+            subst (λ (ws : List (List ℕ)). length (refinedCells d b (coarse (flat cs₁)) ws) ≡ length (refinedCells d (a * b) n ks)) (sym same-order)
+            (subst (λ (m : ℕ). length (refinedCells d b m ks₁) ≡ length (refinedCells d (a * b) n ks)) (sym counted) as-many-cells);
+        as-many-vertices =
+            subst (λ (ws : List (List ℕ)). vertices d b (coarse (flat cs₁)) ws ≡ vertices d (a * b) n ks) (sym same-order)
+            (subst (λ (m : ℕ). vertices d b m ks₁ ≡ vertices d (a * b) n ks) (sym counted) as-many);
         same =
             subst
             (λ (ws : List (List ℕ)).

@@ -1,10 +1,9 @@
 -- Cells with one word each: no facet in three cells is thin, agreement by facets dropped is agreement on what two words share, and no word stands twice.
 -- Assumes nothing.
-use mathlib.Core.Path.{_≡_, refl, sym, ap, _∙_, subst}
+use mathlib.Core.Path.{_≡_, sym, ap, _∙_, subst}
 use mathlib.Core.Logic.{_≢_, _⊎_, inl, inr, ⊎-elim}
-use mathlib.Core.List.{List, [], _∷_, _++_, List·Memᴰ}
-use Prim.Native.Nat.{ℕ, zero, suc, _+_, _-_, _≤_, _<_, zero-le, suc-le-suc}
-use native.Mathlib.Nat.{le-of-suc-le-suc, not-suc-le-zero}
+use mathlib.Core.List.{List, [], _∷_}
+use Prim.Native.Nat.{ℕ, suc, _-_, _≤_, _<_, zero-le, suc-le-suc}
 use native.Mathlib.Decide.{ℕ-discrete, decLt}
 use native.Mathlib.Omega.{arith}
 use lib.ListN.{length, getD}
@@ -12,18 +11,17 @@ use Rattle.cells.proofs.Words.{at-in}
 use Rattle.complex.specs.Facets.{cellAt, Mates, Crowded}
 use Rattle.ordering.specs.Order.{without}
 use Rattle.ordering.specs.Order as order
-use Rattle.lattice.specs.Complex.{same, times, common, Complex, AgreeOnFacets}
+use Rattle.lattice.specs.Complex.{times, common, Complex, AgreeOnFacets}
 use Rattle.lattice.specs.Refine.{In}
-use Rattle.lattice.specs.Conform.{rest, Meet, Distinct, Thin}
-use Rattle.lattice.proofs.Sums.{same-self, same-yes, same-no}
+use Rattle.lattice.specs.Conform.{Meet, Thin}
+use Rattle.lattice.proofs.Sums.{same-self, same-no}
 use Rattle.lattice.proofs.After.{keep-no}
 use Rattle.lattice.proofs.Enumerate.{times-at}
 use Rattle.lattice.proofs.Count.{Nodup}
-use Rattle.lattice.proofs.Faces.{length-common}
-use Rattle.lattice.proofs.Conform.{Row, row, closes, meet-sym, apart-at}
+use Rattle.lattice.proofs.Conform.{row, closes, apart-at}
 use Rattle.lattice.proofs.Inherit.{all-but-one}
-use Rattle.laws.proofs.Words.{of-mem, sort-times, one-rising, rises-plain}
-use Rattle.laws.proofs.Listed.{Listed, common-without, Beside, beside, counts-at, long-at, plain-at, number-of, word-in, one-cell, listed-complex, listed-distinct, listed-apart, meets, mates-of}
+use Rattle.laws.proofs.Words.{of-mem, rises-plain}
+use Rattle.laws.proofs.Listed.{Listed, common-without, Beside, beside, counts-at, long-at, plain-at, number-of, word-in, one-cell, listed-complex, listed-apart, meets, mates-of}
 
 -- a list whose entries differ by number has none twice
 pub nodup-by : (ks : List (List ℕ)) → ((i j : ℕ) → i < j → j < length ks → getD ks i [] ≢ getD ks j []) → Nodup ks

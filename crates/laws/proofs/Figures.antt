@@ -1,10 +1,10 @@
 -- The composition law on a triangle: its premises can be met, and the renaming in numbers. The vertices of the tower have other numbers than those of the single
 -- refinement, since births are numbered by first visit: that is why there is a renaming. Assumes nothing.
-use mathlib.Core.Path.{_≡_, refl, sym, ap, _∙_, subst}
+use mathlib.Core.Path.{_≡_, refl, sym, subst}
 use mathlib.Core.List.{List, [], _∷_, map}
-use Prim.Native.Nat.{ℕ, zero, suc, _+_, _*_, _<_, _≤_}
+use Prim.Native.Nat.{ℕ, _*_, _<_, _≤_}
 use native.Mathlib.Omega.{arith}
-use lib.ListN.{length, getD}
+use lib.ListN.{getD}
 use Rattle.lists.specs.Words.{either, among, hasRepeat, largestOf, foundAt, firstWhere}
 use Rattle.lists.specs.Rows.{cut}
 use Rattle.multiindex.specs.Sort.{insertBy, insert, sortWord}
@@ -35,7 +35,7 @@ accepted = record { fine = refl; uncrowded = subst (λ (cs : List (List ℕ)). C
         w .one .apart (omega arith)
 
 fits : Refines 2 (2 * 2) 3 (cellsOf 2 (0 ∷ 1 ∷ 2 ∷ []))
-fits = subst (λ (ks : List (List ℕ)). Refines 2 (2 * 2) 3 ks) (sym one-cell) (record { least = omega arith; most = omega arith; cells = omega arith; corners = few })
+fits = subst (λ (ks : List (List ℕ)). Refines 2 (2 * 2) 3 ks) (sym one-cell) (record { least = omega arith; most = omega arith; few-cells = omega arith; few-vertices = few })
   where
     so-many : vertices 2 4 3 triangle ≡ 15
     so-many = refl

@@ -1,24 +1,21 @@
 -- Cells in colex order written one after the other are an accepted cell list with these cells, and their words one after the other an order of it. Assumes nothing.
-use mathlib.Core.Bool.{Bool, true, false}
 use mathlib.Core.Path.{_≡_, refl, sym, ap, _∙_, subst}
-use mathlib.Core.Logic.{_≢_, _⊎_, inl, inr, ⊎-elim}
-use mathlib.Core.List.{List, [], _∷_, _++_, List·Memᴰ, List·Memᴰ·head, List·Memᴰ·tail, List·Memᴰ·not-nil, List·Memᴰ·cases-cons, Memᴰ·cast}
-use Prim.Native.Nat.{ℕ, zero, suc, _+_, _*_, _-_, _/_, _%_, _≤_, _<_, zero-le, suc-le-suc}
+use mathlib.Core.List.{List, [], _∷_, List·Memᴰ, List·Memᴰ·head, List·Memᴰ·tail}
+use Prim.Native.Nat.{ℕ, suc, _*_, _-_, _/_, _%_, _≤_, _<_}
 use native.Mathlib.Numerals.{add-one}
 use native.Mathlib.Nat.{suc-mul, zero-mul, mul-le-mul-right, div-eq-of-eq-mul-left, mul-mod-left}
-use native.Mathlib.Decide.{ℕ-discrete, decLt}
 use native.Mathlib.Omega.{arith}
-use lib.ListN.{length, getD, take, drop, length-append}
+use lib.ListN.{length, getD, length-append}
 use lib.Seq.{take-at, drop-at, ext-getD}
 use Rattle.refusal.specs.Limits.{mostCells, mostVertices}
 use Rattle.lists.specs.Rows.{cut, rows}
-use Rattle.lists.specs.Words.{among, hasRepeat, largestOf, wordAt}
+use Rattle.lists.specs.Words.{hasRepeat, largestOf, wordAt}
 use Rattle.lists.proofs.Rows.{cut-at}
 use Rattle.multiindex.specs.Sort.{sortWord}
 use Rattle.complex.specs.Cells.{inOrder, cellsOf}
 use Rattle.complex.specs.Check.{Passed}
 use Rattle.complex.specs.Facets.{cellAt}
-use Rattle.cells.proofs.Words.{Word, Each, Rising, each-of, in-at, at-in, one-list}
+use Rattle.cells.proofs.Words.{Word, Rising, each-of, at-in, one-list}
 use Rattle.cells.proofs.Order.{Colex, colex-irr, colex-trans, order-rising, order-from, order-has}
 use Rattle.cells.proofs.Words as cells
 use Rattle.ordering.specs.Order.{IsOrder, Orders, wordOf, byCell, flat}
@@ -28,7 +25,7 @@ use Rattle.lattice.specs.Conform.{Used, Distinct}
 use Rattle.lattice.proofs.Refines.{mem-at}
 use Rattle.refine.specs.Refined.{coarse, orderWords}
 use Rattle.laws.proofs.Words.{to-mem, of-mem, sort-times, sort-fixed, rises-plain, repeat-none, among-some}
-use Rattle.laws.proofs.Listed.{Listed, counts-at, long-at, number-of, word-in, listed-complex, listed-distinct}
+use Rattle.laws.proofs.Listed.{Listed, counts-at, number-of, word-in, listed-complex, listed-distinct}
 use Rattle.ordering.proofs.Orders.{by-cell-length, by-cell-at}
 use Rattle.laws.proofs.Arranged.{word-found}
 use Rattle.laws.proofs.Checked.{cut-times, cut-has, largest-times, at-most}

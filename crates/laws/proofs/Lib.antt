@@ -11,3 +11,4 @@ pub mod Refinement
 pub mod Unrefined
 pub mod Composition
 pub mod Figures
+pub mod Strip

@@ -2,32 +2,29 @@
 -- three cells, and agreement on facets. Assumes nothing.
 use mathlib.Core.Bool.{Bool, true, false}
 use mathlib.Core.Path.{_≡_, refl, sym, ap, _∙_, subst}
-use mathlib.Core.Logic.{_≢_, _⊎_, inl, inr, ⊎-elim}
-use mathlib.Core.List.{List, [], _∷_, _++_, List·Memᴰ}
-use Prim.Native.Nat.{ℕ, zero, suc, _+_, _-_, _≤_, _<_}
+use mathlib.Core.Logic.{_≢_}
+use mathlib.Core.List.{List, [], _∷_, List·Memᴰ}
+use Prim.Native.Nat.{ℕ, zero, suc, _-_, _≤_, _<_}
 use native.Mathlib.Nat.{le-of-suc-le-suc, not-suc-le-zero}
 use native.Mathlib.Decide.{ℕ-discrete, decLt}
 use native.Mathlib.Omega.{arith}
 use lib.Dec.{eqb}
-use lib.ListN.{length, getD, take, drop}
+use lib.ListN.{length, getD}
 use borrow.Author.Tests.{eqb-true, eqb-false}
 use Rattle.multiindex.specs.Sort.{sortWord}
 use Rattle.multiindex.proofs.SortLaws.{sort-length}
-use Rattle.cells.proofs.Words.{Word, at-in}
-use Rattle.complex.specs.Facets.{cellAt, facetAt, FacetOf, Mates, Crowded}
+use Rattle.cells.proofs.Words.{at-in}
+use Rattle.complex.specs.Facets.{cellAt, facetAt, Mates}
 use Rattle.ordering.specs.Order.{keepUnless, without}
-use Rattle.ordering.specs.Order
-use Rattle.lattice.specs.Complex.{same, times, keep, common, Complex, AgreeOnFacets, Rises}
+use Rattle.lattice.specs.Complex.{times, keep, common, Complex, Rises}
 use Rattle.lattice.specs.Refine.{In}
-use Rattle.lattice.specs.Conform.{rest, Meet, Distinct, Thin, omit}
+use Rattle.lattice.specs.Conform.{rest, Meet, Distinct, omit}
 use Rattle.lattice.proofs.Sums.{same-self, same-yes, same-no}
 use Rattle.lattice.proofs.After.{keep-yes, keep-no, times-common}
-use Rattle.lattice.proofs.Enumerate.{times-at, place-of}
-use Rattle.lattice.proofs.Count.{Nodup}
+use Rattle.lattice.proofs.Enumerate.{place-of}
 use Rattle.lattice.proofs.Faces.{times-common-le, times-common-no}
 use Rattle.lattice.proofs.Seats.{holds-all, stray}
-use Rattle.lattice.proofs.Conform.{Row, row, closes, counts}
-use Rattle.lattice.proofs.Inherit.{all-but-one, but-one}
+use Rattle.lattice.proofs.Inherit.{but-one}
 use Rattle.lattice.proofs.Fits.{omit-rest}
 use Rattle.lattice.proofs.Refines.{mem-at}
 use Rattle.laws.proofs.Words.{of-mem, sort-times, one-rising, rises-plain}

@@ -1,21 +1,16 @@
 -- Each refined cell has its visit, each visit its cell, and the visits of one parent follow each other: so each parent has R ^ d children. Assumes nothing.
-use mathlib.Core.Bool.{Bool, true, false}
 use mathlib.Core.Path.{_≡_, refl, sym, ap, _∙_, subst}
-use mathlib.Core.Logic.{_≢_, _⊎_, inl, inr, ⊎-elim}
+use mathlib.Core.Logic.{_≢_}
 use mathlib.Core.List.{List, [], _∷_, _++_, map, List·Memᴰ, List·Memᴰ·head, List·Memᴰ·tail}
 use Prim.Native.Nat.{ℕ, zero, suc, _+_, _*_, _-_, _/_, _%_, _^_, _≤_, _<_, zero-le, suc-le-suc}
 use native.Mathlib.Nat.{le-of-suc-le-suc, not-suc-le-zero, suc-mul, zero-mul, mul-le-mul-right, div-lt-iff-lt-mul, le-div-iff-mul-le, div-add-mod', mod-lt, pow-zero, pow-suc, mul-le-mul-left}
-use native.Mathlib.Decide.{ℕ-discrete, decLt}
 use native.Mathlib.Omega.{arith}
 use lib.ListN.{length, getD, length-map, List·getD-map, List·getD-append}
 use lib.Seq.{getD-append-add}
-use Rattle.lists.specs.Words.{foundAt}
 use Rattle.multiindex.specs.Sort.{sortWord}
-use Rattle.complex.specs.Cells.{inOrder}
 use Rattle.complex.specs.Facets.{cellAt}
 use Rattle.cells.proofs.Words.{at-in}
-use Rattle.ordering.specs.Order.{sameWord, wordOf, byCell}
-use Rattle.ordering.proofs.Orders.{true-same, same-false, by-cell-at, word-first}
+use Rattle.ordering.proofs.Orders.{by-cell-at, word-first}
 use Rattle.lattice.specs.Lattice.{Child}
 use Rattle.lattice.specs.Complex.{same, sum, times, Complex, Names}
 use Rattle.lattice.specs.Children.{gather, children}
@@ -26,6 +21,7 @@ use Rattle.lattice.proofs.Enumerate.{times-at, once-of-apart, child-of-mem}
 use Rattle.lattice.proofs.Count.{Nodup, count}
 use Rattle.lattice.proofs.Refines.{mem-at, names}
 use Rattle.lattice.proofs.Fits.{length-words}
+use Rattle.refine.proofs.Firsts.{visit-first}
 use Rattle.refine.specs.Refined.{visitOf, refinedCells, refinedWords, parentOf, parents}
 use Rattle.laws.proofs.Words.{of-mem, sort-times}
 use Rattle.laws.proofs.Listed.{Listed}
@@ -33,14 +29,6 @@ use Rattle.laws.proofs.Arranged.{from-word, to-cell}
 use Rattle.laws.proofs.Again.{visited, visited-nodup, refined-listed}
 
 -- ---- lists
-pub visit-first : (ows : List (List ℕ)) (c : List ℕ) (r : ℕ) → r < length ows → sortWord (getD ows r []) ≡ c
-    → ((s : ℕ) → s < r → sortWord (getD ows s []) ≡ c → ⊥) → visitOf ows c ≡ r
-unfolding visitOf foundAt
-visit-first [] c r h e f = absurd (not-suc-le-zero h)
-visit-first (w ∷ ows) c zero h e f = rw (true-same (sortWord w) c e)
-visit-first (w ∷ ows) c (suc r) h e f =
-    rw (same-false (sortWord w) c (f 0 (omega arith))) (ap suc (visit-first ows c r (le-of-suc-le-suc h) e (λ s l. f (suc s) (omega arith))))
-
 nodup-at : (l : List (List ℕ)) → Nodup l → (i j : ℕ) → i < j → j < length l → getD l i [] ≢ getD l j []
 nodup-at [] n i j h b e = not-suc-le-zero b
 nodup-at (x ∷ l) n i zero h b e = not-suc-le-zero h

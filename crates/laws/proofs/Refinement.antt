@@ -1,18 +1,17 @@
 -- What a refinement is: every cell is split, every child has its parent, every vertex is used and counted once. Any dimension, whether the words agree or not.
 -- Assumes nothing.
-use mathlib.Core.Path.{_≡_, refl, sym, ap, _∙_, subst}
-use mathlib.Core.List.{List, [], _∷_, map, List·Memᴰ}
-use Prim.Native.Nat.{ℕ, zero, suc, _+_, _*_, _^_, _≤_, _<_}
+use mathlib.Core.Path.{_≡_, sym, ap, _∙_}
+use mathlib.Core.List.{List, [], List·Memᴰ}
+use Prim.Native.Nat.{ℕ, suc, _*_, _≤_, _<_}
 use native.Mathlib.Omega.{arith}
 use lib.Dec.{ltb, lt→ltb}
-use lib.ListN.{length, getD, length-map}
+use lib.ListN.{getD, length-map}
 use Rattle.complex.specs.Cells.{cellsOf}
 use Rattle.complex.specs.Check.{Passed}
-use Rattle.complex.specs.Facets.{cellAt}
 use Rattle.complex.proofs.Fine.{fine-passed}
 use Rattle.ordering.specs.Order.{Orders}
-use Rattle.lattice.specs.Lattice.{weights, Child}
-use Rattle.lattice.specs.Complex.{same, sum, times, weigh, Names}
+use Rattle.lattice.specs.Lattice.{weights}
+use Rattle.lattice.specs.Complex.{same, sum, times, weigh}
 use Rattle.lattice.specs.Children.{children}
 use Rattle.lattice.specs.Refine.{vertices, share, In}
 use Rattle.lattice.specs.Conform.{Used, Sound}
@@ -22,7 +21,7 @@ use Rattle.lattice.proofs.Enumerate.{place-of, mem-of-child}
 use Rattle.lattice.proofs.Count.{Nodup}
 use Rattle.lattice.proofs.Pattern.{child-corners, corner-long, corner-falls}
 use Rattle.lattice.proofs.Refines.{yes-pick}
-use Rattle.refine.specs.Refined.{coarse, orderWords, refinedCells, refinedWords, parentOf, parents}
+use Rattle.refine.specs.Refined.{coarse, orderWords, refinedCells, refinedWords, parentOf}
 use Rattle.laws.specs.Refinement.{Split, Counted}
 use Rattle.laws.specs.Composition.{Accepted}
 use Rattle.laws.proofs.Listed.{Listed, counts-at, number-of}

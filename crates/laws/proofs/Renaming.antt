@@ -1,15 +1,14 @@
 -- Two complexes that are alike up to the numbers of their vertices: the renaming as a function with an inverse. A vertex goes to the vertex with the same shares; there
 -- is one, since every vertex is used and the words are alike, and only one, since different vertices have different shares. Assumes nothing.
-use mathlib.Core.Path.{_≡_, refl, sym, ap, _∙_, subst}
-use mathlib.Core.Logic.{_≢_}
-use mathlib.Core.List.{List, [], _∷_, map, List·Memᴰ, Memᴰ·cast}
-use Prim.Native.Nat.{ℕ, zero, suc, _+_, _*_, _≤_, _<_}
+use mathlib.Core.Path.{_≡_, refl, sym, ap, _∙_}
+use mathlib.Core.List.{List, [], _∷_, map, Memᴰ·cast}
+use Prim.Native.Nat.{ℕ, zero, suc, _≤_, _<_}
 use native.Mathlib.Nat.{le-of-suc-le-suc, not-suc-le-zero}
 use native.Mathlib.Decide.{decLt}
 use native.Mathlib.Omega.{arith}
 use lib.ListN.{length, getD, length-map}
 use lib.Seq.{ext-getD}
-use Rattle.lattice.specs.Complex.{Words, times, Complex, Apart, Within, Alike}
+use Rattle.lattice.specs.Complex.{Words, Complex, Apart, Within, Alike}
 use Rattle.lattice.specs.Refine.{In}
 use Rattle.lattice.specs.Conform.{Used}
 use Rattle.lattice.proofs.Enumerate.{times-at, place-of}

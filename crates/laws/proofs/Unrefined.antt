@@ -1,13 +1,13 @@
 -- Where each child has one corner at each vertex of its parent's word, in the word's sequence, refinement hands out what it was given: R = 1, and dimension 0.
 -- Assumes nothing.
 use mathlib.Core.Path.{_≡_, refl, sym, ap, _∙_, subst}
-use mathlib.Core.Logic.{_≢_, _⊎_, inl, inr, ⊎-elim}
+use mathlib.Core.Logic.{_⊎_, ⊎-elim}
 use mathlib.Core.List.{List, [], _∷_, map, List·Memᴰ, List·Memᴰ·not-nil, List·Memᴰ·cases-cons, Memᴰ·cast}
 use Prim.Native.Nat.{ℕ, zero, suc, _+_, _*_, _^_, _≤_, _<_}
 use native.Mathlib.Nat.{le-of-suc-le-suc, not-suc-le-zero, pow-zero, pow-suc, zero-mul}
 use native.Mathlib.Decide.{ℕ-discrete, decLt}
 use native.Mathlib.Omega.{arith}
-use lib.ListN.{length, getD, length-map}
+use lib.ListN.{length, getD}
 use lib.Seq.{ext-getD}
 use Rattle.lists.specs.Rows.{rows}
 use Rattle.multiindex.specs.Sort.{sortWord}
@@ -20,13 +20,13 @@ use Rattle.cells.proofs.Words as cells
 use Rattle.cells.proofs.Order.{Colex, colex-irr, colex-trans, order-rising, order-from, order-has}
 use Rattle.ordering.specs.Order.{Orders, wordOf, byCell}
 use Rattle.ordering.proofs.Orders.{by-cell-length, by-cell-at}
-use Rattle.lattice.specs.Lattice.{tab, weights, chain, Child}
-use Rattle.lattice.specs.Complex.{same, times, weigh, Complex, Names, Refined}
+use Rattle.lattice.specs.Lattice.{tab, weights, Child}
+use Rattle.lattice.specs.Complex.{same, times, weigh, Names, Refined}
 use Rattle.lattice.specs.Children.{children}
 use Rattle.lattice.specs.Pattern.{patternOf}
 use Rattle.lattice.specs.Refine.{words, vertices, share, In}
 use Rattle.lattice.specs.Conform.{Used, Distinct, Sound}
-use Rattle.lattice.proofs.Tab.{length-tab, getD-tab}
+use Rattle.lattice.proofs.Tab.{getD-tab}
 use Rattle.lattice.proofs.Sums.{same-yes, same-no}
 use Rattle.lattice.proofs.Weights.{length-weights}
 use Rattle.lattice.proofs.After.{weigh-absent}
@@ -35,12 +35,12 @@ use Rattle.lattice.proofs.Count.{Nodup, count}
 use Rattle.lattice.proofs.Pattern.{child-corners, corner-long, row-at, unrefined}
 use Rattle.lattice.proofs.Seats.{weigh-at}
 use Rattle.lattice.proofs.Conform.{apart-at}
-use Rattle.lattice.proofs.Refines.{refined, mem-at}
-use Rattle.refine.specs.Refined.{coarse, orderWords, refinedCells, refinedWords}
+use Rattle.lattice.proofs.Refines.{refined}
+use Rattle.refine.specs.Refined.{coarse, orderWords, refinedCells}
 use Rattle.laws.specs.Composition.{Accepted}
 use Rattle.laws.specs.Unrefined.{Same}
 use Rattle.laws.proofs.Words.{to-mem, of-mem, sort-times}
-use Rattle.laws.proofs.Listed.{Listed, number-of, word-in, listed-complex, listed-distinct}
+use Rattle.laws.proofs.Listed.{Listed, number-of, word-in, listed-distinct}
 use Rattle.laws.proofs.Facets.{listed-nodup}
 use Rattle.laws.proofs.Arranged.{word-found}
 use Rattle.laws.proofs.Checked.{cells-are, cells-listed, order-listed, sound-of}

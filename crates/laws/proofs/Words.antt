@@ -1,14 +1,13 @@
 -- Words by their counts: a sorted word has the word's numbers, and a rising word is known by its numbers. Assumes nothing.
 use mathlib.Core.Bool.{Bool, true, false}
-use mathlib.Core.Path.{_≡_, refl, sym, ap, _∙_, subst}
-use mathlib.Core.Logic.{_≢_, _⊎_, inl, inr, ⊎-elim}
+use mathlib.Core.Path.{_≡_, refl, sym, ap, _∙_}
+use mathlib.Core.Logic.{_⊎_, inl, inr, ⊎-elim}
 use mathlib.Core.List.{List, [], _∷_, List·Memᴰ, List·Memᴰ·head, List·Memᴰ·tail, List·Memᴰ·not-nil, List·Memᴰ·cases-cons}
-use Prim.Native.Nat.{ℕ, zero, suc, _+_, _≤_, _<_}
+use Prim.Native.Nat.{ℕ, _+_, _≤_, _<_}
 use native.Mathlib.Decide.{ℕ-discrete, decLt}
 use native.Mathlib.Omega.{arith}
 use lib.Dec.{ltb, eqb}
-use lib.ListN.{length, getD}
-use borrow.Author.Tests.{ltb-true, ltb-false, eqb-true, eqb-false}
+use borrow.Author.Tests.{eqb-true, eqb-false}
 use Rattle.lists.specs.Words.{either, among, hasRepeat}
 use Rattle.lists.proofs.Members.{All, Pairs}
 use Rattle.multiindex.specs.Sort.{insertBy, insert, sortWord}
@@ -16,8 +15,7 @@ use Rattle.cells.proofs.Words.{Word, In}
 use Rattle.cells.proofs.Strict.{sort-strict}
 use Rattle.lattice.specs.Complex.{same, times, common, Rises}
 use Rattle.lattice.proofs.Sums.{same-self, same-yes, same-no}
-use Rattle.lattice.proofs.After.{keep-yes, keep-no}
-use Rattle.lattice.proofs.Enumerate.{times-of-mem, mem-of-times, times-at}
+use Rattle.lattice.proofs.After.{keep-yes}
 use Rattle.lattice.proofs.Faces.{rising}
 
 -- the two ways to say that a word is in a list

@@ -2,7 +2,7 @@
 -- Assumes nothing.
 use mathlib.Core.List.{List, map}
 use mathlib.Core.Path.{_≡_}
-use Prim.Native.Nat.{ℕ, suc, _*_, _^_, _<_, _≤_}
+use Prim.Native.Nat.{ℕ, _*_, _^_, _<_, _≤_}
 use lib.ListN.{length}
 use Rattle.refusal.specs.declared.Answer.the-variants.{Fine}
 use Rattle.refusal.specs.Limits.{mostCells, mostVertices, mostRefinement}
@@ -28,8 +28,8 @@ pub record Ordered (d : ℕ) (ws os : List ℕ) : Type 0 where
 pub record Refines (d R n : ℕ) (ks : List (List ℕ)) : Type 0 where
   pub least : 1 ≤ R
   pub most : R ≤ mostRefinement
-  pub cells : length ks * R ^ d ≤ mostCells
-  pub corners : vertices d R n ks ≤ mostVertices
+  pub few-cells : length ks * R ^ d ≤ mostCells
+  pub few-vertices : vertices d R n ks ≤ mostVertices
 
 -- The words ts over N vertices are the words cs over N′, up to a one-to-one renaming of the vertices that fixes the first n and keeps every vertex's shares: renamed
 -- by `to`, vertex by vertex, each word of ts is a word of cs, and each word of cs comes back by `from`.
@@ -55,7 +55,10 @@ pub record Composes (d a b n : ℕ) (ks : List (List ℕ)) (ws₁ os₁ : List �
   pub counted : coarse ws₁ ≡ vertices d a n ks
   -- so the second call is not refused either
   pub second : Refines d b (coarse ws₁) (orderWords d ws₁ os₁)
-  -- and it hands out what the single call hands out, a vertex's shares multiplied through the middle step
+  -- and it hands out as many cells and vertices as the single call
+  pub as-many-cells : length (refinedCells d b (coarse ws₁) (orderWords d ws₁ os₁)) ≡ length (refinedCells d (a * b) n ks)
+  pub as-many-vertices : vertices d b (coarse ws₁) (orderWords d ws₁ os₁) ≡ vertices d (a * b) n ks
+  -- which are the same up to the numbers of the vertices, a vertex's shares multiplied through the middle step
   pub same : Renamed n (vertices d b (coarse ws₁) (orderWords d ws₁ os₁)) (vertices d (a * b) n ks)
       (refinedWords d b (coarse ws₁) (orderWords d ws₁ os₁)) (refinedWords d (a * b) n ks)
       (through (coarse ws₁) (share d a n ks) (share d b (coarse ws₁) (orderWords d ws₁ os₁))) (share d (a * b) n ks)

@@ -1,5 +1,5 @@
 -- Coded answers and grids from their parts. Assumes nothing.
-use mathlib.Core.Path.{_≡_, refl, sym, ap, _∙_}
+use mathlib.Core.Path.{_≡_, refl, sym, ap, subst, _∙_}
 use Prim.Native.Nat.{ℕ, zero, suc, _<_, _≤_, _%_}
 use native.Mathlib.Nat.{not-suc-le-zero, le-of-suc-le-suc}
 use mathlib.Core.Bool.{Bool, true, false, cond}
@@ -16,7 +16,9 @@ use Rattle.quotient.specs.declared.Axis.{Axis}
 use Rattle.quotient.specs.declared.Grid.{Grid}
 use Rattle.quotient.specs.declared.Made.{Made}
 use Rattle.quotient.specs.declared.Made.the-variants.{Taken, Refused}
-use Rattle.planner.specs.Said.{refusedCode, madeCode, madeAxes}
+use Rattle.refusal.specs.declared.Counted.{Counted}
+use Rattle.gridmesh.specs.Words.{CellWords}
+use Rattle.planner.specs.Said.{Said, countedCode, refusedCode, madeCode, madeAxes}
 use Rattle.planner.specs.Given.{glueOf, axisGiven, sidesGiven, gridGiven, entry, sideGiven, gluesGiven, glueCode, axesOf}
 
 -- an answer that is the call's, on a value that is the one given
@@ -98,3 +100,10 @@ made-taken s axes e h = (sym (ap madeCode e), h ∙ sym (ap (λ (x : Made). made
 -- a maker's answer and axes, where its answer is that of the one that is asked for
 pub made-as : (s asked : Made) {r : ℕ} (axes : List ℕ) {after : List ℕ} → (r ≡ madeCode s) × (after ≡ madeAxes s axes) → s ≡ asked → (r ≡ madeCode asked) × (after ≡ madeAxes asked axes)
 made-as s asked axes h k = (h .0 ∙ ap madeCode k, h .1 ∙ ap (λ (x : Made). madeAxes x axes) k)
+
+-- a grid's words, where the grid is the one given
+pub words-said : {g given : Grid} {r : ℕ} {a : Counted} {words words′ keys keys′ rows rows′ spare spare′ counts counts′ : List ℕ}
+    → r ≡ countedCode a → CellWords g a words words′ keys keys′ rows rows′ spare spare′ counts counts′ → g ≡ given
+    → Said countedCode (λ (x : Counted). CellWords given x words words′ keys keys′ rows rows′ spare spare′ counts counts′) r
+words-said {a} {words} {words′} {keys} {keys′} {rows} {rows′} {spare} {spare′} {counts} {counts′} e h k =
+    record { answer = a; coded = e; meets = subst (λ (x : Grid). CellWords x a words words′ keys keys′ rows rows′ spare spare′ counts counts′) k h }

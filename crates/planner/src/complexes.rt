@@ -1,8 +1,53 @@
 // The calls on cell lists.
 use crate::said;
+ghost use lib.ListN.{length};
+ghost use Rattle.complex.specs.Room.{needOf};
+ghost use Rattle.complex.specs.Cells.{cellsOf};
+ghost use Rattle.complex.specs.Skeleton.{edgesOf};
+ghost use Rattle.skeleton.specs.Promise.{Listed};
+ghost use Rattle.skeleton.specs.Parts.{edgeNeed};
 ghost use Rattle.orientation.specs.Promise.{Orientation};
 ghost use Rattle.oriented.specs.Promise.{OrientBy};
 ghost use Rattle.planner.specs.Said.{Said, countedCode, verdictCode};
+
+// The cells, d+1 vertices each, in colex order without repeats: how many. Refused: 1, 2, 3, 4, 6, 5, then 12 where a working list is too short, then 7, 12 where the
+// cell list is too short.
+#[no_mangle]
+pub extern "C" fn planner_cells(
+    d: u32,
+    words: &[u32],
+    cells: &mut [u32],
+    keys: &mut [u32],
+    rows: &mut [u32],
+    spare: &mut [u32],
+    counts: &mut [u32],
+) -> u64
+    ensures { λ r.
+        ⌜ Said countedCode (λ a. Listed (needOf d (length (now (words .entry)))) (cellsOf d (now (words .entry))) d (now (words .entry)) a (now (cells .entry)) (now (cells .exit))
+        (now (keys .entry)) (now (keys .exit)) (now (rows .entry)) (now (rows .exit)) (now (spare .entry)) (now (spare .exit)) (now (counts .entry))
+        (now (counts .exit))) r ⌝ }
+{
+    said::counted(skeleton::cells(d, words, cells, keys, rows, spare, counts))
+}
+
+// The edges, two vertices each, the lower first, in colex order without repeats: how many. Refused as `planner_cells` is, with its own need of working room.
+#[no_mangle]
+pub extern "C" fn planner_edges(
+    d: u32,
+    words: &[u32],
+    edges: &mut [u32],
+    keys: &mut [u32],
+    rows: &mut [u32],
+    spare: &mut [u32],
+    counts: &mut [u32],
+) -> u64
+    ensures { λ r.
+        ⌜ Said countedCode (λ a. Listed (edgeNeed d (length (now (words .entry)))) (edgesOf (cellsOf d (now (words .entry)))) d (now (words .entry)) a (now (edges .entry))
+        (now (edges .exit)) (now (keys .entry)) (now (keys .exit)) (now (rows .entry)) (now (rows .exit)) (now (spare .entry)) (now (spare .exit))
+        (now (counts .entry)) (now (counts .exit))) r ⌝ }
+{
+    said::counted(skeleton::edges(d, words, edges, keys, rows, spare, counts))
+}
 
 // One sign a cell, +1 or -1, coherent, +1 at the lowest cell of each piece: how many. Refused: 1, 2, 3, 4, 6, 5, then 12 where a working list is too short, then 7,
 // 13 where no coherent signs exist, 12 where the sign list is too short.

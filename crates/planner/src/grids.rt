@@ -7,7 +7,8 @@ ghost use mathlib.Core.Path.{_≡_};
 ghost use Rattle.quotient.specs.Reduce.{reduceOf};
 ghost use Rattle.quotient.specs.Shape.{parityOf, nverticesOf};
 ghost use Rattle.quotient.specs.Makers.{torusOf, kleinOf, quasiOf, bandOf};
-ghost use Rattle.planner.specs.Said.{reducedCode, parityCode, countedCode, madeCode, madeAxes};
+ghost use Rattle.gridmesh.specs.Words.{CellWords};
+ghost use Rattle.planner.specs.Said.{Said, reducedCode, parityCode, countedCode, madeCode, madeAxes};
 ghost use Rattle.planner.specs.Given.{plainGiven, vertexGiven, sidesGiven, gluesGiven};
 
 // The glued number of grid point v, 4294967295 where v is past the last point. Refused: 1, 9, 8, 3, 6.
@@ -86,4 +87,24 @@ pub extern "C" fn planner_quasi_uniform(
     let g = given::glues(gluings);
     let s = given::sides(sides);
     said::made(Grid::quasi_uniform(d, s, g, n), axes)
+}
+
+// The words of the grid's cells, d+1 vertices each, in the order of the sorted grid cells: how many. Refused: 1, 9, 8, 3, 6, then 12 where a working list is too short,
+// then 7, 12 where the word list is too short.
+#[no_mangle]
+pub extern "C" fn planner_cell_words(
+    d: u32,
+    axes: &[u32],
+    words: &mut [u32],
+    keys: &mut [u32],
+    rows: &mut [u32],
+    spare: &mut [u32],
+    counts: &mut [u32],
+) -> u64
+    ensures { λ r.
+        ⌜ Said countedCode (λ a. CellWords (plainGiven d (now (axes .entry))) a (now (words .entry)) (now (words .exit)) (now (keys .entry)) (now (keys .exit)) (now (rows .entry))
+        (now (rows .exit)) (now (spare .entry)) (now (spare .exit)) (now (counts .entry)) (now (counts .exit))) r ⌝ }
+{
+    let g = given::plain(d, axes);
+    said::counted(gridmesh::cell_words(g, words, keys, rows, spare, counts))
 }

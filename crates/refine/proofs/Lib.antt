@@ -1,2 +1,3 @@
 pub mod Figures
 pub mod Firsts
+pub mod Seats

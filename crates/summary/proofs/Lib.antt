@@ -1,0 +1,3 @@
+-- Laws that the proofs of `summary` cite.
+pub mod Laws
+pub mod Figures

@@ -1,0 +1,2 @@
+-- What the contracts of `summary` cite.
+pub mod Lines
