@@ -5,3 +5,9 @@ pub mod Lists
 pub mod Matching
 pub mod Arranging
 pub mod Steps
+pub mod Agreeing
+pub mod Ends
+pub mod Entry
+pub mod Determined
+pub mod Winding
+pub mod InducedEntry

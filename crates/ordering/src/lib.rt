@@ -7,15 +7,19 @@
 //   rows               cells            cells                  mates          mates
 //   spare              first rows       first rows             first rows     whether signs differ across each slot
 //   counts             buckets          classes                classes        the words' signs
+use refusal::Answer;
 use refusal::BAD_ORDER;
 use refusal::CROWDED_FACET;
 use refusal::Counted;
 use refusal::Room;
+use refusal::TOO_SHORT;
+use refusal::Verdict;
 ghost use mathlib.Core.Path.{_≡_};
 ghost use Prim.Native.Nat.{_<_, _≤_};
 ghost use lib.ListN.{length};
+ghost use Rattle.lists.specs.Zero.{AllZero};
 ghost use Rattle.complex.specs.Cells.{cellsOf};
-ghost use Rattle.ordering.specs.Promise.{orderNeed, Preparing, Prepared};
+ghost use Rattle.ordering.specs.Promise.{orderNeed, Preparing, Prepared, Worked, Wound, Ordering, Induced};
 
 pub mod agreement;
 pub mod arranged;
@@ -59,6 +63,63 @@ fn prepare(
     Counted::Count(m as u32)
 }
 
+// The work of `ordering`, in working lists of just the sizes that are needed. Nothing is promised of them.
+fn order_work(
+    d: usize,
+    at: usize,
+    words: &[u32],
+    order: &[u32],
+    listed: &mut [u32],
+    keys: &mut [u32],
+    rows: &mut [u32],
+    spare: &mut [u32],
+    counts: &mut [u32],
+) -> Ordered
+    requires { ⌜ Preparing d at (now words) (now keys) (now rows) (now spare) (now counts) ⌝ }
+    ensures { λ r. ⌜ Worked d (now (words .entry)) (now (order .entry)) r (now (listed .entry)) (now (listed .exit)) ⌝ }
+{
+    let prepared = prepare(d, at, words, order, keys, rows, spare, counts);
+    match prepared {
+        Counted::Refused(number, place) => Ordered::Refused(number, place),
+        Counted::Count(m) => {
+            let count = wide(m);
+            let size = count * (d + 1);
+            if listed.len() < size {
+                return Ordered::Refused(TOO_SHORT, 0);
+            }
+            let end = at + size;
+            lists::copy(&keys[at..end], &mut listed[..size]);
+            if !agreement::agree(d, count, rows, &keys[at..]) {
+                return Ordered::Differ(m);
+            }
+            Ordered::Agree(m)
+        }
+    }
+}
+
+// The work of `ordering`, and then the working lists are all zero.
+fn order_cleared(
+    d: usize,
+    at: usize,
+    words: &[u32],
+    order: &[u32],
+    listed: &mut [u32],
+    keys: &mut [u32],
+    rows: &mut [u32],
+    spare: &mut [u32],
+    counts: &mut [u32],
+) -> Ordered
+    requires { ⌜ Preparing d at (now words) (now keys) (now rows) (now spare) (now counts) ⌝ }
+    ensures work { λ r. ⌜ Worked d (now (words .entry)) (now (order .entry)) r (now (listed .entry)) (now (listed .exit)) ⌝ }
+    ensures room { λ _.
+        ⌜ AllZero (now (keys .entry)) (now (keys .exit)) (now (rows .entry)) (now (rows .exit)) (now (spare .entry)) (now (spare .exit)) (now (counts .entry))
+        (now (counts .exit)) ⌝ }
+{
+    let said = order_work(d, at, words, order, listed, keys, rows, spare, counts);
+    lists::clear_four(keys, rows, spare, counts);
+    said
+}
+
 // What a call on an order needs of its working lists.
 fn need(d: usize, len: usize) -> Room
     requires { ⌜ (d ≤ 3) × (len < 65536) ⌝ }
@@ -71,4 +132,155 @@ fn need(d: usize, len: usize) -> Room
         spare: len,
         counts: len,
     }
+}
+
+// The order's words by cell, and whether they agree on every facet of two cells. Refused: 1, 2, 3, 4, 6, 5, then 12 where a working list is too short
+// (`orderNeed`), then 7, 16 where the order's words are not one for each cell, 12 where the result list is too short. A refusal changes no word; from the room's
+// test on what is needed of the working lists is zero at the end.
+pub fn ordering(
+    d: u32,
+    words: &[u32],
+    order: &[u32],
+    listed: &mut [u32],
+    keys: &mut [u32],
+    rows: &mut [u32],
+    spare: &mut [u32],
+    counts: &mut [u32],
+) -> Ordered
+    ensures { λ r.
+        ⌜ Ordering d (now (words .entry)) (now (order .entry)) r (now (listed .entry)) (now (listed .exit)) (now (keys .entry)) (now (keys .exit))
+        (now (rows .entry)) (now (rows .exit)) (now (spare .entry)) (now (spare .exit)) (now (counts .entry)) (now (counts .exit)) ⌝ }
+{
+    let checked = complex::check_cells(d, words);
+    if let Answer::Refused(number, place) = checked {
+        return Ordered::Refused(number, place);
+    }
+    let dim = d as usize;
+    let len = words.len();
+    let base = complex::need(dim, len);
+    let at = base.keys;
+    let need = need(dim, len);
+    let have = Room {
+        keys: keys.len(),
+        rows: rows.len(),
+        spare: spare.len(),
+        counts: counts.len(),
+    };
+    if !refusal::has_room(need, have) {
+        return Ordered::Refused(TOO_SHORT, 0);
+    }
+    let k = need.keys;
+    let r = need.rows;
+    let s = need.spare;
+    let c = need.counts;
+    order_cleared(
+        dim,
+        at,
+        words,
+        order,
+        listed,
+        &mut keys[..k],
+        &mut rows[..r],
+        &mut spare[..s],
+        &mut counts[..c],
+    )
+}
+
+// The work of `induced_orientation`, in working lists of just the sizes that are needed. Nothing is promised of them.
+fn wound_work(
+    d: usize,
+    at: usize,
+    words: &[u32],
+    order: &[u32],
+    keys: &mut [u32],
+    rows: &mut [u32],
+    spare: &mut [u32],
+    counts: &mut [u32],
+) -> Verdict
+    requires { ⌜ Preparing d at (now words) (now keys) (now rows) (now spare) (now counts) ⌝ }
+    ensures { λ r. ⌜ Wound d (cellsOf d (now (words .entry))) (now (order .entry)) r tt ⌝ }
+{
+    let prepared = prepare(d, at, words, order, keys, rows, spare, counts);
+    match prepared {
+        Counted::Refused(number, place) => Verdict::Refused(number, place),
+        Counted::Count(m) => {
+            let count = wide(m);
+            agreement::word_marks(d + 1, count, &keys[at..], counts);
+            if !oriented::coherent_as(d, count, rows, &mut keys[..at], spare, counts) {
+                return Verdict::No;
+            }
+            Verdict::Yes
+        }
+    }
+}
+
+// The work of `induced_orientation`, and then the working lists are all zero.
+fn wound_cleared(
+    d: usize,
+    at: usize,
+    words: &[u32],
+    order: &[u32],
+    keys: &mut [u32],
+    rows: &mut [u32],
+    spare: &mut [u32],
+    counts: &mut [u32],
+) -> Verdict
+    requires { ⌜ Preparing d at (now words) (now keys) (now rows) (now spare) (now counts) ⌝ }
+    ensures work { λ r. ⌜ Wound d (cellsOf d (now (words .entry))) (now (order .entry)) r tt ⌝ }
+    ensures room { λ _.
+        ⌜ AllZero (now (keys .entry)) (now (keys .exit)) (now (rows .entry)) (now (rows .exit)) (now (spare .entry)) (now (spare .exit)) (now (counts .entry))
+        (now (counts .exit)) ⌝ }
+{
+    let said = wound_work(d, at, words, order, keys, rows, spare, counts);
+    lists::clear_four(keys, rows, spare, counts);
+    said
+}
+
+// Yes exactly if the signs of the order's words are coherent, else no; in dimension 0 always no. Refused: 1, 2, 3, 4, 6, 5, then 12 where a working list is too
+// short (`orderNeed`), then 7, 16 where the order's words are not one for each cell. From the room's test on what is needed of the working lists is zero at the end.
+pub fn induced_orientation(
+    d: u32,
+    words: &[u32],
+    order: &[u32],
+    keys: &mut [u32],
+    rows: &mut [u32],
+    spare: &mut [u32],
+    counts: &mut [u32],
+) -> Verdict
+    ensures { λ r.
+        ⌜ Induced d (now (words .entry)) (now (order .entry)) r (now (keys .entry)) (now (keys .exit)) (now (rows .entry)) (now (rows .exit)) (now (spare .entry))
+        (now (spare .exit)) (now (counts .entry)) (now (counts .exit)) ⌝ }
+{
+    let checked = complex::check_cells(d, words);
+    if let Answer::Refused(number, place) = checked {
+        return Verdict::Refused(number, place);
+    }
+    let dim = d as usize;
+    let len = words.len();
+    let base = complex::need(dim, len);
+    let at = base.keys;
+    let need = need(dim, len);
+    let have = Room {
+        keys: keys.len(),
+        rows: rows.len(),
+        spare: spare.len(),
+        counts: counts.len(),
+    };
+    if !refusal::has_room(need, have) {
+        return Verdict::Refused(TOO_SHORT, 0);
+    }
+    let k = need.keys;
+    let r = need.rows;
+    let s = need.spare;
+    let c = need.counts;
+    wound_cleared(
+        dim,
+        at,
+        words,
+        order,
+        &mut keys[..k],
+        &mut rows[..r],
+        &mut spare[..s],
+        &mut counts[..c],
+    )
 }
