@@ -4,3 +4,4 @@ pub mod Reading
 pub mod Lists
 pub mod Matching
 pub mod Arranging
+pub mod Steps

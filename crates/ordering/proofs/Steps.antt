@@ -1,0 +1,141 @@
+-- The work on an order, step by step: what each call asks follows from what the calls before it gave. Assumes nothing.
+use mathlib.Core.Bool.{Bool, true, false}
+use mathlib.Core.List.{List, [], _∷_, _++_, append-nil}
+use mathlib.Core.Path.{_≡_, refl, sym, ap, _∙_, subst}
+use Prim.Native.Nat.{ℕ, zero, suc, _+_, _-_, _*_, _<_, _≤_}
+use native.Mathlib.Nat.{le-refl}
+use native.Mathlib.Omega.{arith}
+use lib.ListN.{length, getD, take, drop, length-append, length-drop, drop-of-length-le}
+use lib.Seq.{length-take-le, take-at, drop-at}
+use Rattle.refusal.specs.declared.Counted.the-variants as Counted
+use Rattle.refusal.specs.Table.{crowdedFacet, badOrder}
+use Rattle.lists.specs.Rows.{cut, rows}
+use Rattle.lists.proofs.Rows.{cut-length}
+use Rattle.lists.proofs.Words.{tail-part}
+use Rattle.complex.specs.Room.{keyRoom}
+use Rattle.complex.specs.Cells.{cellsOf}
+use Rattle.complex.specs.Facets.{Cells, Crowded}
+use Rattle.facets.specs.Table.{MateTable, Meeting}
+use Rattle.cells.specs.Made.{Making, Made}
+use Rattle.signs.proofs.Linking.{not-crowded}
+use Rattle.orientation.specs.Work.{Working}
+use Rattle.orientation.proofs.Steps.{meeting}
+use Rattle.ordering.specs.Order.{byCell, Orders, flat}
+use Rattle.ordering.specs.Arrange.{Arranging, Arranged}
+use Rattle.ordering.specs.Promise.{wordsBy, Preparing, Ready, Prepared, crowded, unordered, ready}
+use Rattle.ordering.proofs.Lists.{flat-cut, cut-front, front-at}
+
+-- cells that stay in the front are made again
+made-again : (d : ℕ) (ws : List ℕ) (m : ℕ) (l k : List ℕ) → Made d ws m l → take (m * suc d) k ≡ take (m * suc d) l → Made d ws m k
+made-again d ws m l k a e =
+    let c : cut (suc d) m k ≡ cut (suc d) m l = cut-front (suc d) m k l e in
+    record {
+      same = c ∙ a .same;
+      cells = subst (λ (cs : List (List ℕ)). Cells d cs) (sym c) (a .cells);
+      most = a .most;
+      below = λ i h. rw (front-at (m * suc d) k l i h e) (a .below i h);
+      corners = a .corners;
+    }
+
+module _ (d at : ℕ) (ws keys rows₀ spare counts : List ℕ) (w : Preparing d at ws keys rows₀ spare counts) where
+  pub making : Making d ws keys rows₀ spare counts
+  making =
+      record {
+        passed = w .passed;
+        keys-long = omega (arith, w .keys-long);
+        rows-long = omega (arith, w .rows-long);
+        spare-long = omega (arith, w .spare-long);
+        counts-long = omega (arith, w .counts-long);
+      }
+
+  module _ (m : ℕ) (keys′ rows′ spare′ counts′ : List ℕ) (lk : length keys′ ≡ length keys) (lr : length rows′ ≡ length rows₀) (ls : length spare′ ≡ length spare) (lc : length counts′ ≡ length counts) (a : Made d ws m rows′) where
+    part-long : length (take (length keys′ - at) (drop at keys′)) ≡ length ws + length ws
+    part-long = ap length (tail-part keys′ at) ∙ length-drop at keys′ ∙ omega (arith, w .keys-long, w .start)
+
+    pub arranging : Arranging d m (length ws) (take (length keys′ - at) (drop at keys′)) rows′ spare′ counts′
+    arranging =
+        record {
+          ws = ws;
+          made = a;
+          bound = refl;
+          keys-long = omega (arith, part-long);
+          cells-long = omega (arith, w .rows-long);
+          spare-long = omega (arith, w .spare-long);
+          counts-long = omega (arith, w .counts-long);
+          dim = omega (arith, w .passed .small);
+        }
+
+    pub at-fits : at ≤ length keys′
+    at-fits = omega (arith, w .keys-long, w .start)
+
+    module _ (order : List ℕ) (ok : Bool) (ys rows″ spare″ counts″ : List ℕ) (ly : length ys ≡ length (take (length keys′ - at) (drop at keys′))) (lr″ : length rows″ ≡ length rows′) (ls″ : length spare″ ≡ length spare′) (lc″ : length counts″ ≡ length counts′) (b : Arranged d m order rows′ ok ys rows″) where
+      keys″ : List ℕ
+      keys″ = take at keys′ ++ (ys ++ drop (length keys′ - at) (drop at keys′))
+
+      a″ : Made d ws m rows″
+      a″ = made-again d ws m rows′ rows″ a (b .kept)
+
+      pub front-fits : at ≤ length (take at keys′ ++ (ys ++ drop (length keys′ - at) (drop at keys′)))
+      front-fits = omega (arith, length-append (take at keys′) (ys ++ drop (length keys′ - at) (drop at keys′)), length-take-le at keys′ at-fits)
+
+      pub meets : Meeting d m (length ws) (take at (take at keys′ ++ (ys ++ drop (length keys′ - at) (drop at keys′)))) rows″ spare″ counts″
+      meets =
+          meeting d ws (take at (take at keys′ ++ (ys ++ drop (length keys′ - at) (drop at keys′)))) rows″ spare″ counts″
+          (record {
+            passed = w .passed;
+            keys-long = length-take-le at (take at keys′ ++ (ys ++ drop (length keys′ - at) (drop at keys′))) front-fits ∙ w .start;
+            rows-long = omega (arith, w .rows-long);
+            spare-long = omega (arith, w .spare-long);
+            counts-long = omega (arith, w .counts-long);
+          })
+          m (take at (take at keys′ ++ (ys ++ drop (length keys′ - at) (drop at keys′)))) rows″ spare″ counts″ refl refl refl refl a″
+
+      cells-many : length (cellsOf d ws) ≡ m
+      cells-many = ap length (sym (a .same)) ∙ cut-length (suc d) m rows′
+
+      module _ (p rows‴ : List ℕ) (lp : length p ≡ length (take at (take at keys′ ++ (ys ++ drop (length keys′ - at) (drop at keys′))))) where
+        -- 7
+        pub prepared-crowded : (keys‴ : List ℕ) → Crowded d (cut (suc d) m rows″) → Prepared d at (length ws) (cellsOf d ws) order keys‴ rows‴ (Counted.Refused crowdedFacet 0)
+        prepared-crowded keys‴ x = crowded (subst (λ (cs : List (List ℕ)). Crowded d cs) (a″ .same) x)
+
+        module _ (t : MateTable d (cut (suc d) m rows″) rows‴) where
+          free : Crowded d (cellsOf d ws) → ⊥
+          free x = not-crowded d m (cut (suc d) m rows″) (cut-length (suc d) m rows″) rows‴ t (omega (arith, a .most, a .corners)) (subst (λ (cs : List (List ℕ)). Crowded d cs) (sym (a″ .same)) x)
+
+          -- 16
+          pub prepared-unordered : (keys‴ : List ℕ) → ok ≡ false → Prepared d at (length ws) (cellsOf d ws) order keys‴ rows‴ (Counted.Refused badOrder 0)
+          prepared-unordered keys‴ e = unordered free (λ o. b .none e (subst (λ (cs : List (List ℕ)). Orders d cs order) (sym (a .same)) o))
+
+          last-part : drop at (p ++ drop at (take at keys′ ++ (ys ++ drop (length keys′ - at) (drop at keys′)))) ≡ ys
+          last-part =
+              let over : length (drop at keys′) ≤ length keys′ - at = omega (arith, length-drop at keys′) in
+              drop-at p (drop at (take at keys′ ++ (ys ++ drop (length keys′ - at) (drop at keys′)))) at (lp ∙ length-take-le at (take at keys′ ++ (ys ++ drop (length keys′ - at) (drop at keys′))) front-fits)
+              ∙ drop-at (take at keys′) (ys ++ drop (length keys′ - at) (drop at keys′)) at (length-take-le at keys′ at-fits)
+              ∙ ap (λ (l : List ℕ). ys ++ l) (drop-of-length-le (drop at keys′) over) ∙ append-nil ys
+
+          the-words : ok ≡ true → take (m * suc d) (drop at (p ++ drop at (take at keys′ ++ (ys ++ drop (length keys′ - at) (drop at keys′))))) ≡ flat (wordsBy d (cellsOf d ws) order)
+          the-words e = ap (take (m * suc d)) last-part ∙ b .words e ∙ ap (λ (cs : List (List ℕ)). flat (wordsBy d cs order)) (a .same)
+
+          the-cells : ok ≡ true → take (m * suc d) (drop (m * suc d) (drop at (p ++ drop at (take at keys′ ++ (ys ++ drop (length keys′ - at) (drop at keys′)))))) ≡ flat (cellsOf d ws)
+          the-cells e = ap (λ (l : List ℕ). take (m * suc d) (drop (m * suc d) l)) last-part ∙ b .behind e ∙ sym (flat-cut (suc d) m rows′) ∙ ap flat (a .same)
+
+          pub prepared-ready : ok ≡ true → Prepared d at (length ws) (cellsOf d ws) order (p ++ drop at (take at keys′ ++ (ys ++ drop (length keys′ - at) (drop at keys′)))) rows‴ (Counted.Count m)
+          prepared-ready e =
+              subst (λ (n : ℕ). Prepared d at (length ws) (cellsOf d ws) order (p ++ drop at (take at keys′ ++ (ys ++ drop (length keys′ - at) (drop at keys′)))) rows‴ (Counted.Count n)) cells-many
+              (ready (record {
+                free = free;
+                ordered = subst (λ (cs : List (List ℕ)). Orders d cs order) (a .same) (b .ordered e);
+                mates = subst (λ (cs : List (List ℕ)). MateTable d cs rows‴) (a″ .same) t;
+                words = subst (λ (n : ℕ). take (n * suc d) (drop at (p ++ drop at (take at keys′ ++ (ys ++ drop (length keys′ - at) (drop at keys′))))) ≡ flat (wordsBy d (cellsOf d ws) order)) (sym cells-many) (the-words e);
+                behind = subst (λ (n : ℕ). take (n * suc d) (drop (n * suc d) (drop at (p ++ drop at (take at keys′ ++ (ys ++ drop (length keys′ - at) (drop at keys′)))))) ≡ flat (cellsOf d ws)) (sym cells-many) (the-cells e);
+                long = subst (λ (cs : List (List ℕ)). Cells d cs) (a .same) (a .cells) .long;
+                most = rw cells-many (a .most);
+              }))
+
+-- the room asked for is small
+pub need-bound : (d n : ℕ) → d ≤ 3 → n < 65536 → keyRoom d n < 262144
+need-bound zero n h l = omega arith
+need-bound (suc zero) n h l = omega arith
+need-bound (suc (suc zero)) n h l = omega arith
+need-bound (suc (suc (suc zero))) n h l = omega arith
+need-bound (suc (suc (suc (suc d)))) n h l = absurd (omega arith)
