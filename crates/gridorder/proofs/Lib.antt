@@ -1,0 +1,3 @@
+-- Laws that the proofs of `gridorder` cite.
+pub mod Steps
+pub mod Determined
