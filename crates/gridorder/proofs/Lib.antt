@@ -1,3 +1,4 @@
 -- Laws that the proofs of `gridorder` cite.
 pub mod Steps
 pub mod Determined
+pub mod Finish

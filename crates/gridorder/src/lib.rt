@@ -101,3 +101,19 @@ fn hand_out(
     lists::copy(&list[..size], &mut order[..size]);
     Triangulated::Ordered(m as u32)
 }
+
+// What the call needs of its working lists.
+fn need(grid: Grid) -> Room
+    requires { ⌜ checkOf grid ≡ Fine ⌝ }
+    ensures { λ r. ⌜ r ≡ orderRoom grid ⌝ }
+{
+    let d = grid.d as usize;
+    let len = gridwords::cells(grid) * (d + 1);
+    let base = complex::need(d, len);
+    Room {
+        keys: base.keys + len + len,
+        rows: len,
+        spare: len,
+        counts: len,
+    }
+}
