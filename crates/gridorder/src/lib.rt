@@ -9,14 +9,11 @@
 //   counts             buckets          classes                classes
 ghost use mathlib.Core.Path.{_≡_};
 ghost use Rattle.refusal.specs.declared.Answer.the-variants.{Fine};
-ghost use Rattle.lists.specs.Zero.{AllZero};
 ghost use Rattle.quotient.specs.Shape.{checkOf};
-ghost use Rattle.gridorder.specs.Promise.{orderRoom, TriangulateOrdered};
-ghost use Rattle.gridorder.specs.Work.{Finding, Found, Laying, Laid, Decided, Handing, HandedOut, Working, Worked};
+ghost use Rattle.gridorder.specs.Promise.{orderRoom};
+ghost use Rattle.gridorder.specs.Work.{Finding, Found, Laying, Laid, Decided, Handing, HandedOut};
 ghost use Rattle.ordering.specs.Agree.{Agreeing};
 use quotient::Grid;
-use refusal::Answer;
-use refusal::CROWDED_FACET;
 use refusal::Room;
 use refusal::TOO_SHORT;
 
