@@ -2,3 +2,4 @@
 pub mod Steps
 pub mod Determined
 pub mod Finish
+pub mod Entry
