@@ -101,3 +101,113 @@ fn hand_out(
     lists::copy(&list[..size], &mut order[..size]);
     Triangulated::Ordered(m as u32)
 }
+
+// The work of `triangulate_ordered`, in working lists of just the sizes that are needed.
+fn work(
+    grid: Grid,
+    at: usize,
+    cells: &mut [u32],
+    order: &mut [u32],
+    keys: &mut [u32],
+    rows: &mut [u32],
+    spare: &mut [u32],
+    counts: &mut [u32],
+) -> Triangulated
+    requires { ⌜ Working grid at (now keys) (now rows) (now spare) (now counts) ⌝ }
+    ensures { λ r. ⌜ Worked grid r (now (cells .entry)) (now (cells .exit)) (now (order .entry)) (now (order .exit)) ⌝ }
+{
+    let d = grid.d as usize;
+    let m = find(grid, keys, rows, spare, counts);
+    lay_out(grid, m, &mut keys[at..], rows, spare);
+    let count = gridwords::cells(grid);
+    if !facets::mates(d, m, count * (d + 1), &mut keys[..at], rows, spare, counts) {
+        return Triangulated::Refused(CROWDED_FACET, 0);
+    }
+    let ordered = decide(d, m, count, rows, &keys[at..]);
+    hand_out(m * (d + 1), m, ordered, &keys[at..], cells, order)
+}
+
+// The work, and then the working lists are all zero.
+fn cleared(
+    grid: Grid,
+    at: usize,
+    cells: &mut [u32],
+    order: &mut [u32],
+    keys: &mut [u32],
+    rows: &mut [u32],
+    spare: &mut [u32],
+    counts: &mut [u32],
+) -> Triangulated
+    requires { ⌜ Working grid at (now keys) (now rows) (now spare) (now counts) ⌝ }
+    ensures work { λ r. ⌜ Worked grid r (now (cells .entry)) (now (cells .exit)) (now (order .entry)) (now (order .exit)) ⌝ }
+    ensures room { λ _.
+        ⌜ AllZero (now (keys .entry)) (now (keys .exit)) (now (rows .entry)) (now (rows .exit)) (now (spare .entry)) (now (spare .exit)) (now (counts .entry))
+        (now (counts .exit)) ⌝ }
+{
+    let said = work(grid, at, cells, order, keys, rows, spare, counts);
+    lists::clear_four(keys, rows, spare, counts);
+    said
+}
+
+// What the call needs of its working lists.
+fn need(grid: Grid) -> Room
+    requires { ⌜ checkOf grid ≡ Fine ⌝ }
+    ensures { λ r. ⌜ r ≡ orderRoom grid ⌝ }
+{
+    let d = grid.d as usize;
+    let len = gridwords::cells(grid) * (d + 1);
+    let base = complex::need(d, len);
+    Room {
+        keys: base.keys + len + len,
+        rows: len,
+        spare: len,
+        counts: len,
+    }
+}
+
+// The cells of the grid in colex order, and an order of them exactly where no two words sort to one cell and all facets agree: the words by cell. Refused: 1, 9, 8, 3,
+// 6, then 12 where a working list is too short, then 7, 12 where a result list is too short. A refusal changes no result list; where no order is handed out its list
+// needs no length and is not changed. From the room's test on what is needed of the working lists is zero at the end.
+pub fn triangulate_ordered(
+    grid: Grid,
+    cells: &mut [u32],
+    order: &mut [u32],
+    keys: &mut [u32],
+    rows: &mut [u32],
+    spare: &mut [u32],
+    counts: &mut [u32],
+) -> Triangulated
+    ensures { λ r.
+        ⌜ TriangulateOrdered grid r (now (cells .entry)) (now (cells .exit)) (now (order .entry)) (now (order .exit)) (now (keys .entry)) (now (keys .exit))
+        (now (rows .entry)) (now (rows .exit)) (now (spare .entry)) (now (spare .exit)) (now (counts .entry)) (now (counts .exit)) ⌝ }
+{
+    let checked = grid.check();
+    if let Answer::Refused(number, place) = checked {
+        return Triangulated::Refused(number, place);
+    }
+    let need = need(grid);
+    let have = Room {
+        keys: keys.len(),
+        rows: rows.len(),
+        spare: spare.len(),
+        counts: counts.len(),
+    };
+    if !refusal::has_room(need, have) {
+        return Triangulated::Refused(TOO_SHORT, 0);
+    }
+    let k = need.keys;
+    let r = need.rows;
+    let s = need.spare;
+    let c = need.counts;
+    let at = k - r - r;
+    cleared(
+        grid,
+        at,
+        cells,
+        order,
+        &mut keys[..k],
+        &mut rows[..r],
+        &mut spare[..s],
+        &mut counts[..c],
+    )
+}
