@@ -12,3 +12,5 @@ pub mod Unrefined
 pub mod Composition
 pub mod Figures
 pub mod Strip
+pub mod Told
+pub mod Calls
