@@ -9,6 +9,7 @@ pub mod Again
 pub mod Parents
 pub mod Refinement
 pub mod Unrefined
+pub mod Accepted
 pub mod Composition
 pub mod Figures
 pub mod Strip
