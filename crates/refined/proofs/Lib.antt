@@ -5,3 +5,4 @@ pub mod Seats
 pub mod Found
 pub mod Writing
 pub mod Handing
+pub mod Determined
