@@ -1,3 +1,4 @@
 pub mod Space
 pub mod Reading
+pub mod Coarse
 pub mod Promise

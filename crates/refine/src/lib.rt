@@ -11,6 +11,7 @@
 //   sorted   -                -                      -                              the children's words sorted
 //   firsts   -                -                      -                              the first child of each refined cell
 //   buckets  -                -                      -                              buckets
+mod coarse;
 
 // Lengths of the ten working lists: what a call needs of them, or what it is lent.
 pub struct Space {
