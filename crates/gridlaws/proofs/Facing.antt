@@ -2,10 +2,10 @@
 -- both boxes lie away from the ends, both at one end, or they face each other, one at each end. If on no axis they face each other, the chains are the same points. If
 -- on some axis they do, they do on each axis where either lies at an end; and then no corner has all facing axes of the one box before their step and all of the other
 -- after it: there neither chain would be wrapped, and n - 1 would be 1. Assumes nothing.
-use mathlib.Core.Path.{_≡_, refl, sym, ap, subst, _∙_}
+use mathlib.Core.Path.{_≡_, refl, sym, _∙_}
 use mathlib.Core.Bool.{Bool, true, false, cond, _&&_}
 use mathlib.Core.Logic.{_⊎_, inl, inr, ⊎-elim}
-use Prim.Native.Nat.{ℕ, zero, suc, _+_, _-_, _≤_, _<_}
+use Prim.Native.Nat.{ℕ, _+_, _≤_, _<_}
 use native.Mathlib.Nat.{le-refl}
 use native.Mathlib.Omega.{arith}
 use lib.Dec.{eqb}
@@ -17,7 +17,7 @@ use Rattle.quotient.specs.Shape.{cellsOn, closedAt, checkOf}
 use Rattle.quotient.proofs.Laws.{lt-or-ge}
 use Rattle.quotient.proofs.Onto.{three-cells}
 use Rattle.quotient.proofs.Boxes.{End}
-use Rattle.gridlaws.proofs.Folding.{vertexBy, Begins, Bits, ends-agree, corner-same}
+use Rattle.gridlaws.proofs.Folding.{vertexBy, Begins, ends-agree, corner-same}
 
 -- ---- how two boxes lie on an axis: 1 where the first is at its last cell and the second at its first, 2 the other way round, 0 else
 abbrev pub sideOf : Bool → ℕ → ℕ → ℕ → ℕ
@@ -194,7 +194,6 @@ module _ (g : Grid) (fine : checkOf g ≡ Fine) (p q : ℕ → ℕ) (hp : Begins
     -- there is no axis on which both lie at their last cells
     not-beside : (k : ℕ) → k < g .d → closedAt g k ≡ true → p k + 1 ≡ cellsOn g k → q k + 1 ≡ cellsOn g k → ⊥
     not-beside k l c ep eq =
-        let a = f .axis in
         let r = m .forth 0 (omega arith) in
         let s = m .forth (g .d) (le-refl (g .d)) in
         let ra : u 0 (f .axis) + w (r .0) (f .axis) ≡ 1 = up-or-down (f .axis) (f .axis-in) (f .faces) 0 (r .0) (r .2) in

@@ -5,3 +5,6 @@ pub mod Members
 pub mod Words
 pub mod Twice
 pub mod Count
+pub mod Edges
+pub mod Sizes
+pub mod Room

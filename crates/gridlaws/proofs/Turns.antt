@@ -1,13 +1,13 @@
 -- The orders of the axes, as the sets of axes that have been stepped along: two orders that differ at one corner alone, and where to turn an order so that the axes
 -- of one kind come later. Computed tests over the orders of up to three axes. Assumes nothing.
-use mathlib.Core.Path.{_≡_, refl, sym, ap, subst, _∙_}
+use mathlib.Core.Path.{_≡_, refl, sym, ap, _∙_}
 use mathlib.Core.Bool.{Bool, true, false, cond, not, _&&_, _||_, false≢true}
 use mathlib.Core.Logic.{_⊎_, inl, inr, ⊎-elim}
-use mathlib.Core.List.{List, [], _∷_}
-use Prim.Native.Nat.{ℕ, zero, suc, _+_, _-_, _*_, _≤_, _<_, suc-le-suc}
+use mathlib.Core.List.{[], _∷_}
+use Prim.Native.Nat.{ℕ, zero, suc, _≤_, _<_, suc-le-suc}
 use native.Mathlib.Nat.{le-of-suc-le-suc}
 use native.Mathlib.Omega.{arith}
-use lib.Dec.{eqb, leb, ltb}
+use lib.Dec.{eqb, ltb}
 use lib.ListN.{length, getD, take}
 use lib.Seq.{take-all}
 use borrow.Author.Tests.{eqb-true, eqb-false, ltb-true, not-true, ne-eqb, eq-eqb}
@@ -175,7 +175,6 @@ module _ (d t : ℕ) (s : ℕ → ℕ) where
 -- in each order there is a place of one of the two sorts
 pub place : (d t a b c : ℕ) → d ≤ 3 → t < length (orders d) → a < 3 → b < 3 → c < 3 → Parted d t (kinds a b c) ⊎ Later d t (kinds a b c)
 place d t a b c h l ha hb hc =
-    let s : ℕ → ℕ = kinds a b c in
     ⊎-elim
     (λ (q : some (partedAt d t (kinds a b c)) (suc d) ≡ true). let r = some-found (partedAt d t (kinds a b c)) (suc d) q in inl (parted-of d t (kinds a b c) (r .0) (le-of-suc-le-suc (r .1)) (r .2)))
     (λ (q : some (laterAt d t (kinds a b c)) d ≡ true). let r = some-found (laterAt d t (kinds a b c)) d q in inr (later-of d t (kinds a b c) (r .0) (r .1) (r .2)))

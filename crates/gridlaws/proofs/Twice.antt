@@ -3,38 +3,36 @@
 -- If the two turned cells differ, they and the one cell have a facet in common. If they are one cell, the argument is gone through again with them: the axes on which the
 -- first box is at its last cell come later in the new order, and they cannot come later for ever. Assumes nothing.
 use mathlib.Core.Path.{_≡_, refl, sym, ap, subst, _∙_}
-use mathlib.Core.Bool.{Bool, true, false}
 use mathlib.Core.Logic.{_⊎_, inl, inr, ⊎-elim}
-use mathlib.Core.List.{List, [], _∷_}
+use mathlib.Core.List.{List}
 use Prim.Native.Nat.{ℕ, zero, suc, _+_, _-_, _*_, _/_, _%_, _≤_, _<_}
-use native.Mathlib.Nat.{mul-comm, mod-lt, div-lt-iff-lt-mul, le-refl}
-use native.Mathlib.Decide.{ℕ-discrete, decLt}
+use native.Mathlib.Nat.{mul-comm, div-lt-iff-lt-mul, le-refl}
+use native.Mathlib.Decide.{ℕ-discrete}
 use native.Mathlib.Omega.{arith}
 use lib.Arith.{digits-div, digits-mod, digits-lt}
-use lib.ListN.{length, getD, take}
+use lib.ListN.{length}
 use Rattle.refusal.specs.declared.Answer.the-variants.{Fine}
 use Rattle.lists.proofs.Members.{Mem, Mem-of, Mem-at}
-use Rattle.multiindex.specs.Permutation.{orders, orderOf}
+use Rattle.multiindex.specs.Permutation.{orders}
 use Rattle.multiindex.specs.Sort.{sortWord}
 use Rattle.complex.specs.Facets.{Crowded}
 use Rattle.cells.proofs.Order.{Colex, colex-irr}
 use Rattle.quotient.specs.declared.Grid.{Grid}
-use Rattle.quotient.specs.Shape.{cellsOn, closedAt, pointsOn, checkOf, cellsOf}
+use Rattle.quotient.specs.Shape.{pointsOn, checkOf, cellsOf}
 use Rattle.quotient.specs.Reduce.{vertexOf}
 use Rattle.quotient.specs.Points.{pointOf}
 use Rattle.quotient.proofs.Taken.{taken-low}
 use Rattle.quotient.proofs.Radix.{number-same}
-use Rattle.quotient.proofs.Onto.{three-cells}
 use Rattle.gridwords.specs.Cells.{boxesOf, boxAt}
 use Rattle.gridwords.specs.Numbered.{eachBox, cellNo, cornerOf}
-use Rattle.gridwords.proofs.Corners.{timesIn, dim, box-lt, some-order, orders-factorial, turn-lt, corner-point}
+use Rattle.gridwords.proofs.Corners.{dim, box-lt, some-order, orders-factorial, turn-lt, corner-point}
 use Rattle.gridwords.proofs.Listed.{cell-length, cell-rising, cell-before}
 use Rattle.gridmesh.specs.Words.{gluedCells}
 use Rattle.gridlaws.proofs.Turns.{up, kinds, earliness, Turned, turn, Parted, Later, place, up-most, up-none, up-each, up-rises}
-use Rattle.gridlaws.proofs.Folding.{cornerBy, vertexBy, Begins}
+use Rattle.gridlaws.proofs.Folding.{cornerBy, vertexBy}
 use Rattle.gridlaws.proofs.Facing.{side, sides-few, side-self, Chain, Matched, Faced, one-point, up-or-down, not-parted}
 use Rattle.gridlaws.proofs.Members.{one-word}
-use Rattle.gridlaws.proofs.Words.{wordNo, vertexNo, corner-one, Corner, Other, OneFacet, same-cell, cell-same, crowd}
+use Rattle.gridlaws.proofs.Words.{wordNo, vertexNo, corner-one, OneFacet, same-cell, cell-same, crowd}
 
 module _ (g : Grid) (fine : checkOf g ≡ Fine) where
   -- ---- cells by box and order
@@ -247,13 +245,10 @@ module _ (g : Grid) (fine : checkOf g ≡ Fine) where
 
       turned-once : Crowded (g .d) (gluedCells g) ⊎ Next b c t
       turned-once =
-          let i : ℕ = p .at in
           let li : p .at ≤ g .d = omega (arith, p .at-in) in
           let r = turn (g .d) s j (dim g fine) (a′ .order-in) not-first not-last in
           let na = at-by b (p .order) (a .box-in) (p .turned .order-in) in
           let nb = at-by c (r .0) (a′ .box-in) (r .1 .order-in) in
-          let x′ : ℕ = cellBy b (p .order) in
-          let y′ : ℕ = cellBy c (r .0) in
           let ta = turned-cell x b t (p .at) (p .order) (cellBy b (p .order)) a na li (p .turned) in
           let tb = turned-cell y c s j (r .0) (cellBy c (r .0)) a′ nb lj (r .1) in
           let q : vertexNo g x (p .at) ≡ vertexNo g y j = vertex-at x b t (p .at) a li ∙ v ∙ sym (vertex-at y c s j a′ lj) in
@@ -332,10 +327,6 @@ module _ (g : Grid) (fine : checkOf g ≡ Fine) where
   -- two words that sort to one cell: a facet in three cells
   pub two-words : (x y : ℕ) → x < y → y < cellsOf g → sortWord (wordNo g x) ≡ sortWord (wordNo g y) → Crowded (g .d) (gluedCells g)
   two-words x y h l e =
-      let b : ℕ = x / eachBox g in
-      let c : ℕ = y / eachBox g in
-      let t : ℕ = eachBox g - 1 - x % eachBox g in
-      let s : ℕ = eachBox g - 1 - y % eachBox g in
       let a = at-of x (omega arith) in
       let a′ = at-of y l in
       ⊎-elim

@@ -1,10 +1,9 @@
 -- The words of a grid that is taken and the cells they sort to, by their corners: two words sort to one cell exactly if they have the same vertices, and three words
 -- that have the same vertices but for one in each are a facet in three cells, unless two of them are one cell. Assumes nothing.
 use mathlib.Core.Path.{_≡_, refl, sym, ap, subst, _∙_}
-use mathlib.Core.Bool.{Bool, true, false}
-use mathlib.Core.Logic.{_⊎_, inl, inr, ⊎-elim}
+use mathlib.Core.Bool.{false}
 use mathlib.Core.List.{List, [], _∷_, _++_, map}
-use Prim.Native.Nat.{ℕ, zero, suc, _+_, _*_, _/_, _≤_, _<_}
+use Prim.Native.Nat.{ℕ, suc, _/_, _≤_, _<_}
 use native.Mathlib.Numerals.{add-one}
 use native.Mathlib.Decide.{decLt}
 use native.Mathlib.Omega.{arith}
@@ -14,18 +13,18 @@ use Rattle.refusal.specs.declared.Answer.the-variants.{Fine}
 use Rattle.lists.specs.Words.{hasRepeat}
 use Rattle.lists.specs.Rows.{cut, rows}
 use Rattle.lists.proofs.Rows.{cut-at}
-use Rattle.lists.proofs.Members.{Mem, Mem-of, Mem-at}
-use Rattle.multiindex.specs.Permutation.{tab, gather}
+use Rattle.lists.proofs.Members.{Mem, Mem-of, Mem-at, Pairs-at}
+use Rattle.multiindex.specs.Permutation.{gather}
 use Rattle.multiindex.specs.Sort.{sortWord}
 use Rattle.multiindex.proofs.SortLaws.{sort-length}
-use Rattle.lattice.proofs.Tab.{length-tab, getD-tab}
+use Rattle.lattice.proofs.Tab.{getD-tab}
 use Rattle.sorting.specs.Gather.{row}
 use Rattle.sorting.proofs.Colex.{row-cell}
 use Rattle.complex.specs.Cells.{inOrder}
 use Rattle.complex.specs.Cells as Complex
-use Rattle.complex.specs.Facets.{cellAt, facetAt, Mates, Crowded}
-use Rattle.cells.proofs.Words.{Word, Each, In, each-of, at-in}
-use Rattle.cells.proofs.Order.{order-has}
+use Rattle.complex.specs.Facets.{cellAt, facetAt, Mates, Crowded, Cells}
+use Rattle.cells.proofs.Words.{Word, Each, In, each-of, in-at, at-in}
+use Rattle.cells.proofs.Order.{order-from, order-has}
 use Rattle.cells.proofs.Strict.{sort-strict}
 use Rattle.quotient.specs.declared.Grid.{Grid}
 use Rattle.quotient.specs.Shape.{checkOf, cellsOf}
@@ -53,7 +52,6 @@ cut-flat : (n : ℕ) (ws : List Word) → Each (λ w. length w ≡ n) ws → cut
 unfolding cut
 cut-flat n [] a = refl
 cut-flat n (w ∷ ws) a =
-    let rest : List ℕ = gather (λ w. w) ws in
     let e : take n (w ++ gather (λ w. w) ws) ≡ w = take-at w (gather (λ w. w) ws) n (a .0) in
     let f : cut n (length ws) (drop n (w ++ gather (λ w. w) ws)) ≡ ws = ap (cut n (length ws)) (drop-at w (gather (λ w. w) ws) n (a .0)) ∙ cut-flat n ws (a .1) in
     cc
@@ -100,23 +98,23 @@ module _ (g : Grid) (fine : checkOf g ≡ Fine) where
   abbrev pub Other : ℕ → ℕ → ℕ → Type 0
   Other x i v = (j : ℕ) × (j ≤ g .d) × (j ≡ i → ⊥) × (vertexNo g x j ≡ v)
 
-  abbrev sorted : ℕ → List ℕ
+  abbrev pub sorted : ℕ → List ℕ
   sorted x = sortWord (wordNo g x)
 
-  corner-mem : (x v : ℕ) → x < cellsOf g → Corner x v → Mem v (sorted x)
+  pub corner-mem : (x v : ℕ) → x < cellsOf g → Corner x v → Mem v (sorted x)
   corner-mem x v h c =
       sort-mem v (wordNo g x) (subst (λ (u : ℕ). Mem u (wordNo g x)) (word-corner x (c .0) h (c .1) ∙ c .2) (Mem-of (wordNo g x) (c .0) (omega (arith, word-length g fine x, c .1))))
 
-  mem-corner : (x v : ℕ) → x < cellsOf g → Mem v (sorted x) → Corner x v
+  pub mem-corner : (x v : ℕ) → x < cellsOf g → Mem v (sorted x) → Corner x v
   mem-corner x v h m =
       let r = Mem-at v (wordNo g x) (mem-sort v (wordNo g x) m) in
       let l : r .0 ≤ g .d = omega (arith, r .1, word-length g fine x) in
       (r .0, l, sym (word-corner x (r .0) h l) ∙ r .2)
 
-  sorted-rises : (x : ℕ) → x < cellsOf g → Rises (sorted x)
+  pub sorted-rises : (x : ℕ) → x < cellsOf g → Rises (sorted x)
   sorted-rises x h = sort-strict (wordNo g x) (subst (λ (w : List ℕ). hasRepeat w ≡ false) (row-is x h) (row-apart g fine x h))
 
-  sorted-long : (x : ℕ) → length (sorted x) ≡ suc (g .d)
+  pub sorted-long : (x : ℕ) → length (sorted x) ≡ suc (g .d)
   sorted-long x = sort-length (wordNo g x) ∙ word-length g fine x
 
   -- two words sort to one cell exactly if they have the same vertices
@@ -127,7 +125,27 @@ module _ (g : Grid) (fine : checkOf g ≡ Fine) where
   pub cell-same : (x y : ℕ) → x < cellsOf g → y < cellsOf g → sortWord (wordNo g x) ≡ sortWord (wordNo g y) → (v : ℕ) → Corner x v → Corner y v
   cell-same x y hx hy e v c = mem-corner y v hy (subst (λ (w : List ℕ). Mem v w) e (corner-mem x v hx c))
 
-  -- ---- where a word's cell stands in the list of cells, and a corner in its cell
+  -- ---- each word's cell stands in the list of cells, and each of these is a word's
+  pub cell-of : (x : ℕ) → x < cellsOf g → (c : ℕ) × (c < length (gluedCells g)) × (cellAt (gluedCells g) c ≡ sortWord (wordNo g x))
+  cell-of x h =
+      at-in (sorted x) (gluedCells g)
+      (subst (λ (cs : List Word). In (sorted x) cs) (sym glued-are)
+      (order-has (suc (g .d)) (wordsOf g) (wordNo g x) words-each (subst (λ (ws : List Word). In (wordNo g x) ws) (sym (words-tab g fine)) (to-tab (wordNo g) (cellsOf g) x h))))
+
+  pub word-of : (c : ℕ) → c < length (gluedCells g) → (x : ℕ) × (x < cellsOf g) × (cellAt (gluedCells g) c ≡ sortWord (wordNo g x))
+  word-of c h =
+      let u = order-from (suc (g .d)) (wordsOf g) (cellAt (gluedCells g) c) (subst (λ (cs : List Word). In (cellAt (gluedCells g) c) cs) glued-are (in-at (gluedCells g) c h)) in
+      let r = of-tab (wordNo g) (cellsOf g) (u .0) (subst (λ (ws : List Word). In (u .0) ws) (words-tab g fine) (u .1)) in
+      (r .0, r .1, sym (ap sortWord (r .2) ∙ u .2))
+
+  pub glued-good : Cells (g .d) (gluedCells g)
+  glued-good =
+      record {
+        long = λ c h. let r = word-of c h in ap length (r .2) ∙ sorted-long (r .0);
+        rising = λ c i j h l k. let r = word-of c h in subst (λ (w : List ℕ). getD w i 0 < getD w j 0) (sym (r .2)) (Pairs-at (λ a b. a < b) (sorted (r .0)) i j (sorted-rises (r .0) (r .1)) l (omega (arith, sorted-long (r .0))));
+      }
+
+  -- where a word's cell stands in the list of cells, and a corner in its cell
   record Spot (x i : ℕ) : Type 0 where
     cell : ℕ
     cell-in : cell < length (gluedCells g)
@@ -138,8 +156,7 @@ module _ (g : Grid) (fine : checkOf g ≡ Fine) where
 
   spot-of : (x i : ℕ) → x < cellsOf g → i ≤ g .d → Spot x i
   spot-of x i h l =
-      let m : In (sorted x) (gluedCells g) = subst (λ (cs : List Word). In (sorted x) cs) (sym glued-are) (order-has (suc (g .d)) (wordsOf g) (wordNo g x) words-each (subst (λ (ws : List Word). In (wordNo g x) ws) (sym (words-tab g fine)) (to-tab (wordNo g) (cellsOf g) x h))) in
-      let c = at-in (sorted x) (gluedCells g) m in
+      let c = cell-of x h in
       let a = Mem-at (vertexNo g x i) (sorted x) (corner-mem x (vertexNo g x i) h (i, l, refl)) in
       record { cell = c .0; cell-in = c .1; is = c .2; at = a .0; at-in = a .1; holds = a .2 }
 
