@@ -114,6 +114,28 @@ pub coord-same : (g : Grid) (p q : ℕ) → ((b : ℕ) → b < g .d → wrappedA
 coord-same g p q w k l e =
     either-one (closedAt g k) (cellsOn g k) (coordAt g p k) (coordAt g q k) (reflectedBy g p k (g .d)) (reflectedBy g q k (g .d)) (coord-le g p k) (coord-le g q k) (w k l) (reflected-both g p q k (g .d) w) e
 
+-- ---- a coordinate that no wrapped axis reflects stays as it is
+reflected-by : (g : Grid) (v k a : ℕ) → (reflectedBy g v k a ≡ coordAt g v k) ⊎ ((b : ℕ) × (b < a) × (flipsAt g v b k ≡ true))
+unfolding reflectedBy
+reflected-by g v k zero = inl refl
+reflected-by g v k (suc a) = go (flipsAt g v a k) refl (reflected-by g v k a)
+  where
+    go : (t : Bool) → flipsAt g v a k ≡ t → (reflectedBy g v k a ≡ coordAt g v k) ⊎ ((b : ℕ) × (b < a) × (flipsAt g v b k ≡ true)) → (cond t (cellsOn g k - reflectedBy g v k a) (reflectedBy g v k a) ≡ coordAt g v k) ⊎ ((b : ℕ) × (b < suc a) × (flipsAt g v b k ≡ true))
+    go true e r = inr (a, omega arith, e)
+    go false e (inl q) = inl q
+    go false e (inr q) = inr (q .0, omega (arith, q .1), q .2)
+
+pub folded-by : (g : Grid) (v k : ℕ) → (closedAt g k ≡ true → coordAt g v k < cellsOn g k) → (foldedAt g v k ≡ coordAt g v k) ⊎ ((b : ℕ) × (b < g .d) × (flipsAt g v b k ≡ true))
+folded-by g v k h =
+    ⊎-elim
+    (λ (e : reflectedBy g v k (g .d) ≡ coordAt g v k). inl (rw e (by-kind (closedAt g k) (coordAt g v k) (cellsOn g k) h)))
+    (λ (r : (b : ℕ) × (b < g .d) × (flipsAt g v b k ≡ true)). inr r)
+    (reflected-by g v k (g .d))
+  where
+    by-kind : (b : Bool) (c n : ℕ) → (b ≡ true → c < n) → cond b (c % n) c ≡ c
+    by-kind true c n h = mod-eq-of-lt (h refl)
+    by-kind false c n h = refl
+
 -- ---- the corners of a box: e k is 1 where axis k is up, else 0
 abbrev pub cornerBy : Grid → (ℕ → ℕ) → (ℕ → ℕ) → ℕ
 cornerBy g p e = pointOf g (λ k. p k + e k)

@@ -5,6 +5,8 @@ pub mod Members
 pub mod Words
 pub mod Twice
 pub mod Count
+pub mod Untangled
 pub mod Edges
 pub mod Sizes
 pub mod Room
+pub mod Figures

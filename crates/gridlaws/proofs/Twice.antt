@@ -37,16 +37,16 @@ use Rattle.gridlaws.proofs.Words.{wordNo, vertexNo, corner-one, OneFace
 module _ (g : Grid) (fine : checkOf g ≡ Fine) where
   -- ---- cells by box and order
   -- cell x is that of box b along order t
-  record At (x b t : ℕ) : Type 0 where
-    in-grid : x < cellsOf g
-    box-in : b < boxesOf g
-    order-in : t < length (orders (g .d))
-    corner : (j : ℕ) → j ≤ g .d → cornerOf g x j ≡ cornerBy g (boxAt g b) (up (g .d) t j)
+  pub record At (x b t : ℕ) : Type 0 where
+    pub in-grid : x < cellsOf g
+    pub box-in : b < boxesOf g
+    pub order-in : t < length (orders (g .d))
+    pub corner : (j : ℕ) → j ≤ g .d → cornerOf g x j ≡ cornerBy g (boxAt g b) (up (g .d) t j)
 
   cells-count : cellsOf g ≡ boxesOf g * eachBox g
   cells-count = rw (orders-factorial (g .d) (dim g fine)) (mul-comm _ (boxesOf g))
 
-  at-of : (x : ℕ) → x < cellsOf g → At x (x / eachBox g) (eachBox g - 1 - x % eachBox g)
+  pub at-of : (x : ℕ) → x < cellsOf g → At x (x / eachBox g) (eachBox g - 1 - x % eachBox g)
   at-of x h =
       record {
         in-grid = h;
@@ -76,7 +76,7 @@ module _ (g : Grid) (fine : checkOf g ≡ Fine) where
             ∙ ap (λ (a : ℕ). pointOf g (λ k. boxAt g b k + up (g .d) a j k)) e;
       }
 
-  chain : (t : ℕ) → t < length (orders (g .d)) → Chain (g .d) (up (g .d) t)
+  pub chain : (t : ℕ) → t < length (orders (g .d)) → Chain (g .d) (up (g .d) t)
   chain t l =
       record {
         most = λ i k m. up-most (g .d) t (dim g fine) l i k m;
@@ -173,7 +173,7 @@ module _ (g : Grid) (fine : checkOf g ≡ Fine) where
           ])
 
   -- ---- two cells by box and order that are one cell
-  matched : (x y b c t s : ℕ) → At x b t → At y c s → sortWord (wordNo g x) ≡ sortWord (wordNo g y) → Matched g (boxAt g b) (boxAt g c) (up (g .d) t) (up (g .d) s)
+  pub matched : (x y b c t s : ℕ) → At x b t → At y c s → sortWord (wordNo g x) ≡ sortWord (wordNo g y) → Matched g (boxAt g b) (boxAt g c) (up (g .d) t) (up (g .d) s)
   matched x y b c t s a a′ e =
       record {
         forth = λ i l. let r = cell-same g fine x y (a .in-grid) (a′ .in-grid) e (vertexNo g x i) (i, l, refl) in (r .0, r .1, sym (vertex-at x b t i a l) ∙ sym (r .2) ∙ vertex-at y c s (r .0) a′ (r .1));
@@ -324,15 +324,17 @@ module _ (g : Grid) (fine : checkOf g ≡ Fine) where
         let o = m .back (r .0) lj in
         subst (λ (u : ℕ). Mem u (cellNo g x)) (one-corner (o .0) (r .0) (o .1) lj (o .2) ∙ r .2) (Mem-of (cellNo g x) (o .0) (omega (arith, o .1, cell-length g fine x))))
 
-  -- two words that sort to one cell: a facet in three cells
-  pub two-words : (x y : ℕ) → x < y → y < cellsOf g → sortWord (wordNo g x) ≡ sortWord (wordNo g y) → Crowded (g .d) (gluedCells g)
-  two-words x y h l e =
-      let a = at-of x (omega arith) in
-      let a′ = at-of y l in
+  -- two words that sort to one cell are of boxes that face each other
+  pub two-faced : (x y : ℕ) → x < y → y < cellsOf g → sortWord (wordNo g x) ≡ sortWord (wordNo g y) → Faced g (boxAt g (x / eachBox g)) (boxAt g (y / eachBox g))
+  two-faced x y h l e =
       ⊎-elim
-      (λ (f : Faced g (boxAt g (x / eachBox g)) (boxAt g (y / eachBox g))).
-      twice (suc (earliness (g .d) (eachBox g - 1 - x % eachBox g) (listed (x / eachBox g) (y / eachBox g)))) x y (x / eachBox g) (y / eachBox g) (eachBox g - 1 - x % eachBox g) (eachBox g - 1 - y % eachBox g) a a′ e f (le-refl _))
+      (λ (f : Faced g (boxAt g (x / eachBox g)) (boxAt g (y / eachBox g))). f)
       (λ (r : (k : ℕ) → k < g .d → sides (x / eachBox g) (y / eachBox g) k ≡ 0).
-      let q : cellNo g x ≡ cellNo g y = one-cell-no x y (x / eachBox g) (y / eachBox g) (eachBox g - 1 - x % eachBox g) (eachBox g - 1 - y % eachBox g) a a′ e r in
+      let q : cellNo g x ≡ cellNo g y = one-cell-no x y (x / eachBox g) (y / eachBox g) (eachBox g - 1 - x % eachBox g) (eachBox g - 1 - y % eachBox g) (at-of x (omega arith)) (at-of y l) e r in
       absurd (colex-irr (suc (g .d)) (cellNo g y) (subst (λ (w : List ℕ). Colex (suc (g .d)) w (cellNo g y)) q (cell-before g fine x y h l))))
       (faced-or-not (boxAt g (x / eachBox g)) (boxAt g (y / eachBox g)) (g .d) (le-refl (g .d)))
+
+  -- and make a facet in three cells
+  pub two-words : (x y : ℕ) → x < y → y < cellsOf g → sortWord (wordNo g x) ≡ sortWord (wordNo g y) → Crowded (g .d) (gluedCells g)
+  two-words x y h l e =
+      twice (suc (earliness (g .d) (eachBox g - 1 - x % eachBox g) (listed (x / eachBox g) (y / eachBox g)))) x y (x / eachBox g) (y / eachBox g) (eachBox g - 1 - x % eachBox g) (eachBox g - 1 - y % eachBox g) (at-of x (omega arith)) (at-of y l) e (two-faced x y h l e) (le-refl _)
