@@ -1,0 +1,12 @@
+pub mod Turns
+pub mod Folding
+pub mod Facing
+pub mod Members
+pub mod Words
+pub mod Twice
+pub mod Count
+pub mod Untangled
+pub mod Edges
+pub mod Sizes
+pub mod Room
+pub mod Figures
