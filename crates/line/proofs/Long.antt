@@ -1,8 +1,7 @@
 -- A line that is taken has at most 47 bytes: a digit, three times a space, four digits, a space, T and eight digits, and the line feed. So 48 bytes tell what a line
 -- says, however many follow. Assumes nothing.
-use mathlib.Core.Path.{_≡_, refl, sym, ap, subst, _∙_}
+use mathlib.Core.Path.{_≡_, refl, sym, ap, _∙_}
 use mathlib.Core.Bool.{Bool, true, false, cond, not, _&&_, false≢true}
-use mathlib.Core.Logic.{_⊎_, inl, inr, ⊎-elim}
 use mathlib.Core.List.{List, [], _∷_}
 use Prim.Native.Nat.{ℕ, zero, suc, _+_, _-_, _*_, _^_, _≤_, _<_}
 use native.Mathlib.Omega.{arith}
@@ -13,7 +12,6 @@ use lib.Seq.{take-all}
 use borrow.Author.Tests.{ltb-true, leb-true, eqb-true, not-false}
 use Rattle.quotient.specs.declared.Glue.{Glue}
 use Rattle.quotient.specs.declared.Glue.the-variants.{Open, Periodic, Twisted}
-use Rattle.quotient.specs.declared.Axis.{Axis}
 use Rattle.quotient.specs.declared.Grid.{Grid}
 use Rattle.quotient.specs.Fold.{member, some, count}
 use Rattle.quotient.specs.Shape.{noAxis, sizeOf}
@@ -22,7 +20,7 @@ use Rattle.refusal.specs.Table.{badDimension, unreadable}
 use Rattle.refusal.specs.Limits.{mostDimension}
 use Rattle.line.specs.declared.Line.{Line}
 use Rattle.line.specs.declared.Line.the-variants.{Taken, Refused}
-use Rattle.line.specs.Grammar.{Front, nothing, front, zeroDigit, space, isDigit, isAxisDigit, andThen, after, digitsFrom, countFrom, setFrom, glueFrom, gluedFrom, axisFrom, axisAt, gridFrom, lineEnds, ended, readLine, unitSides}
+use Rattle.line.specs.Grammar.{Front, nothing, front, zeroDigit, space, isDigit, isAxisDigit, andThen, after, digitsFrom, countFrom, setFrom, glueFrom, gluedFrom, axisFrom, axisAt, gridFrom, lineEnds, ended, readLine}
 
 -- a part that takes at most k bytes off the front of bs
 abbrev AtMost : {A : Type 0} → ℕ → List ℕ → Front A → Type 0
