@@ -1,3 +1,4 @@
 pub mod Bounds
 pub mod Ends
 pub mod Determined
+pub mod Fits
