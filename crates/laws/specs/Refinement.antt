@@ -9,7 +9,7 @@ use Rattle.complex.specs.Facets.{cellAt}
 use Rattle.lattice.specs.Lattice.{Child}
 use Rattle.lattice.specs.Complex.{same, sum, times, Names}
 use Rattle.lattice.specs.Refine.{vertices, share}
-use Rattle.refine.specs.Refined.{refinedCells, refinedWords, parents}
+use Rattle.refined.specs.Refined.{refinedCells, refinedWords, parents}
 
 -- n vertices and the words ks, one for each cell, refined by R: the children
 pub record Split (d R n : ℕ) (ks : List (List ℕ)) : Type 0 where

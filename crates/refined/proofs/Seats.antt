@@ -40,7 +40,7 @@ use Rattle.jacobian.specs.Entries.{nineOf, wholeOf, floatOf, floatStep, nought}
 use Rattle.jacobian.proofs.Laws.{column-in, row-in, entry-past}
 use Rattle.jacobian.specs.Weights.{placeOf, weightOf, Seated}
 use Rattle.children.specs.Family.{weightsAt, wholeAt, floatAt, Family}
-use Rattle.refine.specs.Flat.{Along, Refining}
+use Rattle.refined.specs.Flat.{Along, Refining}
 
 -- ---- places
 found-lt : (b : Bool) (n k : ℕ) → (b ≡ false → k < n) → foundAt b k < suc n

@@ -1,2 +1,0 @@
-pub mod Refined
-pub mod Flat

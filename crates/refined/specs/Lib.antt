@@ -1,0 +1,4 @@
+pub mod Refined
+pub mod Flat
+pub mod Results
+pub mod Stage
