@@ -1,0 +1,9 @@
+// One line in, six lines or the one line of a refusal out. The buffer holds the longest line and one byte more: what follows cannot change the answer, and is not read.
+fn main() {
+    let mut buffer = [0u8; 48];
+    let n = io::read_full(0, &mut buffer);
+    let printed = sums::printed(&buffer[..n]);
+    let bytes = printed.bytes;
+    let len = printed.len;
+    io::write_all(1, &bytes[..len]);
+}

@@ -1,0 +1,4 @@
+pub mod Bounds
+pub mod Ends
+pub mod Determined
+pub mod Fits
