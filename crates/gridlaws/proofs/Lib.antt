@@ -5,7 +5,8 @@ pub mod Members
 pub mod Words
 pub mod Twice
 pub mod Count
-pub mod Untangled
+pub mod Seams
+pub mod Seven
 pub mod Edges
 pub mod Sizes
 pub mod Room
