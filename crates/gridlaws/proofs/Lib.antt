@@ -10,4 +10,5 @@ pub mod Seven
 pub mod Edges
 pub mod Sizes
 pub mod Room
+pub mod Said
 pub mod Figures
