@@ -42,20 +42,20 @@ pick-most true false false = omega arith
 pick-most false x y = omega arith
 
 module _ (b : Bool) (n p q : ℕ) where
-  pub side-one : sideOf b n p q ≡ 1 → (b ≡ true) × (p + 1 ≡ n) × (q ≡ 0)
+  side-one : sideOf b n p q ≡ 1 → (b ≡ true) × (p + 1 ≡ n) × (q ≡ 0)
   side-one e =
       let r = pick-one b (eqb (p + 1) n && eqb q 0) (eqb p 0 && eqb (q + 1) n) e in
       (r .0, eqb-true _ _ (first-of (eqb (p + 1) n) (eqb q 0) (r .1)), eqb-true _ _ (second-of (eqb (p + 1) n) (eqb q 0) (r .1)))
 
-  pub side-two : sideOf b n p q ≡ 2 → (b ≡ true) × (p ≡ 0) × (q + 1 ≡ n)
+  side-two : sideOf b n p q ≡ 2 → (b ≡ true) × (p ≡ 0) × (q + 1 ≡ n)
   side-two e =
       let r = pick-two b (eqb (p + 1) n && eqb q 0) (eqb p 0 && eqb (q + 1) n) e in
       (r .0, eqb-true _ _ (first-of (eqb p 0) (eqb (q + 1) n) (r .1)), eqb-true _ _ (second-of (eqb p 0) (eqb (q + 1) n) (r .1)))
 
-  pub one-side : b ≡ true → p + 1 ≡ n → q ≡ 0 → sideOf b n p q ≡ 1
+  one-side : b ≡ true → p + 1 ≡ n → q ≡ 0 → sideOf b n p q ≡ 1
   one-side c h l = rw (c, eq-eqb (p + 1) n h, eq-eqb q 0 l)
 
-  pub two-side : b ≡ true → 3 ≤ n → p ≡ 0 → q + 1 ≡ n → sideOf b n p q ≡ 2
+  two-side : b ≡ true → 3 ≤ n → p ≡ 0 → q + 1 ≡ n → sideOf b n p q ≡ 2
   two-side c m h l = rw (c, ne-eqb (p + 1) n (λ e. omega arith), eq-eqb p 0 h, eq-eqb (q + 1) n l)
 
   side-most : sideOf b n p q < 3
@@ -214,7 +214,7 @@ module _ (g : Grid) (fine : checkOf g ≡ Fine) (p q : ℕ → ℕ) (hp : Begins
         (λ (z : q k + w (r .0) k ≡ cellsOn g k). absurd (not-beside k l c e (omega (arith, hq k l, cw .most (r .0) k l))))
         (ends-to (g .d) (r .0) k (r .2) l c (inr (omega (arith, cu .each k l))))
 
-    pub high-second : (k : ℕ) → k < g .d → closedAt g k ≡ true → q k + 1 ≡ cellsOn g k → side g p q k ≡ 2
+    high-second : (k : ℕ) → k < g .d → closedAt g k ≡ true → q k + 1 ≡ cellsOn g k → side g p q k ≡ 2
     high-second k l c e =
         let r = m .back (g .d) (le-refl (g .d)) in
         ⊎-elim

@@ -4,13 +4,14 @@ use mathlib.Core.Path.{_≡_, refl, sym, ap, subst, _∙_}
 use mathlib.Core.Bool.{Bool, true, false, cond, _&&_}
 use mathlib.Core.Logic.{_⊎_, inl, inr, ⊎-elim}
 use Prim.Native.Nat.{ℕ, zero, suc, _+_, _-_, _%_, _≤_, _<_}
-use native.Mathlib.Nat.{mod-self, mod-eq-of-lt}
+use native.Mathlib.Nat.{mod-self, mod-eq-of-lt, zero-mod}
 use native.Mathlib.Omega.{arith}
 use lib.Dec.{eqb}
 use borrow.Author.Tests.{eqb-true, eqb-false, eq-eqb, ne-eqb}
 use Rattle.refusal.specs.declared.Answer.the-variants.{Fine}
 use Rattle.quotient.specs.declared.Grid.{Grid}
-use Rattle.quotient.specs.Shape.{cellsOn, closedAt, checkOf}
+use Rattle.quotient.specs.Fold.{member}
+use Rattle.quotient.specs.Shape.{cellsOn, closedAt, maskAt, checkOf}
 use Rattle.quotient.specs.Reduce.{coordAt, wrappedAt, flipsAt, reflectedBy, foldedAt, vertexOf}
 use Rattle.quotient.specs.Points.{pointsOf, pointOf}
 use Rattle.quotient.proofs.Laws.{lt-or-ge}
@@ -31,8 +32,8 @@ turn-both true n c e x y hc he h =
     h
 turn-both false n c e x y hc he h = h
 
--- where the same axes wrap at both points, their coordinates are reflected alike
-reflected-both : (g : Grid) (p q k a : ℕ) → ((b : ℕ) → b < a → wrappedAt g p b ≡ wrappedAt g q b) → Both (cellsOn g k) (coordAt g p k) (coordAt g q k) (reflectedBy g p k a) (reflectedBy g q k a)
+-- where the same axes reflect coordinate k at both points, it is reflected alike
+reflected-both : (g : Grid) (p q k a : ℕ) → ((b : ℕ) → b < a → flipsAt g p b k ≡ flipsAt g q b k) → Both (cellsOn g k) (coordAt g p k) (coordAt g q k) (reflectedBy g p k a) (reflectedBy g q k a)
 unfolding reflectedBy
 reflected-both g p q k zero w = inl (refl, refl)
 reflected-both g p q k (suc a) w =
@@ -112,29 +113,51 @@ either-one false n c e x y hc he w b q = line-one n c e x y hc he b q
 
 pub coord-same : (g : Grid) (p q : ℕ) → ((b : ℕ) → b < g .d → wrappedAt g p b ≡ wrappedAt g q b) → (k : ℕ) → k < g .d → foldedAt g p k ≡ foldedAt g q k → coordAt g p k ≡ coordAt g q k
 coord-same g p q w k l e =
-    either-one (closedAt g k) (cellsOn g k) (coordAt g p k) (coordAt g q k) (reflectedBy g p k (g .d)) (reflectedBy g q k (g .d)) (coord-le g p k) (coord-le g q k) (w k l) (reflected-both g p q k (g .d) w) e
+    either-one (closedAt g k) (cellsOn g k) (coordAt g p k) (coordAt g q k) (reflectedBy g p k (g .d)) (reflectedBy g q k (g .d)) (coord-le g p k) (coord-le g q k) (w k l) (reflected-both g p q k (g .d) (λ b m. ap (λ (t : Bool). t && member (maskAt g b) k) (w b m))) e
 
--- ---- a coordinate that no wrapped axis reflects stays as it is
-reflected-by : (g : Grid) (v k a : ℕ) → (reflectedBy g v k a ≡ coordAt g v k) ⊎ ((b : ℕ) × (b < a) × (flipsAt g v b k ≡ true))
-unfolding reflectedBy
-reflected-by g v k zero = inl refl
-reflected-by g v k (suc a) = go (flipsAt g v a k) refl (reflected-by g v k a)
-  where
-    go : (t : Bool) → flipsAt g v a k ≡ t → (reflectedBy g v k a ≡ coordAt g v k) ⊎ ((b : ℕ) × (b < a) × (flipsAt g v b k ≡ true)) → (cond t (cellsOn g k - reflectedBy g v k a) (reflectedBy g v k a) ≡ coordAt g v k) ⊎ ((b : ℕ) × (b < suc a) × (flipsAt g v b k ≡ true))
-    go true e r = inr (a, omega arith, e)
-    go false e (inl q) = inl q
-    go false e (inr q) = inr (q .0, omega (arith, q .1), q .2)
-
-pub folded-by : (g : Grid) (v k : ℕ) → (closedAt g k ≡ true → coordAt g v k < cellsOn g k) → (foldedAt g v k ≡ coordAt g v k) ⊎ ((b : ℕ) × (b < g .d) × (flipsAt g v b k ≡ true))
-folded-by g v k h =
+-- ---- a coordinate reflected alike at two points that fold to the same is the same, or at one end and at the other
+end-zero : (n e x y : ℕ) → e < n → Both n n e x y → x % n ≡ y % n → e ≡ 0
+end-zero n e x y h b q =
     ⊎-elim
-    (λ (e : reflectedBy g v k (g .d) ≡ coordAt g v k). inl (rw e (by-kind (closedAt g k) (coordAt g v k) (cellsOn g k) h)))
-    (λ (r : (b : ℕ) × (b < g .d) × (flipsAt g v b k ≡ true)). inr r)
-    (reflected-by g v k (g .d))
-  where
-    by-kind : (b : Bool) (c n : ℕ) → (b ≡ true → c < n) → cond b (c % n) c ≡ c
-    by-kind true c n h = mod-eq-of-lt (h refl)
-    by-kind false c n h = refl
+    (λ (z : (x ≡ n) × (y ≡ e)).
+    let u : x % n ≡ 0 = ap (λ (a : ℕ). a % n) (z .0) ∙ mod-self n in
+    let v : y % n ≡ e = ap (λ (a : ℕ). a % n) (z .1) ∙ mod-eq-of-lt h in
+    let w : e ≡ 0 = omega arith in w)
+    (λ (z : (x ≡ n - n) × (y ≡ n - e)).
+    let a : x ≡ 0 = omega (arith, z .0) in
+    let u : x % n ≡ 0 = ap (λ (c : ℕ). c % n) a ∙ zero-mod n in
+    let v : y % n ≡ (n - e) % n = ap (λ (c : ℕ). c % n) (z .1) in
+    ⊎-elim (λ (t : (e ≡ 0) × ((n - e) % n ≡ 0)). t .0) (λ (t : (0 < e) × ((n - e) % n ≡ n - e)). absurd (let w : ⊥ = omega (arith, t .1) in w)) (turn-mod n e h))
+    b
+
+abbrev pub AtEnds : ℕ → ℕ → ℕ → Type 0
+AtEnds n c e = (c ≡ e) ⊎ (((c ≡ 0) × (e ≡ n)) ⊎ ((c ≡ n) × (e ≡ 0)))
+
+ring-ends : (n c e x y : ℕ) → c ≤ n → e ≤ n → Both n c e x y → x % n ≡ y % n → AtEnds n c e
+ring-ends n c e x y hc he b q =
+    ⊎-elim
+    (λ (l : c < n).
+    ⊎-elim
+    (λ (m : e < n). inl (ring-one n c e x y hc he (ne-eqb c n (λ z. omega arith) ∙ sym (ne-eqb e n (λ z. omega arith))) b q))
+    (λ (m : n ≤ e).
+    let f : e ≡ n = omega arith in
+    inr (inl (end-zero n c y x l (subst (λ (a : ℕ). Both n a c y x) f (⊎-elim (λ (z : (x ≡ c) × (y ≡ e)). inl (z .1, z .0)) (λ (z : (x ≡ n - c) × (y ≡ n - e)). inr (z .1, z .0)) b)) (sym q), f)))
+    (lt-or-ge e n))
+    (λ (l : n ≤ c).
+    let f : c ≡ n = omega arith in
+    ⊎-elim
+    (λ (m : e < n). inr (inr (f, end-zero n e x y m (subst (λ (a : ℕ). Both n a e x y) f b) q)))
+    (λ (m : n ≤ e). inl (omega arith))
+    (lt-or-ge e n))
+    (lt-or-ge c n)
+
+either-ends : (t : Bool) (n c e x y : ℕ) → c ≤ n → e ≤ n → Both n c e x y → cond t (x % n) x ≡ cond t (y % n) y → (c ≡ e) ⊎ ((t ≡ true) × AtEnds n c e)
+either-ends true n c e x y hc he b q = inr (refl, ring-ends n c e x y hc he b q)
+either-ends false n c e x y hc he b q = inl (line-one n c e x y hc he b q)
+
+pub coord-ends : (g : Grid) (p q k : ℕ) → ((b : ℕ) → b < g .d → flipsAt g p b k ≡ flipsAt g q b k) → foldedAt g p k ≡ foldedAt g q k → (coordAt g p k ≡ coordAt g q k) ⊎ ((closedAt g k ≡ true) × AtEnds (cellsOn g k) (coordAt g p k) (coordAt g q k))
+coord-ends g p q k w e =
+    either-ends (closedAt g k) (cellsOn g k) (coordAt g p k) (coordAt g q k) (reflectedBy g p k (g .d)) (reflectedBy g q k (g .d)) (coord-le g p k) (coord-le g q k) (reflected-both g p q k (g .d) w) e
 
 -- ---- the corners of a box: e k is 1 where axis k is up, else 0
 abbrev pub cornerBy : Grid → (ℕ → ℕ) → (ℕ → ℕ) → ℕ

@@ -5,8 +5,10 @@ pub mod Members
 pub mod Words
 pub mod Twice
 pub mod Count
-pub mod Untangled
+pub mod Seams
+pub mod Seven
 pub mod Edges
 pub mod Sizes
 pub mod Room
+pub mod Said
 pub mod Figures

@@ -74,14 +74,14 @@ facet-rises [] i h p = absurd (let z : ⊥ = omega arith in z)
 facet-rises (x ∷ w) zero h p = p .1
 facet-rises (x ∷ w) (suc i) h p = (facet-all (λ b. x < b) w i (omega arith) (p .0), facet-rises w i (omega arith) (p .1))
 
-facet-mem : (v : ℕ) (w : List ℕ) (i : ℕ) → Mem v w → (v ≡ getD w i 0 → ⊥) → Mem v (facetAt w i)
+pub facet-mem : (v : ℕ) (w : List ℕ) (i : ℕ) → Mem v w → (v ≡ getD w i 0 → ⊥) → Mem v (facetAt w i)
 facet-mem v [] i m n = absurd m
 facet-mem v (x ∷ w) zero (inl e) n = absurd (n (sym e))
 facet-mem v (x ∷ w) zero (inr m) n = m
 facet-mem v (x ∷ w) (suc i) (inl e) n = inl e
 facet-mem v (x ∷ w) (suc i) (inr m) n = inr (facet-mem v w i m n)
 
-mem-facet : (v : ℕ) (w : List ℕ) (i : ℕ) → i < length w → Rises w → Mem v (facetAt w i) → Mem v w × (v ≡ getD w i 0 → ⊥)
+pub mem-facet : (v : ℕ) (w : List ℕ) (i : ℕ) → i < length w → Rises w → Mem v (facetAt w i) → Mem v w × (v ≡ getD w i 0 → ⊥)
 mem-facet v [] i h p m = absurd (let z : ⊥ = omega arith in z)
 mem-facet v (x ∷ w) zero h p m = (inr m, λ e. omega (arith, All-mem (λ b. x < b) v w (p .0) m))
 mem-facet v (x ∷ w) (suc i) h p (inl e) = (inl e, λ q. omega (arith, All-at (λ b. x < b) w i (p .0) (omega arith)))

@@ -6,6 +6,7 @@ use mathlib.Core.Logic.{_⊎_, inl, inr, ⊎-elim}
 use mathlib.Core.List.{[], _∷_}
 use Prim.Native.Nat.{ℕ, zero, suc, _≤_, _<_, suc-le-suc}
 use native.Mathlib.Nat.{le-of-suc-le-suc}
+use native.Mathlib.Decide.{ℕ-discrete}
 use native.Mathlib.Omega.{arith}
 use lib.Dec.{eqb, ltb}
 use lib.ListN.{length, getD, take}
@@ -21,9 +22,13 @@ use Rattle.gridwords.proofs.Corners.{timesIn, times-take, times-all, order-long
 abbrev pub up : ℕ → ℕ → ℕ → ℕ → ℕ
 up d t i k = timesIn k (take i (orderOf d t))
 
--- order u is order t but for the set of its first i axes
+-- the sets of the first axes of orders t and u are the same but for the first i
+abbrev sameBut : ℕ → ℕ → ℕ → ℕ → Bool
+sameBut d t i u = allBelow (suc d) (λ j. eqb j i || allBelow d (λ k. eqb (up d u j k) (up d t j k)))
+
+-- and there they differ
 abbrev turnTest : ℕ → ℕ → ℕ → ℕ → Bool
-turnTest d t i u = allBelow (suc d) (λ j. eqb j i || allBelow d (λ k. eqb (up d u j k) (up d t j k))) && not (allBelow d (λ k. eqb (up d u i k) (up d t i k)))
+turnTest d t i u = sameBut d t i u && not (allBelow d (λ k. eqb (up d u i k) (up d t i k)))
 
 -- the kinds of the axes, by number
 abbrev pub kinds : ℕ → ℕ → ℕ → ℕ → ℕ
@@ -53,6 +58,16 @@ places = refl
 turns : allBelow 4 (λ d. allBelow (length (orders d)) (λ t. allBelow d (λ i. eqb i 0 || some (turnTest d t i) (length (orders d))))) ≡ true
 unfolding some
 turns = refl
+
+sizes : allBelow 4 (λ d. allBelow (length (orders d)) (λ t. allBelow (suc d) (λ l. eqb (sum d (up d t l)) l))) ≡ true
+sizes = refl
+
+-- of three orders that are the same but for one set two are the same
+abbrev threeTest : ℕ → ℕ → ℕ → ℕ → ℕ → Bool
+threeTest d t u v i = not (sameBut d t i u && sameBut d t i v) || (eqb t u || (eqb t v || eqb u v))
+
+threes : allBelow 4 (λ d. allBelow (length (orders d)) (λ t. allBelow (length (orders d)) (λ u. allBelow (length (orders d)) (λ v. allBelow (suc d) (threeTest d t u v))))) ≡ true
+threes = refl
 
 -- ---- reading the tests
 or-either : (a b : Bool) → (a || b) ≡ true → (a ≡ true) ⊎ (b ≡ true)
@@ -86,7 +101,7 @@ pub record Turned (d t i u : ℕ) : Type 0 where
 
 turned-of : (d t i u : ℕ) → u < length (orders d) → turnTest d t i u ≡ true → Turned d t i u
 turned-of d t i u h e =
-    let a : Bool = allBelow (suc d) (λ j. eqb j i || allBelow d (λ k. eqb (up d u j k) (up d t j k))) in
+    let a : Bool = sameBut d t i u in
     let b : Bool = allBelow d (λ k. eqb (up d u i k) (up d t i k)) in
     let r = not-all d (λ k. eqb (up d u i k) (up d t i k)) (not-true b (second-of a (not b) e)) in
     record {
@@ -185,6 +200,34 @@ place d t a b c h l ha hb hc =
     (at-below (length (orders d)) (λ t. allBelow 3 (λ a. allBelow 3 (λ b. allBelow 3 (λ c. placeTest d t (kinds a b c)))))
     (at-below 4 (λ d. allBelow (length (orders d)) (λ t. allBelow 3 (λ a. allBelow 3 (λ b. allBelow 3 (λ c. placeTest d t (kinds a b c)))))) places d (suc-le-suc h)) t l) a ha) b hb) c hc))
 
+-- ---- orders that are the same but for one set
+all-below : (n : ℕ) (t : ℕ → Bool) → ((i : ℕ) → i < n → t i ≡ true) → allBelow n t ≡ true
+all-below zero t f = refl
+all-below (suc n) t f = rw (f 0 (omega arith)) (all-below n (λ i. t (suc i)) (λ i l. f (suc i) (suc-le-suc l)))
+
+same-but : (d t i u : ℕ) → ((j k : ℕ) → j ≤ d → (j ≡ i → ⊥) → k < d → up d u j k ≡ up d t j k) → sameBut d t i u ≡ true
+same-but d t i u f =
+    all-below (suc d) (λ j. eqb j i || allBelow d (λ k. eqb (up d u j k) (up d t j k)))
+    (λ j l.
+    elim (ℕ-discrete j i) [
+      | yes e ↦ rw (eq-eqb j i e)
+      | no e ↦ rw (ne-eqb j i e) (all-below d (λ k. eqb (up d u j k) (up d t j k)) (λ k m. eq-eqb _ _ (f j k (le-of-suc-le-suc l) e m)))
+    ])
+
+pub three : (d t u v i : ℕ) → d ≤ 3 → t < length (orders d) → u < length (orders d) → v < length (orders d) → i ≤ d → ((j k : ℕ) → j ≤ d → (j ≡ i → ⊥) → k < d → up d u j k ≡ up d t j k)
+    → ((j k : ℕ) → j ≤ d → (j ≡ i → ⊥) → k < d → up d v j k ≡ up d t j k) → (t ≡ u) ⊎ ((t ≡ v) ⊎ (u ≡ v))
+three d t u v i h ht hu hv hi f f′ =
+    let e : threeTest d t u v i ≡ true =
+    at-below (suc d) (threeTest d t u v)
+    (at-below (length (orders d)) (λ v. allBelow (suc d) (threeTest d t u v))
+    (at-below (length (orders d)) (λ u. allBelow (length (orders d)) (λ v. allBelow (suc d) (threeTest d t u v)))
+    (at-below (length (orders d)) (λ t. allBelow (length (orders d)) (λ u. allBelow (length (orders d)) (λ v. allBelow (suc d) (threeTest d t u v))))
+    (at-below 4 (λ d. allBelow (length (orders d)) (λ t. allBelow (length (orders d)) (λ u. allBelow (length (orders d)) (λ v. allBelow (suc d) (threeTest d t u v))))) threes d (suc-le-suc h)) t ht) u hu) v hv) i (suc-le-suc hi) in
+    ⊎-elim
+    (λ (q : eqb t u ≡ true). inl (eqb-true t u q))
+    (λ (q : (eqb t v || eqb u v) ≡ true). inr (⊎-elim (λ (z : eqb t v ≡ true). inl (eqb-true t v z)) (λ (z : eqb u v ≡ true). inr (eqb-true u v z)) (or-either (eqb t v) (eqb u v) q)))
+    (or-either (eqb t u) (eqb t v || eqb u v) (rw (same-but d t i u f, same-but d t i v f′) at e))
+
 -- ---- each axis is stepped along once
 module _ (d t : ℕ) (h : d ≤ 3) (l : t < length (orders d)) where
   pub up-most : (i k : ℕ) → k < d → up d t i k ≤ 1
@@ -198,3 +241,10 @@ module _ (d t : ℕ) (h : d ≤ 3) (l : t < length (orders d)) where
 
   pub up-rises : (i j k : ℕ) → i ≤ j → up d t i k ≤ up d t j k
   up-rises i j k m = times-take k (orderOf d t) i j m
+
+  -- after i steps i axes are up
+  pub up-sum : (i : ℕ) → i ≤ d → sum d (up d t i) ≡ i
+  up-sum i m =
+      eqb-true _ _
+      (at-below (suc d) (λ i. eqb (sum d (up d t i)) i)
+      (at-below (length (orders d)) (λ t. allBelow (suc d) (λ i. eqb (sum d (up d t i)) i)) (at-below 4 (λ d. allBelow (length (orders d)) (λ t. allBelow (suc d) (λ i. eqb (sum d (up d t i)) i))) sizes d (suc-le-suc h)) t l) i (suc-le-suc m))

@@ -85,7 +85,7 @@ module _ (g : Grid) (fine : checkOf g ≡ Fine) where
         rises = λ i j k h m. up-rises (g .d) t (dim g fine) l i j k h;
       }
 
-  vertex-at : (x b t j : ℕ) → At x b t → j ≤ g .d → vertexNo g x j ≡ vertexBy g (boxAt g b) (up (g .d) t j)
+  pub vertex-at : (x b t j : ℕ) → At x b t → j ≤ g .d → vertexNo g x j ≡ vertexBy g (boxAt g b) (up (g .d) t j)
   vertex-at x b t j a l = ap (vertexOf g) (a .corner j l)
 
   -- ---- a cell turned at corner i: cell y has the other corners, and at i a vertex that x has not
@@ -173,7 +173,7 @@ module _ (g : Grid) (fine : checkOf g ≡ Fine) where
           ])
 
   -- ---- two cells by box and order that are one cell
-  pub matched : (x y b c t s : ℕ) → At x b t → At y c s → sortWord (wordNo g x) ≡ sortWord (wordNo g y) → Matched g (boxAt g b) (boxAt g c) (up (g .d) t) (up (g .d) s)
+  matched : (x y b c t s : ℕ) → At x b t → At y c s → sortWord (wordNo g x) ≡ sortWord (wordNo g y) → Matched g (boxAt g b) (boxAt g c) (up (g .d) t) (up (g .d) s)
   matched x y b c t s a a′ e =
       record {
         forth = λ i l. let r = cell-same g fine x y (a .in-grid) (a′ .in-grid) e (vertexNo g x i) (i, l, refl) in (r .0, r .1, sym (vertex-at x b t i a l) ∙ sym (r .2) ∙ vertex-at y c s (r .0) a′ (r .1));
@@ -325,7 +325,7 @@ module _ (g : Grid) (fine : checkOf g ≡ Fine) where
         subst (λ (u : ℕ). Mem u (cellNo g x)) (one-corner (o .0) (r .0) (o .1) lj (o .2) ∙ r .2) (Mem-of (cellNo g x) (o .0) (omega (arith, o .1, cell-length g fine x))))
 
   -- two words that sort to one cell are of boxes that face each other
-  pub two-faced : (x y : ℕ) → x < y → y < cellsOf g → sortWord (wordNo g x) ≡ sortWord (wordNo g y) → Faced g (boxAt g (x / eachBox g)) (boxAt g (y / eachBox g))
+  two-faced : (x y : ℕ) → x < y → y < cellsOf g → sortWord (wordNo g x) ≡ sortWord (wordNo g y) → Faced g (boxAt g (x / eachBox g)) (boxAt g (y / eachBox g))
   two-faced x y h l e =
       ⊎-elim
       (λ (f : Faced g (boxAt g (x / eachBox g)) (boxAt g (y / eachBox g))). f)
