@@ -1,4 +1,5 @@
 -- The signs and the order of 3×1, axis 0 twisted over 1, and of 3×1, axis 0 periodic. Assumes nothing.
+use mathlib.Core.Bool.{true}
 use mathlib.Core.List.{List, [], _∷_}
 use mathlib.Core.Path.{_≡_, refl, sym, ap, _∙_, subst}
 use Prim.Native.Nat.{ℕ, zero, suc, _<_, _≤_}
@@ -6,19 +7,21 @@ use native.Mathlib.Nat.{le-refl}
 use native.Mathlib.Omega.{arith}
 use lib.IntN.{pos, negsuc}
 use lib.ListN.{length, getD}
+use Rattle.refusal.specs.declared.Answer.the-variants.{Fine}
 use Rattle.refusal.specs.declared.Counted.the-variants as Counted
 use Rattle.refusal.specs.Table.{noSigns}
 use Rattle.lists.specs.Rows.{cut}
 use Rattle.multiindex.specs.Sort.{insertBy, insert, sortWord}
 use Rattle.multiindex.specs.Sign.{Sign, plus, minus, opposite, times}
 use Rattle.complex.specs.Cells.{decides, comesBefore, placed, place, inOrder, cellsOf}
+use Rattle.complex.specs.Skeleton.{inColex, edgesOf, tab, numbers, keep, borderOf}
 use Rattle.complex.specs.Facets.{cellAt, facetAt, Mates, Crowded}
 use Rattle.signs.specs.Signs.{Coherent, here, across, Lowest, Oriented}
 use Rattle.signs.proofs.Unique.{forced}
 use Rattle.orientation.specs.Promise as Orientation
 use Rattle.quotient.specs.declared.Grid.{Grid}
-use Rattle.quotient.specs.Fold.{product, some}
-use Rattle.quotient.specs.Shape.{axisOf}
+use Rattle.quotient.specs.Fold.{firstFrom, product, some, count}
+use Rattle.quotient.specs.Shape.{axisOf, badSet, checkOf, verticesOf, oddSet}
 use Rattle.quotient.specs.Reduce.{restAt, reflectedBy, numberTo}
 use Rattle.quotient.specs.Points.{numberOf}
 use Rattle.gridwords.specs.Cells.{met, gridCells}
@@ -27,7 +30,13 @@ use Rattle.ordering.specs.Order.{sameWord, wordIf, wordOf, byCell, keepUnless, 
 use Rattle.gridorder.specs.declared.Triangulated.the-variants as Triangulated
 use Rattle.gridorder.specs.Promise.{ownWords, wordsByCell, HandsOut, sizeOf}
 use Rattle.gridorder.specs.Promise as Order
-use Rattle.starred.specs.Starred.{band, ring}
+use Rattle.line.specs.declared.Line.the-variants as Line
+use Rattle.line.specs.Grammar.{andThen, after, digitsFrom, countFrom, setFrom, glueFrom, gluedFrom, axisFrom, axisAt, gridFrom, lineEnds, ended, readLine}
+use Rattle.summary.specs.declared.Summary.{Summary}
+use Rattle.summary.specs.Lines.{linesOf}
+use Rattle.sums.specs.Promise.{sidesOf, Prints, six}
+use Rattle.sums.specs.Promise.SumsOf.{ordered as told-ordered}
+use Rattle.starred.specs.Starred.{band, ring, ringLine}
 use Rattle.starred.proofs.Tests.{coherent-by, agree-by, free-by}
 
 abbrev Words : Type 0
@@ -121,6 +130,26 @@ ring-ordered =
     subst (λ (n : ℕ). Order.Ends ring (sizeOf ring) (sizeOf ring) (Triangulated.Ordered n) (record { cells = flat (gluedCells ring); order = flat ringOrder })) (ap length ring-cells)
     (subst (λ (ks : Words). Order.Ends ring (sizeOf ring) (sizeOf ring) (Triangulated.Ordered (length (gluedCells ring))) (record { cells = flat (gluedCells ring); order = flat ks })) (by-words ring ringCells ringWords ringOrder ring-cells ring-words ring-by)
     (Order.ordered (subst (λ (cs : Words). Crowded 2 cs → ⊥) (sym ring-cells) ring-free) ring-hands-out (le-refl _) (le-refl _)))
+
+ring-taken : checkOf ring ≡ Fine
+unfolding checkOf firstFrom badSet some axisOf product
+ring-taken = refl
+
+ring-read : readLine ringLine ≡ Line.Taken ring
+unfolding readLine ended lineEnds gridFrom axisAt axisFrom gluedFrom glueFrom setFrom countFrom digitsFrom after andThen
+ring-read = refl
+
+abbrev ringSummary : Words → Summary
+ringSummary cs = record { cells = length cs; vertices = verticesOf ring; edges = length (edgesOf cs); border = length (borderOf 2 cs); sides = sidesOf ring; ordered = true }
+
+ring-summary : ringSummary ringCells ≡ record { cells = 6; vertices = 6; edges = 12; border = 6; sides = 2; ordered = true }
+unfolding inColex place placed comesBefore decides tab numbers keep product some oddSet count axisOf
+ring-summary = refl
+
+pub ring-prints : Prints ringLine (linesOf (record { cells = 6; vertices = 6; edges = 12; border = 6; sides = 2; ordered = true }))
+ring-prints =
+    subst (λ (s : Summary). Prints ringLine (linesOf s)) (ap ringSummary ring-cells ∙ ring-summary)
+    (six ring-read (told-ordered (record { taken = ring-taken; free = subst (λ (cs : Words). Crowded 2 cs → ⊥) (sym ring-cells) ring-free }) ring-hands-out))
 
 -- ---- 3×1, axis 0 twisted over 1
 abbrev bandCells : Words

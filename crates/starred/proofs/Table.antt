@@ -14,7 +14,7 @@ use Rattle.ordering.specs.Order.{sameWord, wordIf, wordOf, byCell}
 use Rattle.refined.specs.Results.{outside}
 use Rattle.starred.specs.Case.{All}
 use Rattle.starred.specs.Starred.{starred}
-use Rattle.starred.proofs.Bands.{band-oriented, band-ordered, ring-oriented, ring-ordered}
+use Rattle.starred.proofs.Bands.{band-oriented, band-ordered, ring-oriented, ring-ordered, ring-prints}
 
 -- 0 is no refinement number
 none : 1 ≤ 0 → ⊥
@@ -23,4 +23,4 @@ none h = omega arith
 pub table : All starred
 unfolding checkOf firstFrom badSet some axisOf product restAt reflectedBy numberTo numberOf gridCells met cellsOf cut inOrder place placed comesBefore decides sortWord insert insertBy sameWord wordIf wordOf byCell
 table =
-    (refl, (refl, (band-ordered, (band-oriented, (refl, (refl, (refl, (ring-oriented, (ring-ordered, (refl, (refl, (refl, (refl, (refl, ((λ given. outside (λ i. none (i .least))), (refl, (refl, (refl, (refl, (refl, (refl, tt)))))))))))))))))))))
+    (refl, (refl, (band-ordered, (band-oriented, (refl, (refl, (refl, (ring-oriented, (ring-ordered, (refl, (refl, (refl, (refl, (refl, ((λ given. outside (λ i. none (i .least))), (refl, (refl, (refl, (refl, (refl, (refl, (ring-prints, tt))))))))))))))))))))))

@@ -17,6 +17,9 @@ use Rattle.ordering.specs.Order.{flat}
 use Rattle.gridorder.specs.declared.Triangulated.{Triangulated}
 use Rattle.gridorder.specs.Promise as Order
 use Rattle.lattice.specs.Refine as Refine
+use Rattle.summary.specs.declared.Summary.{Summary}
+use Rattle.summary.specs.Lines.{linesOf}
+use Rattle.sums.specs.Promise.{Prints}
 use Rattle.refined.specs.declared.Refinement.{Refinement}
 use Rattle.refined.specs.Refined.{refinedCells, refinedWords}
 use Rattle.refined.specs.Results.{Lengths, nothing, Finishes}
@@ -43,6 +46,8 @@ pub data Case : Type 0 where
   one-child : ℕ → Case
   -- what refinement says, however long the result lists are, where it hands out nothing
   refused : ℕ → ℕ → List ℕ → Refinement → Case
+  -- the program's bytes, and the six things that it prints
+  prints : List ℕ → Summary → Case
 
 -- what it says; the result lists are as long as needed
 abbrev pub Holds : Case → Type 0
@@ -57,6 +62,7 @@ Holds (child-words d R w ws) = refinedWords d R (suc d) (w ∷ []) ≡ ws
 Holds (child-cells d R w cs) = refinedCells d R (suc d) (w ∷ []) ≡ cs
 Holds (one-child most) = map (λ r. refinedWords 0 (suc r) 1 ((0 ∷ []) ∷ [])) (upto most) ≡ replicate most ((0 ∷ []) ∷ [])
 Holds (refused d R w r) = (given : Lengths) → Finishes d R (suc d) (w ∷ []) (w ∷ []) given r nothing
+Holds (prints bs s) = Prints bs (linesOf s)
 
 -- each of the figures
 abbrev pub All : List Case → Type 0

@@ -1,4 +1,5 @@
--- Document 01, "Figures to check by": the starred ones, in its order, and after them the two that tell the sequence of the axis orders. Assumes nothing.
+-- Document 01, "Figures to check by": the starred ones, in its order; after them the two that tell the sequence of the axis orders, and the program's example. Assumes nothing.
+use mathlib.Core.Bool.{true}
 use mathlib.Core.List.{List, [], _∷_}
 use Prim.Native.Nat.{ℕ}
 use lib.IntN.{pos, negsuc}
@@ -11,10 +12,10 @@ use Rattle.quotient.specs.declared.Glue.the-variants.{Open, Periodic, Twisted}
 use Rattle.quotient.specs.declared.Axis.{Axis}
 use Rattle.quotient.specs.declared.Grid.{Grid}
 use Rattle.quotient.specs.Shape.{noAxis}
-use Rattle.line.specs.Grammar.{unitSides}
+use Rattle.line.specs.Grammar.{lineFeed, letterO, letterP, unitSides}
 use Rattle.gridorder.specs.declared.Triangulated.the-variants as Triangulated
 use Rattle.refined.specs.declared.Refinement.the-variants as Refinement
-use Rattle.starred.specs.Case.{Case, checked, reduced, has-words, has-cells, oriented, ordered, births, child-words, child-cells, one-child, refused}
+use Rattle.starred.specs.Case.{Case, checked, reduced, has-words, has-cells, oriented, ordered, births, child-words, child-cells, one-child, refused, prints}
 
 abbrev grid : ℕ → Axis → Axis → Grid
 grid d a b = record { d = d; first = a; second = b; third = noAxis; sides = unitSides }
@@ -26,6 +27,10 @@ band = grid 2 (record { count = 3; glue = Twisted 2 }) (record { count = 1; glue
 -- 3×1, axis 0 periodic, axis 1 open
 abbrev pub ring : Grid
 ring = grid 2 (record { count = 3; glue = Periodic }) (record { count = 1; glue = Open })
+
+-- its line for the program: `2 3 P 1 O` and a line feed
+abbrev pub ringLine : List ℕ
+ringLine = 50 ∷ 32 ∷ 51 ∷ 32 ∷ letterP ∷ 32 ∷ 49 ∷ 32 ∷ letterO ∷ lineFeed ∷ []
 
 -- one axis
 abbrev pub line : ℕ → Glue → Grid
@@ -60,4 +65,5 @@ starred =
     ∷ checked (line 1 Open) Answer.Fine
     ∷ births 2 3 triangle ((2 ∷ 1 ∷ 0 ∷ []) ∷ (2 ∷ 0 ∷ 1 ∷ []) ∷ (1 ∷ 1 ∷ 1 ∷ []) ∷ (1 ∷ 2 ∷ 0 ∷ []) ∷ (0 ∷ 2 ∷ 1 ∷ []) ∷ (1 ∷ 0 ∷ 2 ∷ []) ∷ (0 ∷ 1 ∷ 2 ∷ []) ∷ [])
     ∷ births 3 2 tetrahedron ((1 ∷ 1 ∷ 0 ∷ 0 ∷ []) ∷ (1 ∷ 0 ∷ 1 ∷ 0 ∷ []) ∷ (1 ∷ 0 ∷ 0 ∷ 1 ∷ []) ∷ (0 ∷ 1 ∷ 0 ∷ 1 ∷ []) ∷ (0 ∷ 1 ∷ 1 ∷ 0 ∷ []) ∷ (0 ∷ 0 ∷ 1 ∷ 1 ∷ []) ∷ [])
+    ∷ prints ringLine (record { cells = 6; vertices = 6; edges = 12; border = 6; sides = 2; ordered = true })
     ∷ []
