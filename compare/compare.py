@@ -10,7 +10,7 @@ from port import Port
 
 
 # calls that the library does not have yet: anything else that is missing is an error
-LATER = {"planner_" + name for name in ("facets", "border", "ordering", "induced_orientation", "triangulate_ordered", "edge_lengths_sq", "edge_length_sq")}
+LATER = set()
 
 
 def cell_lists(j, lists):

@@ -5,7 +5,7 @@ use native.Mathlib.Nat.{not-suc-le-zero, le-of-suc-le-suc}
 use mathlib.Core.Bool.{Bool, true, false, cond}
 use mathlib.Core.List.{List, [], _∷_}
 use lib.Dec.{ltb}
-use lib.ListN.{length, getD, List·getD-eq-default}
+use lib.ListN.{length, getD, set, List·getD-eq-default}
 use borrow.Author.Tests.{lt-ltb, le-ltb}
 use lib.IntN.{pos}
 use lib.Ieee.{Float, fin}
@@ -18,7 +18,12 @@ use Rattle.quotient.specs.declared.Made.{Made}
 use Rattle.quotient.specs.declared.Made.the-variants.{Taken, Refused}
 use Rattle.refusal.specs.declared.Counted.{Counted}
 use Rattle.gridmesh.specs.Words.{CellWords}
-use Rattle.planner.specs.Said.{Said, countedCode, refusedCode, madeCode, madeAxes}
+use Rattle.gridorder.specs.declared.Triangulated.{Triangulated}
+use Rattle.gridorder.specs.Promise.{TriangulateOrdered}
+use Rattle.gridlengths.specs.declared.EdgeLength.{EdgeLength}
+use Rattle.gridlengths.specs.declared.EdgeLength.the-variants as EdgeLength
+use Rattle.gridlengths.specs.Lengths.{EdgeLengths}
+use Rattle.planner.specs.Said.{Said, countedCode, refusedCode, madeCode, madeAxes, triangulatedCode, lengthCode, lengthSquares}
 use Rattle.planner.specs.Given.{glueOf, axisGiven, sidesGiven, gridGiven, entry, sideGiven, gluesGiven, glueCode, axesOf}
 
 -- an answer that is the call's, on a value that is the one given
@@ -107,3 +112,39 @@ pub words-said : {g given : Grid} {r : ℕ} {a : Counted} {words words′ keys k
     → Said countedCode (λ (x : Counted). CellWords given x words words′ keys keys′ rows rows′ spare spare′ counts counts′) r
 words-said {a} {words} {words′} {keys} {keys′} {rows} {rows′} {spare} {spare′} {counts} {counts′} e h k =
     record { answer = a; coded = e; meets = subst (λ (x : Grid). CellWords x a words words′ keys keys′ rows rows′ spare spare′ counts counts′) k h }
+
+-- a grid's cells and their order, where the grid is the one given
+pub triangulated-said : {g given : Grid} {r : ℕ} {a : Triangulated} {cells cells′ order order′ keys keys′ rows rows′ spare spare′ counts counts′ : List ℕ}
+    → r ≡ triangulatedCode a → TriangulateOrdered g a cells cells′ order order′ keys keys′ rows rows′ spare spare′ counts counts′ → g ≡ given
+    → Said triangulatedCode (λ (x : Triangulated). TriangulateOrdered given x cells cells′ order order′ keys keys′ rows rows′ spare spare′ counts counts′) r
+triangulated-said {a} {cells} {cells′} {order} {order′} {keys} {keys′} {rows} {rows′} {spare} {spare′} {counts} {counts′} e h k =
+    record { answer = a; coded = e; meets = subst (λ (x : Grid). TriangulateOrdered x a cells cells′ order order′ keys keys′ rows rows′ spare spare′ counts counts′) k h }
+
+-- a grid's lengths, where the grid is the one given
+pub lengths-said : {g given : Grid} {r : ℕ} {a : Counted} {out out′ : List Float} {keys keys′ rows rows′ spare spare′ counts counts′ : List ℕ}
+    → r ≡ countedCode a → EdgeLengths g a out out′ keys keys′ rows rows′ spare spare′ counts counts′ → g ≡ given
+    → Said countedCode (λ (x : Counted). EdgeLengths given x out out′ keys keys′ rows rows′ spare spare′ counts counts′) r
+lengths-said {a} {out} {out′} {keys} {keys′} {rows} {rows′} {spare} {spare′} {counts} {counts′} e h k =
+    record { answer = a; coded = e; meets = subst (λ (x : Grid). EdgeLengths x a out out′ keys keys′ rows rows′ spare spare′ counts counts′) k h }
+
+pub length-refused : (s : EdgeLength) {n p r : ℕ} (squares : List Float) → s ≡ EdgeLength.Refused n p → r ≡ refusedCode n p → (r ≡ lengthCode s) × (squares ≡ lengthSquares s squares)
+unfolding lengthCode lengthSquares
+length-refused s squares e h = (h ∙ sym (ap lengthCode e), sym (ap (λ (x : EdgeLength). lengthSquares x squares) e))
+
+pub length-none : (s : EdgeLength) (squares : List Float) → s ≡ EdgeLength.NoEdge → (_≡_ {A = ℕ} 0 (lengthCode s)) × (squares ≡ lengthSquares s squares)
+unfolding lengthCode lengthSquares
+length-none s squares e = (sym (ap lengthCode e), sym (ap (λ (x : EdgeLength). lengthSquares x squares) e))
+
+pub length-one : (s : EdgeLength) {x : Float} (squares : List Float) → s ≡ EdgeLength.Length x → (_≡_ {A = ℕ} 1 (lengthCode s)) × (set squares 0 x ≡ lengthSquares s squares)
+unfolding lengthCode lengthSquares
+length-one s squares e = (sym (ap lengthCode e), sym (ap (λ (t : EdgeLength). lengthSquares t squares) e))
+
+pub length-two : (s : EdgeLength) {x y : Float} (squares : List Float) → s ≡ EdgeLength.Clash x y
+    → (_≡_ {A = ℕ} 2 (lengthCode s)) × (set (set squares 0 x) 1 y ≡ lengthSquares s squares)
+unfolding lengthCode lengthSquares
+length-two s squares e = (sym (ap lengthCode e), sym (ap (λ (t : EdgeLength). lengthSquares t squares) e))
+
+-- an edge's answer and squares, where its answer is that of the one that is asked for
+pub length-as : (s asked : EdgeLength) {r : ℕ} (squares : List Float) {after : List Float} → (r ≡ lengthCode s) × (after ≡ lengthSquares s squares) → s ≡ asked
+    → (r ≡ lengthCode asked) × (after ≡ lengthSquares asked squares)
+length-as s asked squares h k = (h .0 ∙ ap lengthCode k, h .1 ∙ ap (λ (x : EdgeLength). lengthSquares x squares) k)

@@ -13,6 +13,7 @@ use Rattle.quotient.specs.declared.Glues.{Glues}
 use Rattle.quotient.specs.declared.Axis.{Axis}
 use Rattle.quotient.specs.declared.Grid.{Grid}
 use Rattle.quotient.specs.declared.GridVertex.{GridVertex}
+use Rattle.quotient.specs.declared.GluedVertex.{GluedVertex}
 
 -- a gluing's number: below 256 open, below 512 periodic, else twisted over the mask in the lowest byte
 unfoldable pub glueOf : ℕ → Glue
@@ -43,6 +44,9 @@ plainGiven d axes = gridGiven d axes []
 
 abbrev pub vertexGiven : ℕ → GridVertex
 vertexGiven v = record { 0 = v }
+
+abbrev pub gluedGiven : ℕ → GluedVertex
+gluedGiven v = record { 0 = v }
 
 -- a gluing for each axis
 unfoldable pub gluesGiven : List ℕ → Glues

@@ -4,6 +4,8 @@ use Prim.Native.Nat.{ℕ, _+_, _*_}
 use Rattle.refusal.specs.declared.Counted.{Counted}
 use Rattle.refusal.specs.declared.Counted.the-variants as Counted
 use mathlib.Core.List.{List}
+use lib.Ieee.{Float}
+use lib.ListN.{set}
 use Rattle.refusal.specs.declared.Verdict.{Verdict}
 use Rattle.refusal.specs.declared.Verdict.the-variants as Verdict
 use Rattle.quotient.specs.declared.Made.{Made}
@@ -13,6 +15,12 @@ use Rattle.quotient.specs.declared.Parity.the-variants as Parity
 use Rattle.quotient.specs.declared.GluedVertex.{GluedVertex}
 use Rattle.quotient.specs.declared.Reduced.{Reduced}
 use Rattle.quotient.specs.declared.Reduced.the-variants as Reduced
+use Rattle.ordering.specs.declared.Ordered.{Ordered}
+use Rattle.ordering.specs.declared.Ordered.the-variants as Ordered
+use Rattle.gridorder.specs.declared.Triangulated.{Triangulated}
+use Rattle.gridorder.specs.declared.Triangulated.the-variants as Triangulated
+use Rattle.gridlengths.specs.declared.EdgeLength.{EdgeLength}
+use Rattle.gridlengths.specs.declared.EdgeLength.the-variants as EdgeLength
 use Rattle.planner.specs.Given.{axesOf}
 
 -- 2 ^ 32 times the number, and the place
@@ -50,6 +58,32 @@ madeCode (Made.Refused number place) = refusedCode number place
 unfoldable pub madeAxes : Made → List ℕ → List ℕ
 madeAxes (Made.Taken g) axes = axesOf g
 madeAxes (Made.Refused number place) axes = axes
+
+-- a count of cells, with 2 ^ 31 more where the order agrees
+abbrev pub orderedCode : Ordered → ℕ
+orderedCode (Ordered.Agree n) = n + 2147483648
+orderedCode (Ordered.Differ n) = n
+orderedCode (Ordered.Refused number place) = refusedCode number place
+
+-- a count of cells, with 2 ^ 31 more where an order is handed out
+abbrev pub triangulatedCode : Triangulated → ℕ
+triangulatedCode (Triangulated.Ordered n) = n + 2147483648
+triangulatedCode (Triangulated.Unordered n) = n
+triangulatedCode (Triangulated.Refused number place) = refusedCode number place
+
+-- how many squared lengths an edge has: 0 where there is no such edge, 2 where they clash
+unfoldable pub lengthCode : EdgeLength → ℕ
+lengthCode (EdgeLength.Length x) = 1
+lengthCode (EdgeLength.Clash x y) = 2
+lengthCode EdgeLength.NoEdge = 0
+lengthCode (EdgeLength.Refused number place) = refusedCode number place
+
+-- the squared lengths that are handed out, from the start; past them, and on a refusal, what stood there
+unfoldable pub lengthSquares : EdgeLength → List Float → List Float
+lengthSquares (EdgeLength.Length x) squares = set squares 0 x
+lengthSquares (EdgeLength.Clash x y) squares = set (set squares 0 x) 1 y
+lengthSquares EdgeLength.NoEdge squares = squares
+lengthSquares (EdgeLength.Refused number place) squares = squares
 
 -- r returns an answer that meets the call's promise
 pub record Said {S : Type 0} (code : S → ℕ) (Meets : S → Type 0) (r : ℕ) : Type 0 where

@@ -1,5 +1,8 @@
 // How an answer is returned: the refusal's number and place, or 0 and the answer, in one number.
 use crate::given;
+use gridlengths::EdgeLength;
+use gridorder::Triangulated;
+use ordering::Ordered;
 use quotient::Made;
 use quotient::Parity;
 use quotient::Reduced;
@@ -7,7 +10,7 @@ use refusal::Counted;
 use refusal::Verdict;
 ghost use mathlib.Core.Path.{_≡_};
 ghost use Prim.Native.Nat.{_+_, _*_};
-ghost use Rattle.planner.specs.Said.{refusedCode, countedCode, verdictCode, parityCode, reducedCode, madeCode, madeAxes};
+ghost use Rattle.planner.specs.Said.{refusedCode, countedCode, verdictCode, parityCode, reducedCode, madeCode, madeAxes, orderedCode, triangulatedCode, lengthCode, lengthSquares};
 
 // A refusal.
 pub(crate) fn refused(number: u32, place: u32) -> u64
@@ -68,6 +71,48 @@ pub(crate) fn made(said: Made, axes: &mut [u32; 6]) -> u64
         Made::Taken(g) => {
             given::hand_out(g, axes);
             0
+        }
+    }
+}
+
+// A count of cells, with 2^31 more where the order agrees on every facet of two of them.
+pub(crate) fn ordered(said: Ordered) -> u64
+    ensures { λ r. ⌜ r ≡ orderedCode said ⌝ }
+{
+    match said {
+        Ordered::Agree(n) => (n as u64) + 2147483648,
+        Ordered::Differ(n) => n as u64,
+        Ordered::Refused(number, place) => refused(number, place),
+    }
+}
+
+// A count of cells, with 2^31 more where an order is handed out with them.
+pub(crate) fn triangulated(said: Triangulated) -> u64
+    ensures { λ r. ⌜ r ≡ triangulatedCode said ⌝ }
+{
+    match said {
+        Triangulated::Ordered(n) => (n as u64) + 2147483648,
+        Triangulated::Unordered(n) => n as u64,
+        Triangulated::Refused(number, place) => refused(number, place),
+    }
+}
+
+// One edge: how many squared lengths it has, and these go to the list. 0 is no edge, 1 its length, 2 the two that clash first.
+pub(crate) fn edge_length(said: EdgeLength, squares: &mut [f64; 2]) -> u64
+    ensures { λ r. ⌜ r ≡ lengthCode said ⌝ }
+    ensures { λ _. ⌜ now (squares .exit) ≡ lengthSquares said (now (squares .entry)) ⌝ }
+{
+    match said {
+        EdgeLength::Refused(number, place) => refused(number, place),
+        EdgeLength::NoEdge => 0,
+        EdgeLength::Length(x) => {
+            squares[0] = x;
+            1
+        }
+        EdgeLength::Clash(x, y) => {
+            squares[0] = x;
+            squares[1] = y;
+            2
         }
     }
 }
