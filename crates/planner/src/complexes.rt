@@ -1,5 +1,5 @@
 // The calls on cell lists.
-use crate::said;
+use passing::said;
 ghost use lib.ListN.{length};
 ghost use Rattle.complex.specs.Room.{needOf};
 ghost use Rattle.complex.specs.Cells.{cellsOf};
@@ -8,7 +8,7 @@ ghost use Rattle.skeleton.specs.Promise.{Listed, FacetsListed};
 ghost use Rattle.skeleton.specs.Parts.{edgeNeed};
 ghost use Rattle.orientation.specs.Promise.{Orientation};
 ghost use Rattle.oriented.specs.Promise.{OrientBy};
-ghost use Rattle.planner.specs.Said.{Said, countedCode, verdictCode};
+ghost use Rattle.passing.specs.Said.{Said, countedCode, verdictCode};
 
 // The cells, d+1 vertices each, in colex order without repeats: how many. Refused: 1, 2, 3, 4, 6, 5, then 12 where a working list is too short, then 7, 12 where the
 // cell list is too short.

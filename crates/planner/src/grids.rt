@@ -1,6 +1,6 @@
 // The calls on grids.
-use crate::given;
-use crate::said;
+use passing::given;
+use passing::said;
 use quotient::Grid;
 use quotient::GridVertex;
 ghost use mathlib.Core.Path.{_≡_};
@@ -9,8 +9,8 @@ ghost use Rattle.quotient.specs.Shape.{parityOf, nverticesOf};
 ghost use Rattle.quotient.specs.Makers.{torusOf, kleinOf, quasiOf, bandOf};
 ghost use Rattle.gridmesh.specs.Words.{CellWords};
 ghost use Rattle.gridorder.specs.Promise.{TriangulateOrdered};
-ghost use Rattle.planner.specs.Said.{Said, reducedCode, parityCode, countedCode, madeCode, madeAxes, triangulatedCode};
-ghost use Rattle.planner.specs.Given.{plainGiven, vertexGiven, sidesGiven, gluesGiven};
+ghost use Rattle.passing.specs.Said.{Said, reducedCode, parityCode, countedCode, madeCode, madeAxes, triangulatedCode};
+ghost use Rattle.passing.specs.Given.{plainGiven, vertexGiven, sidesGiven, gluesGiven};
 
 // The glued number of grid point v, 4294967295 where v is past the last point. Refused: 1, 9, 8, 3, 6.
 #[no_mangle]

@@ -1,12 +1,12 @@
 // The calls on flat grids: lengths of edges.
-use crate::given;
-use crate::said;
+use passing::given;
+use passing::said;
 use quotient::GluedVertex;
 ghost use mathlib.Core.Path.{_≡_};
 ghost use Rattle.gridlengths.specs.Lengths.{EdgeLengths};
 ghost use Rattle.gridlengths.specs.Settled.{edgeLengthOf};
-ghost use Rattle.planner.specs.Said.{Said, countedCode, lengthCode, lengthSquares};
-ghost use Rattle.planner.specs.Given.{gridGiven, gluedGiven};
+ghost use Rattle.passing.specs.Said.{Said, countedCode, lengthCode, lengthSquares};
+ghost use Rattle.passing.specs.Given.{gridGiven, gluedGiven};
 
 // The squared length of each edge, in colex order of the edges: how many. Refused: 1, 10, 9, 8, 3, 6, then 12 where a working list is too short, then 15 where an edge gets two
 // lengths, 12 where the length list is too short.
