@@ -10,7 +10,7 @@ from port import Port
 
 
 # calls that the library does not have yet: anything else that is missing is an error
-LATER = {"planner_" + name for name in ("facets", "border", "ordering", "induced_orientation", "triangulate_ordered", "edge_lengths_sq", "edge_length_sq")}
+LATER = set()
 
 
 def cell_lists(j, lists):
@@ -20,18 +20,22 @@ def cell_lists(j, lists):
             call(j, c)
 
 
+def grid(j, rnd, d, axes, sides):
+    g = calls.Grid(j, d, axes, sides)
+    calls.questions(j, g)
+    calls.cell_words(j, g)
+    calls.triangulate_ordered(j, g)
+    calls.lengths(j, g)
+    n = calls.m.points(d, axes) if g.early is None else 0
+    for v in list(range(n)) if 0 < n <= 40 else [rnd.randrange(2 * n + 5) for _ in range(3)]:
+        calls.reduce(j, g, v)
+    for v in (n, n + 1, 2 ** 32 - 1):
+        calls.reduce(j, g, v)
+
+
 def grids(j, rnd, all_grids):
     for d, axes in all_grids:
-        g = calls.Grid(j, d, axes, inputs.random_sides(rnd, d))
-        calls.questions(j, g)
-        calls.cell_words(j, g)
-        calls.triangulate_ordered(j, g)
-        calls.lengths(j, g)
-        n = calls.m.points(d, axes) if g.early is None else 0
-        for v in list(range(n)) if 0 < n <= 40 else [rnd.randrange(2 * n + 5) for _ in range(3)]:
-            calls.reduce(j, g, v)
-        for v in (n, n + 1, 2 ** 32 - 1):
-            calls.reduce(j, g, v)
+        grid(j, rnd, d, axes, inputs.random_sides(rnd, d))
 
 
 def makers(j, rnd):

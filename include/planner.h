@@ -3,11 +3,12 @@
  * Every function answers every input: none stops, none asks its caller to check first, none keeps anything between calls.
  *
  * WHAT IS RETURNED. One 64-bit number r. planner_number(r) is the number of a refusal in document 01's table, or 0; planner_value(r)
- * is then its place, counted from 0, and otherwise the answer: a count, a vertex, or 1 and 0 for yes and no.
+ * is then its place, counted from 0, and otherwise the answer: a count, a vertex, or 1 and 0 for yes and no. Two calls answer a count with a
+ * yes beside it: planner_count(r) is the count, planner_yes(r) is 1 for yes.
  *
  * LISTS are a pointer and a length in elements, one after the other. A list may be empty, and its pointer must still be one that may be
  * read or written that often. Lists that are written must not overlap any other list of the call. The order of parameters is: numbers, lists
- * that are read, result lists, working lists.
+ * that are read, result lists, working lists, arrays of fixed length.
  *
  * RESULT LISTS get exactly as many elements as the meaning of the call says, from the start; what lies past them keeps its values. A
  * refusal changes no result list. One that is too short is refused with 12.
@@ -37,6 +38,8 @@ extern "C" {
 
 #define planner_number(r) ((uint32_t)((uint64_t)(r) >> 32))
 #define planner_value(r) ((uint32_t)((uint64_t)(r) & 0xFFFFFFFFu))
+#define planner_count(r) ((uint32_t)((uint64_t)(r) & 0x7FFFFFFFu))
+#define planner_yes(r) ((uint32_t)((uint64_t)(r) >> 31 & 1u))
 
 enum {
     PLANNER_FINE = 0,
@@ -64,6 +67,7 @@ enum {
 #define PLANNER_PERIODIC 256u
 #define PLANNER_TWISTED(mask) (512u + (uint32_t)(uint8_t)(mask))
 #define PLANNER_NO_VERTEX 4294967295u
+#define PLANNER_NO_CELL 4294967295u
 
 /* The makers write count and gluing of the three axes to axes[6], those past d as 0 and PLANNER_OPEN; the grid's sides are the caller's. They
  * return 0. A refusal leaves axes as it was. */
@@ -97,6 +101,26 @@ uint64_t planner_cell_words(
     uint32_t d, const uint32_t *axes, size_t axes_len, uint32_t *words, size_t words_len, uint32_t *keys, size_t keys_len, uint32_t *rows, size_t rows_len,
     uint32_t *spare, size_t spare_len, uint32_t *counts, size_t counts_len);
 
+/* The grid's cells, d+1 glued vertices each, in colex order without repeats, and an order of them exactly where no two words sort to one cell and all facets agree:
+ * to each cell its word, at the cell's place. planner_count is the number of cells, planner_yes tells whether the order is handed out; d+1 times as many numbers as
+ * cells are needed of cells, and as many of order where it is handed out: else it is neither asked for nor changed. Refused: 1, 9, 8, 3, 6, 12 (working lists), 7,
+ * 12 (cells, order). Working lists, where the words have n numbers as in planner_cell_words: keys (d + 2) * n, rows n, spare n, counts n. */
+uint64_t planner_triangulate_ordered(
+    uint32_t d, const uint32_t *axes, size_t axes_len, uint32_t *cells, size_t cells_len, uint32_t *order, size_t order_len, uint32_t *keys, size_t keys_len,
+    uint32_t *rows, size_t rows_len, uint32_t *spare, size_t spare_len, uint32_t *counts, size_t counts_len);
+
+/* The squared length of each edge, in the colex order of the edges; each is the sum over the axes, axis 0 first, of (step times side/count) squared. Returns how many
+ * edges there are, which is the length needed of lengths. Refused: 1, 10, 9, 8, 3, 6, 12 (working lists), 15, 12 (lengths). Working lists, where the words have n
+ * numbers as in planner_cell_words: keys, rows, spare and counts d * n each. */
+uint64_t planner_edge_lengths_sq(
+    uint32_t d, const uint32_t *axes, size_t axes_len, const double *sides, size_t sides_len, double *lengths, size_t lengths_len, uint32_t *keys, size_t keys_len,
+    uint32_t *rows, size_t rows_len, uint32_t *spare, size_t spare_len, uint32_t *counts, size_t counts_len);
+
+/* The edge between two glued vertices, in either order. Returns how many squared lengths are written to squares: 1 is its squared length, 2 the two that clash first, 0
+ * no such edge (equal or unknown ends too). The rest of squares keeps its values. Refused: 1, 10, 9, 8, 3, 6. */
+uint64_t planner_edge_length_sq(
+    uint32_t d, uint32_t from, uint32_t to, const uint32_t *axes, size_t axes_len, const double *sides, size_t sides_len, double squares[2]);
+
 /* ---- cell lists */
 
 /* The cells, d+1 vertices each, in colex order without repeats. Returns how many; d+1 times as many numbers are needed of cells. Refused: 1, 2, 3, 4, 6,
@@ -111,6 +135,20 @@ uint64_t planner_edges(
     uint32_t d, const uint32_t *words, size_t n, uint32_t *edges, size_t edges_len, uint32_t *keys, size_t keys_len, uint32_t *rows, size_t rows_len,
     uint32_t *spare, size_t spare_len, uint32_t *counts, size_t counts_len);
 
+/* The facets, d vertices each, in colex order without repeats, and in table four numbers for each facet: its lower cell, the position dropped there, its other cell,
+ * the position dropped there; the last two are PLANNER_NO_CELL where the facet lies in one cell. A cell is its place in planner_cells' list. Returns how many facets
+ * there are; d times as many numbers are needed of facets, 4 times as many of table. In dimension 0 there are none. Refused: 1, 2, 3, 4, 6, 5, 12 (working lists), 7,
+ * 12 (facets, table). Working lists: keys max(1, d) * n, rows n, spare n, counts n. */
+uint64_t planner_facets(
+    uint32_t d, const uint32_t *words, size_t n, uint32_t *facets, size_t facets_len, uint32_t *table, size_t table_len, uint32_t *keys, size_t keys_len,
+    uint32_t *rows, size_t rows_len, uint32_t *spare, size_t spare_len, uint32_t *counts, size_t counts_len);
+
+/* The facets that lie in one cell, d vertices each, in colex order. Returns how many; d times as many numbers are needed of border. Refused: 1, 2, 3, 4, 6, 5, 12
+ * (working lists), 7, 12 (border). Working lists: keys max(1, d) * n, rows n, spare n, counts n. */
+uint64_t planner_border(
+    uint32_t d, const uint32_t *words, size_t n, uint32_t *border, size_t border_len, uint32_t *keys, size_t keys_len, uint32_t *rows, size_t rows_len,
+    uint32_t *spare, size_t spare_len, uint32_t *counts, size_t counts_len);
+
 /* One sign a cell, in the colex order of the cells: +1 or -1, coherent, +1 at the lowest cell of each facet-connected piece. Returns how many
  * cells there are, which is the length needed of signs. Refused: 1, 2, 3, 4, 6, 5, 12 (working lists), 7, 13, 12 (signs).
  * Working lists: keys max(1, d) * n, rows n, spare n, counts n. */
@@ -122,6 +160,21 @@ uint64_t planner_orientation(
  * +1 or -1 for each cell). Working lists: keys max(1, d) * n, rows n, spare n, counts n. */
 uint64_t planner_orient_by(
     uint32_t d, const uint32_t *words, size_t n, const int32_t *signs, size_t signs_len, uint32_t *keys, size_t keys_len, uint32_t *rows, size_t rows_len,
+    uint32_t *spare, size_t spare_len, uint32_t *counts, size_t counts_len);
+
+/* ---- orders: one word for each cell, d+1 vertex numbers each, in any order */
+
+/* The order's words by cell: to each cell its word, at the cell's place. planner_count is the number of cells, planner_yes tells whether on every facet of two cells both
+ * words list the facet's vertices in one sequence; d+1 times as many numbers as cells are needed of listed. Refused: 1, 2, 3, 4, 6, 5, 12 (working lists), 7, 16, 12
+ * (listed). Working lists: keys (max(1, d) + 2) * n, rows n, spare n, counts n. */
+uint64_t planner_ordering(
+    uint32_t d, const uint32_t *words, size_t n, const uint32_t *order, size_t order_len, uint32_t *listed, size_t listed_len, uint32_t *keys, size_t keys_len,
+    uint32_t *rows, size_t rows_len, uint32_t *spare, size_t spare_len, uint32_t *counts, size_t counts_len);
+
+/* 1 exactly if the signs of the order's words are coherent, else 0; a word's sign is + when an even number of swaps sorts it. In dimension 0 always 0. Refused: 1, 2, 3,
+ * 4, 6, 5, 12 (working lists), 7, 16. Working lists: keys (max(1, d) + 2) * n, rows n, spare n, counts n. */
+uint64_t planner_induced_orientation(
+    uint32_t d, const uint32_t *words, size_t n, const uint32_t *order, size_t order_len, uint32_t *keys, size_t keys_len, uint32_t *rows, size_t rows_len,
     uint32_t *spare, size_t spare_len, uint32_t *counts, size_t counts_len);
 
 #ifdef __cplusplus

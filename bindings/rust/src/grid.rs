@@ -1,6 +1,6 @@
 //! Grids with glued axes.
 use crate::answer::said;
-use crate::complex::listed;
+use crate::complex::{listed, with_order, with_room, with_yes};
 use crate::{raw, Refusal};
 
 /// A point of the grid before gluing.
@@ -57,6 +57,26 @@ pub struct Grid {
     pub axes: Vec<Axis>,
     /// The length of each axis.
     pub sides: Vec<f64>,
+}
+
+/// The cells of a grid, and an order of them where there is one.
+#[derive(Clone, Debug, PartialEq, Eq)]
+pub struct Triangulated {
+    /// d+1 vertices for each cell, the cells in colex order.
+    pub cells: Vec<u32>,
+    /// To each cell its word, at the cell's place.
+    pub order: Option<Vec<u32>>,
+}
+
+/// What is known of one edge.
+#[derive(Clone, Copy, Debug, PartialEq)]
+pub enum EdgeLength {
+    /// Its squared length.
+    Length(f64),
+    /// The two squared lengths that clash first.
+    Clash(f64, f64),
+    /// There is no such edge.
+    NoEdge,
 }
 
 impl Grid {
@@ -148,11 +168,79 @@ impl Grid {
     /// ```
     pub fn cell_words(&self) -> Result<Vec<u32>, Refusal> {
         let (d, axes) = self.codes();
-        let boxes = self.axes.iter().fold(1u64, |n, a| n.saturating_mul(u64::from(a.cells)));
-        let each = [1, 1, 2, 6].get(d as usize).copied().unwrap_or(0);
-        let words = boxes.saturating_mul(each);
-        // more words than the limit are refused before the working lists are tested
-        let n = if words <= 4096 { words as usize * (d as usize + 1) } else { 0 };
+        let n = self.corners();
         listed(raw::planner_cell_words, d, &axes, n, d as usize + 1, [d as usize * n, n, n, n])
+    }
+
+    /// How many numbers the words have; 0 where there are more words than the limit, which is refused before the working lists are tested.
+    fn corners(&self) -> usize {
+        let boxes = self.axes.iter().fold(1u64, |n, a| n.saturating_mul(u64::from(a.cells)));
+        let each = [0, 1, 2, 6].get(self.axes.len()).copied().unwrap_or(0);
+        let words = boxes.saturating_mul(each);
+        if words <= 4096 {
+            words as usize * (self.axes.len() + 1)
+        } else {
+            0
+        }
+    }
+
+    /// The cells in colex order, and an order of them exactly where no two words sort to one cell and all facets agree.
+    ///
+    /// ```
+    /// use planner::{Axis, Gluing, Grid};
+    /// let band = |gluing| Grid { axes: vec![Axis { cells: 3, gluing }, Axis { cells: 1, gluing: Gluing::Open }], sides: vec![3.0, 1.0] };
+    /// let ring = band(Gluing::Periodic).triangulate_ordered().unwrap();
+    /// assert_eq!(ring.cells, [0, 2, 3, 0, 1, 4, 0, 3, 4, 1, 2, 5, 2, 3, 5, 1, 4, 5]);
+    /// assert_eq!(ring.order.unwrap(), [2, 0, 3, 0, 1, 4, 0, 3, 4, 1, 2, 5, 2, 5, 3, 1, 4, 5]);
+    /// assert!(band(Gluing::Twisted(0b10)).triangulate_ordered().unwrap().order.is_none());
+    /// ```
+    pub fn triangulate_ordered(&self) -> Result<Triangulated, Refusal> {
+        let (d, axes) = self.codes();
+        let n = self.corners();
+        let (mut cells, mut order) = (vec![0; n], vec![0; n]);
+        let call = raw::planner_triangulate_ordered;
+        let said = with_room!(call, with_order(d, n), d, axes.as_ptr(), axes.len(), cells.as_mut_ptr(), cells.len(), order.as_mut_ptr(), order.len())?;
+        let (count, ordered) = with_yes(said);
+        cells.truncate(count * (d as usize + 1));
+        order.truncate(cells.len());
+        Ok(Triangulated { cells, order: ordered.then_some(order) })
+    }
+
+    /// The squared length of each edge, in the colex order of the edges. Refused with 15 where an edge gets two lengths.
+    ///
+    /// ```
+    /// use planner::{Axis, Gluing, Grid};
+    /// let ring = Grid { axes: vec![Axis { cells: 3, gluing: Gluing::Periodic }], sides: vec![6.0] };
+    /// assert_eq!(ring.edge_lengths_sq().unwrap(), [4.0, 4.0, 4.0]);
+    /// ```
+    pub fn edge_lengths_sq(&self) -> Result<Vec<f64>, Refusal> {
+        let (d, axes) = self.codes();
+        let ends = self.corners() * d as usize;
+        let mut lengths = vec![0.0; ends / 2];
+        let call = raw::planner_edge_lengths_sq;
+        let sides = &self.sides;
+        let count = with_room!(call, [ends; 4], d, axes.as_ptr(), axes.len(), sides.as_ptr(), sides.len(), lengths.as_mut_ptr(), lengths.len())?;
+        lengths.truncate(count as usize);
+        Ok(lengths)
+    }
+
+    /// The squared length of the edge between two vertices, in either order.
+    ///
+    /// ```
+    /// use planner::{Axis, EdgeLength, GluedVertex, Gluing, Grid};
+    /// let ring = Grid { axes: vec![Axis { cells: 3, gluing: Gluing::Periodic }], sides: vec![6.0] };
+    /// assert_eq!(ring.edge_length_sq(GluedVertex(2), GluedVertex(0)), Ok(EdgeLength::Length(4.0)));
+    /// assert_eq!(ring.edge_length_sq(GluedVertex(1), GluedVertex(1)), Ok(EdgeLength::NoEdge));
+    /// ```
+    pub fn edge_length_sq(&self, from: GluedVertex, to: GluedVertex) -> Result<EdgeLength, Refusal> {
+        let (d, axes) = self.codes();
+        let mut squares = [0.0; 2];
+        let (s, out) = (&self.sides, squares.as_mut_ptr());
+        let said = said(unsafe { raw::planner_edge_length_sq(d, from.0, to.0, axes.as_ptr(), axes.len(), s.as_ptr(), s.len(), out) })?;
+        Ok(match said {
+            0 => EdgeLength::NoEdge,
+            1 => EdgeLength::Length(squares[0]),
+            _ => EdgeLength::Clash(squares[0], squares[1]),
+        })
     }
 }

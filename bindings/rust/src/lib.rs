@@ -24,5 +24,5 @@ mod grid;
 mod raw;
 
 pub use answer::Refusal;
-pub use complex::{cells, edges, orient_by, orientation};
-pub use grid::{Axis, Gluing, GluedVertex, Grid, GridVertex};
+pub use complex::{border, cells, edges, facets, induced_orientation, ordering, orient_by, orientation, Facet, Ordered, Side};
+pub use grid::{Axis, EdgeLength, Gluing, GluedVertex, Grid, GridVertex, Triangulated};

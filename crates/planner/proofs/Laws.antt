@@ -1,101 +1,21 @@
--- Coded answers and grids from their parts. Assumes nothing.
-use mathlib.Core.Path.{_≡_, refl, sym, ap, subst, _∙_}
-use Prim.Native.Nat.{ℕ, zero, suc, _<_, _≤_, _%_}
-use native.Mathlib.Nat.{not-suc-le-zero, le-of-suc-le-suc}
-use mathlib.Core.Bool.{Bool, true, false, cond}
-use mathlib.Core.List.{List, [], _∷_}
-use lib.Dec.{ltb}
-use lib.ListN.{length, getD, List·getD-eq-default}
-use borrow.Author.Tests.{lt-ltb, le-ltb}
-use lib.IntN.{pos}
-use lib.Ieee.{Float, fin}
-use Rattle.sides.specs.declared.Sides.{Sides}
-use Rattle.quotient.specs.declared.Glue.{Glue}
-use Rattle.quotient.specs.declared.Glue.the-variants.{Open, Periodic, Twisted}
-use Rattle.quotient.specs.declared.Axis.{Axis}
+-- Answers of the calls on the grid that is given. Assumes nothing.
+use mathlib.Core.Path.{_≡_, ap, subst, _∙_}
+use Prim.Native.Nat.{ℕ}
+use mathlib.Core.List.{List}
+use lib.Ieee.{Float}
 use Rattle.quotient.specs.declared.Grid.{Grid}
 use Rattle.quotient.specs.declared.Made.{Made}
-use Rattle.quotient.specs.declared.Made.the-variants.{Taken, Refused}
 use Rattle.refusal.specs.declared.Counted.{Counted}
 use Rattle.gridmesh.specs.Words.{CellWords}
-use Rattle.planner.specs.Said.{Said, countedCode, refusedCode, madeCode, madeAxes}
-use Rattle.planner.specs.Given.{glueOf, axisGiven, sidesGiven, gridGiven, entry, sideGiven, gluesGiven, glueCode, axesOf}
+use Rattle.gridorder.specs.declared.Triangulated.{Triangulated}
+use Rattle.gridorder.specs.Promise.{TriangulateOrdered}
+use Rattle.gridlengths.specs.declared.EdgeLength.{EdgeLength}
+use Rattle.gridlengths.specs.Lengths.{EdgeLengths}
+use Rattle.passing.specs.Said.{Said, countedCode, madeCode, madeAxes, triangulatedCode, lengthCode, lengthSquares}
 
 -- an answer that is the call's, on a value that is the one given
 pub called : {A B : Type 0} (code : B → ℕ) (f : A → B) {r : ℕ} {b : B} {a given : A} → r ≡ code b → b ≡ f a → a ≡ given → r ≡ code (f given)
 called code f e h k = e ∙ ap code (h ∙ ap f k)
-
--- a list's element does not turn on what stands past its end
-pub within : {A : Type 0} (xs : List A) (i : ℕ) (a b : A) → i < length xs → getD xs i a ≡ getD xs i b
-within [] i a b h = absurd (not-suc-le-zero h)
-within (x ∷ xs) zero a b h = refl
-within (x ∷ xs) (suc i) a b h = within xs i a b (le-of-suc-le-suc h)
-
-pub entry-there : (xs : List ℕ) (i : ℕ) → i < length xs → getD xs i 0 ≡ entry xs i
-unfolding entry
-entry-there xs i h = refl
-
-pub entry-past : (xs : List ℕ) (i : ℕ) → length xs ≤ i → 0 ≡ entry xs i
-unfolding entry
-entry-past xs i h = sym (List·getD-eq-default xs 0 h)
-
-pub side-there : (xs : List Float) (i : ℕ) (a : Float) → i < length xs → getD xs i a ≡ sideGiven xs i
-unfolding sideGiven
-side-there xs i a h = within xs i a (fin false 0 (pos 0)) h
-
-pub side-past : (xs : List Float) (i : ℕ) → length xs ≤ i → fin false 0 (pos 0) ≡ sideGiven xs i
-unfolding sideGiven
-side-past xs i h = sym (List·getD-eq-default xs (fin false 0 (pos 0)) h)
-
-pub glue-open : (code : ℕ) → code < 256 → Open ≡ glueOf code
-unfolding glueOf
-glue-open code h = sym (ap (λ (t : Bool). cond t Open (cond (ltb code 512) Periodic (Twisted (code % 256)))) (lt-ltb code 256 h))
-
-pub glue-closed : (code : ℕ) → 256 ≤ code → cond (ltb code 512) Periodic (Twisted (code % 256)) ≡ glueOf code
-unfolding glueOf
-glue-closed code h = sym (ap (λ (t : Bool). cond t Open (cond (ltb code 512) Periodic (Twisted (code % 256)))) (le-ltb code 256 h))
-
-pub glue-periodic : (code : ℕ) → 256 ≤ code → code < 512 → Periodic ≡ glueOf code
-glue-periodic code h k = sym (ap (λ (t : Bool). cond t Periodic (Twisted (code % 256))) (lt-ltb code 512 k)) ∙ glue-closed code h
-
-pub glue-twisted : (code : ℕ) → 256 ≤ code → 512 ≤ code → Twisted (code % 256) ≡ glueOf code
-glue-twisted code h k = sym (ap (λ (t : Bool). cond t Periodic (Twisted (code % 256))) (le-ltb code 512 k)) ∙ glue-closed code h
-
-pub axis-made : (xs : List ℕ) (i k : ℕ) {n m : ℕ} {g : Glue} → n ≡ entry xs i → m ≡ entry xs k → g ≡ glueOf m → record { count = n; glue = g } ≡ axisGiven xs i k
-unfolding axisGiven
-axis-made xs i k e f h = rw (e, h, f)
-
-pub sides-made : (xs : List Float) {a b c : Float} → a ≡ sideGiven xs 0 → b ≡ sideGiven xs 1 → c ≡ sideGiven xs 2 → record { first = a; second = b; third = c } ≡ sidesGiven xs
-unfolding sidesGiven
-sides-made xs e f h = rw (e, f, h)
-
-pub grid-made : (d : ℕ) (axes : List ℕ) (lengths : List Float) {a b c : Axis} {s : Sides} → a ≡ axisGiven axes 0 1 → b ≡ axisGiven axes 2 3 → c ≡ axisGiven axes 4 5
-    → s ≡ sidesGiven lengths → record { d = d; first = a; second = b; third = c; sides = s } ≡ gridGiven d axes lengths
-unfolding gridGiven
-grid-made d axes lengths e f h k = rw (e, f, h, k)
-
--- the sides of an empty list
-pub no-sides : record { first = fin false 0 (pos 0); second = fin false 0 (pos 0); third = fin false 0 (pos 0) } ≡ sidesGiven []
-unfolding sidesGiven sideGiven
-no-sides = refl
-
-pub glues-made : (xs : List ℕ) {k m n : ℕ} {a b c : Glue} → k ≡ entry xs 0 → m ≡ entry xs 1 → n ≡ entry xs 2 → a ≡ glueOf k → b ≡ glueOf m → c ≡ glueOf n
-    → record { first = a; second = b; third = c } ≡ gluesGiven xs
-unfolding gluesGiven
-glues-made xs e f h p q r = rw (p, q, r, e, f, h)
-
-pub axes-made : (g : Grid) {a b c : ℕ} → a ≡ glueCode (g .first .glue) → b ≡ glueCode (g .second .glue) → c ≡ glueCode (g .third .glue)
-    → g .first .count ∷ a ∷ g .second .count ∷ b ∷ g .third .count ∷ c ∷ [] ≡ axesOf g
-unfolding axesOf
-axes-made g e f h = rw (e, f, h)
-
-pub made-refused : (s : Made) {n p r : ℕ} (axes : List ℕ) → s ≡ Refused n p → r ≡ refusedCode n p → (r ≡ madeCode s) × (axes ≡ madeAxes s axes)
-unfolding madeCode madeAxes
-made-refused s axes e h = (h ∙ sym (ap madeCode e), sym (ap (λ (x : Made). madeAxes x axes) e))
-
-pub made-taken : (s : Made) {g : Grid} (axes : List ℕ) {after : List ℕ} → s ≡ Taken g → after ≡ axesOf g → (0 ≡ madeCode s) × (after ≡ madeAxes s axes)
-unfolding madeCode madeAxes
-made-taken s axes e h = (sym (ap madeCode e), h ∙ sym (ap (λ (x : Made). madeAxes x axes) e))
 
 -- a maker's answer and axes, where its answer is that of the one that is asked for
 pub made-as : (s asked : Made) {r : ℕ} (axes : List ℕ) {after : List ℕ} → (r ≡ madeCode s) × (after ≡ madeAxes s axes) → s ≡ asked → (r ≡ madeCode asked) × (after ≡ madeAxes asked axes)
@@ -107,3 +27,22 @@ pub words-said : {g given : Grid} {r : ℕ} {a : Counted} {words words′ keys k
     → Said countedCode (λ (x : Counted). CellWords given x words words′ keys keys′ rows rows′ spare spare′ counts counts′) r
 words-said {a} {words} {words′} {keys} {keys′} {rows} {rows′} {spare} {spare′} {counts} {counts′} e h k =
     record { answer = a; coded = e; meets = subst (λ (x : Grid). CellWords x a words words′ keys keys′ rows rows′ spare spare′ counts counts′) k h }
+
+-- a grid's cells and their order, where the grid is the one given
+pub triangulated-said : {g given : Grid} {r : ℕ} {a : Triangulated} {cells cells′ order order′ keys keys′ rows rows′ spare spare′ counts counts′ : List ℕ}
+    → r ≡ triangulatedCode a → TriangulateOrdered g a cells cells′ order order′ keys keys′ rows rows′ spare spare′ counts counts′ → g ≡ given
+    → Said triangulatedCode (λ (x : Triangulated). TriangulateOrdered given x cells cells′ order order′ keys keys′ rows rows′ spare spare′ counts counts′) r
+triangulated-said {a} {cells} {cells′} {order} {order′} {keys} {keys′} {rows} {rows′} {spare} {spare′} {counts} {counts′} e h k =
+    record { answer = a; coded = e; meets = subst (λ (x : Grid). TriangulateOrdered x a cells cells′ order order′ keys keys′ rows rows′ spare spare′ counts counts′) k h }
+
+-- a grid's lengths, where the grid is the one given
+pub lengths-said : {g given : Grid} {r : ℕ} {a : Counted} {out out′ : List Float} {keys keys′ rows rows′ spare spare′ counts counts′ : List ℕ}
+    → r ≡ countedCode a → EdgeLengths g a out out′ keys keys′ rows rows′ spare spare′ counts counts′ → g ≡ given
+    → Said countedCode (λ (x : Counted). EdgeLengths given x out out′ keys keys′ rows rows′ spare spare′ counts counts′) r
+lengths-said {a} {out} {out′} {keys} {keys′} {rows} {rows′} {spare} {spare′} {counts} {counts′} e h k =
+    record { answer = a; coded = e; meets = subst (λ (x : Grid). EdgeLengths x a out out′ keys keys′ rows rows′ spare spare′ counts counts′) k h }
+
+-- an edge's answer and squares, where its answer is that of the one that is asked for
+pub length-as : (s asked : EdgeLength) {r : ℕ} (squares : List Float) {after : List Float} → (r ≡ lengthCode s) × (after ≡ lengthSquares s squares) → s ≡ asked
+    → (r ≡ lengthCode asked) × (after ≡ lengthSquares asked squares)
+length-as s asked squares h k = (h .0 ∙ ap lengthCode k, h .1 ∙ ap (λ (x : EdgeLength). lengthSquares x squares) k)

@@ -1,14 +1,14 @@
 // The calls on cell lists.
-use crate::said;
+use passing::said;
 ghost use lib.ListN.{length};
 ghost use Rattle.complex.specs.Room.{needOf};
 ghost use Rattle.complex.specs.Cells.{cellsOf};
-ghost use Rattle.complex.specs.Skeleton.{edgesOf};
-ghost use Rattle.skeleton.specs.Promise.{Listed};
+ghost use Rattle.complex.specs.Skeleton.{edgesOf, borderOf};
+ghost use Rattle.skeleton.specs.Promise.{Listed, FacetsListed};
 ghost use Rattle.skeleton.specs.Parts.{edgeNeed};
 ghost use Rattle.orientation.specs.Promise.{Orientation};
 ghost use Rattle.oriented.specs.Promise.{OrientBy};
-ghost use Rattle.planner.specs.Said.{Said, countedCode, verdictCode};
+ghost use Rattle.passing.specs.Said.{Said, countedCode, verdictCode};
 
 // The cells, d+1 vertices each, in colex order without repeats: how many. Refused: 1, 2, 3, 4, 6, 5, then 12 where a working list is too short, then 7, 12 where the
 // cell list is too short.
@@ -47,6 +47,45 @@ pub extern "C" fn planner_edges(
         (now (counts .entry)) (now (counts .exit))) r ⌝ }
 {
     said::counted(skeleton::edges(d, words, edges, keys, rows, spare, counts))
+}
+
+// The facets, d vertices each, in colex order without repeats, and in the table four numbers for each: its lower cell, the position dropped there, its other cell and the
+// position dropped there, or 4294967295 twice where it lies in one cell. How many. Refused as `planner_cells` is, 12 also where the table is too short.
+#[no_mangle]
+pub extern "C" fn planner_facets(
+    d: u32,
+    words: &[u32],
+    facets: &mut [u32],
+    table: &mut [u32],
+    keys: &mut [u32],
+    rows: &mut [u32],
+    spare: &mut [u32],
+    counts: &mut [u32],
+) -> u64
+    ensures { λ r.
+        ⌜ Said countedCode (λ a. FacetsListed d (now (words .entry)) a (now (facets .entry)) (now (facets .exit)) (now (table .entry)) (now (table .exit)) (now (keys .entry))
+        (now (keys .exit)) (now (rows .entry)) (now (rows .exit)) (now (spare .entry)) (now (spare .exit)) (now (counts .entry)) (now (counts .exit))) r ⌝ }
+{
+    said::counted(skeleton::facets(d, words, facets, table, keys, rows, spare, counts))
+}
+
+// The facets in one cell, d vertices each, in colex order: how many. Refused as `planner_cells` is.
+#[no_mangle]
+pub extern "C" fn planner_border(
+    d: u32,
+    words: &[u32],
+    border: &mut [u32],
+    keys: &mut [u32],
+    rows: &mut [u32],
+    spare: &mut [u32],
+    counts: &mut [u32],
+) -> u64
+    ensures { λ r.
+        ⌜ Said countedCode (λ a. Listed (needOf d (length (now (words .entry)))) (borderOf d (cellsOf d (now (words .entry)))) d (now (words .entry)) a (now (border .entry))
+        (now (border .exit)) (now (keys .entry)) (now (keys .exit)) (now (rows .entry)) (now (rows .exit)) (now (spare .entry)) (now (spare .exit))
+        (now (counts .entry)) (now (counts .exit))) r ⌝ }
+{
+    said::counted(skeleton::border(d, words, border, keys, rows, spare, counts))
 }
 
 // One sign a cell, +1 or -1, coherent, +1 at the lowest cell of each piece: how many. Refused: 1, 2, 3, 4, 6, 5, then 12 where a working list is too short, then 7,

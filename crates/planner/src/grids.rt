@@ -1,6 +1,6 @@
 // The calls on grids.
-use crate::given;
-use crate::said;
+use passing::given;
+use passing::said;
 use quotient::Grid;
 use quotient::GridVertex;
 ghost use mathlib.Core.Path.{_≡_};
@@ -8,8 +8,9 @@ ghost use Rattle.quotient.specs.Reduce.{reduceOf};
 ghost use Rattle.quotient.specs.Shape.{parityOf, nverticesOf};
 ghost use Rattle.quotient.specs.Makers.{torusOf, kleinOf, quasiOf, bandOf};
 ghost use Rattle.gridmesh.specs.Words.{CellWords};
-ghost use Rattle.planner.specs.Said.{Said, reducedCode, parityCode, countedCode, madeCode, madeAxes};
-ghost use Rattle.planner.specs.Given.{plainGiven, vertexGiven, sidesGiven, gluesGiven};
+ghost use Rattle.gridorder.specs.Promise.{TriangulateOrdered};
+ghost use Rattle.passing.specs.Said.{Said, reducedCode, parityCode, countedCode, madeCode, madeAxes, triangulatedCode};
+ghost use Rattle.passing.specs.Given.{plainGiven, vertexGiven, sidesGiven, gluesGiven};
 
 // The glued number of grid point v, 4294967295 where v is past the last point. Refused: 1, 9, 8, 3, 6.
 #[no_mangle]
@@ -107,4 +108,25 @@ pub extern "C" fn planner_cell_words(
 {
     let g = given::plain(d, axes);
     said::counted(gridmesh::cell_words(g, words, keys, rows, spare, counts))
+}
+
+// The cells of the grid, d+1 vertices each, in colex order, and an order of them where there is one: how many, with 2^31 more where the order is handed out. Refused: 1,
+// 9, 8, 3, 6, then 12 where a working list is too short, then 7, 12 where a result list is too short.
+#[no_mangle]
+pub extern "C" fn planner_triangulate_ordered(
+    d: u32,
+    axes: &[u32],
+    cells: &mut [u32],
+    order: &mut [u32],
+    keys: &mut [u32],
+    rows: &mut [u32],
+    spare: &mut [u32],
+    counts: &mut [u32],
+) -> u64
+    ensures { λ r.
+        ⌜ Said triangulatedCode (λ a. TriangulateOrdered (plainGiven d (now (axes .entry))) a (now (cells .entry)) (now (cells .exit)) (now (order .entry)) (now (order .exit))
+        (now (keys .entry)) (now (keys .exit)) (now (rows .entry)) (now (rows .exit)) (now (spare .entry)) (now (spare .exit)) (now (counts .entry)) (now (counts .exit))) r ⌝ }
+{
+    let g = given::plain(d, axes);
+    said::triangulated(gridorder::triangulate_ordered(g, cells, order, keys, rows, spare, counts))
 }

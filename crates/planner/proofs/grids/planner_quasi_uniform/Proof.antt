@@ -4,7 +4,7 @@ use mathlib.Core.Path.{_≡_, refl, sym, ap, _∙_}
 use Rattle.sides.specs.declared.Sides.{Sides}
 use Rattle.quotient.specs.declared.Glues.{Glues}
 use Rattle.quotient.specs.Makers.{quasiOf}
-use Rattle.planner.specs.Given.{sidesGiven}
+use Rattle.passing.specs.Given.{sidesGiven}
 use Rattle.planner.proofs.Laws.{made-as}
 use Rattle.planner.proofs.grids.planner_quasi_uniform.Statement.{statement}
 use Rattle.planner.proofs.grids.planner_quasi_uniform.Tie as tie
