@@ -3,25 +3,23 @@ use mathlib.Core.Bool.{Bool, true, false, cond, _&&_}
 use mathlib.Core.List.{List, [], _∷_, _++_, append-nil}
 use mathlib.Core.Path.{_≡_, refl, sym, ap, _∙_, subst}
 use Prim.Native.Nat.{ℕ, zero, suc, _+_, _-_, _*_, _<_, _≤_}
-use native.Mathlib.Nat.{add-sub-cancel-left, mul-le-mul-left, mul-le-mul-right}
+use native.Mathlib.Nat.{add-sub-cancel-left, mul-le-mul-left}
 use native.Mathlib.Numerals.{add-one}
 use native.Mathlib.Decide.{decLt}
 use native.Mathlib.Omega.{arith}
 use borrow.Author.Tests.{lt-ltb, le-ltb, lt-leb, le-leb, ltb-true, leb-true}
-use lib.Dec.{ltb, leb}
-use lib.IntN.{ℤ, pos}
+use lib.Dec.{ltb}
+use lib.IntN.{ℤ}
 use lib.Ieee.{Float}
-use lib.ListN.{length, getD, take, drop, set, replicate, length-drop, length-replicate, drop-of-length-le}
+use lib.ListN.{length, getD, take, drop, set, replicate, length-drop, drop-of-length-le}
 use lib.Seq.{length-take-le, take-all}
 use Rattle.refusal.specs.declared.Answer.the-variants.{Fine, Refused}
 use Rattle.refusal.specs.Table.{badDimension, tooShort}
 use Rattle.births.specs.Support.{none}
 use Rattle.jacobian.specs.Entries.{nought}
 use Rattle.child.specs.declared.Child.{Child}
-use Rattle.child.specs.declared.OneChild.{OneChild}
 use Rattle.child.specs.declared.Birth.{Birth}
-use Rattle.child.specs.declared.OneBirth.{OneBirth}
-use Rattle.child.specs.Reading.{part, reaches, hasChild, childAt, noChild, childOf, wordIn, wordOf, four, support, hasBirth, birthAt, noBirth, birthOf}
+use Rattle.child.specs.Reading.{part, reaches, hasChild, noChild, childOf, wordIn, wordOf, four, support, hasBirth, noBirth, birthOf}
 
 -- ---- a copy from the front
 module _ {A : Type 0} where

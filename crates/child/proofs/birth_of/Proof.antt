@@ -1,22 +1,13 @@
 -- `birth_of` meets its contract: the two tests, then the entries. Assumes nothing.
-use mathlib.Core.Bool.{Bool, true, false, _&&_}
-use mathlib.Core.Path.{_≡_, refl, sym, ap, _∙_, subst}
-use mathlib.Core.List.{List, [], _∷_, _++_}
-use Prim.Native.Nat.{ℕ, zero, suc, _+_, _*_, _-_, _≤_, _<_}
+use mathlib.Core.Path.{sym, _∙_}
 use native.Mathlib.Omega.{arith}
 use borrow.Author.Needs.{needs}
 use borrow.Author.Tests.{not-true, not-false}
-use lib.ListN.{length, getD, take, drop}
 use Rattle.child.proofs.Laws.{word-end, birth-dimension, birth-none, vertices-in, weights-in, shares-in, birth-there}
 use Rattle.child.proofs.birth_of.Statement.{statement}
 use Rattle.child.proofs.birth_of.Tie as tie
 use Rattle.child.proofs.birth_of.Reads as reads
 use Rattle.child.proofs.birth_of.Lts as lts
-use Rattle.child.proofs.four_floats.Reads as four-floats-reads
-use Rattle.child.proofs.four_numbers.Reads as four-numbers-reads
-use Rattle.child.proofs.has_birth.Reads as has-birth-reads
-use Rattle.child.proofs.no_birth.Reads as no-birth-reads
-use Rattle.child.proofs.vertices_in.Reads as vertices-in-reads
 
 no-birth-requires : tie.Need-no-birth-requires
 no-birth-requires c κs = search needs

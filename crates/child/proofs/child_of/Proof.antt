@@ -1,21 +1,12 @@
 -- `child_of` meets its contract: the test, then the entries. Assumes nothing.
-use mathlib.Core.Bool.{Bool, true, false, _&&_}
-use mathlib.Core.Path.{_≡_, refl, sym, ap, _∙_, subst}
-use mathlib.Core.List.{List, [], _∷_, _++_}
-use Prim.Native.Nat.{ℕ, zero, suc, _+_, _*_, _-_, _≤_, _<_}
-use native.Mathlib.Omega.{arith}
+use mathlib.Core.Path.{sym, _∙_}
 use borrow.Author.Needs.{needs}
 use borrow.Author.Tests.{not-true, not-false}
-use lib.ListN.{length, getD, take, drop}
 use Rattle.child.proofs.Laws.{child-none, parent-in, jacobian-in, whole-in, child-there}
 use Rattle.child.proofs.child_of.Statement.{statement}
 use Rattle.child.proofs.child_of.Tie as tie
 use Rattle.child.proofs.child_of.Reads as reads
 use Rattle.child.proofs.child_of.Lts as lts
-use Rattle.child.proofs.has_child.Reads as has-child-reads
-use Rattle.child.proofs.nine_floats.Reads as nine-floats-reads
-use Rattle.child.proofs.nine_wholes.Reads as nine-wholes-reads
-use Rattle.child.proofs.no_child.Reads as no-child-reads
 
 has-child-requires : tie.Need-has-child-requires
 has-child-requires c κs = search needs

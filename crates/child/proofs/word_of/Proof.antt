@@ -1,22 +1,10 @@
 -- `word_of` meets its contract: the part of the list that counts. Assumes nothing.
-use mathlib.Core.Bool.{Bool, true, false, _&&_}
-use mathlib.Core.Path.{_≡_, refl, sym, ap, _∙_, subst}
-use mathlib.Core.List.{List, [], _∷_, _++_}
-use Prim.Native.Nat.{ℕ, zero, suc, _+_, _*_, _-_, _≤_, _<_}
-use native.Mathlib.Omega.{arith}
 use borrow.Author.Needs.{needs}
-use borrow.Author.Tests.{lt-ltb, le-ltb, le-leb, lt-leb, not-true, not-false, eq-eqb, ne-eqb}
-use lib.Dec.{ltb, leb, eqb}
-use lib.IntN.{ℤ, pos}
-use lib.Ieee.{Float, ofBits, nan}
-use lib.ListN.{length, getD, take, drop, set, replicate, length-set, length-replicate}
-use lib.Seq.{length-take-le}
 use Rattle.child.proofs.Laws.{word-order, word-cell}
 use Rattle.child.proofs.word_of.Statement.{statement}
 use Rattle.child.proofs.word_of.Tie as tie
 use Rattle.child.proofs.word_of.Reads as reads
 use Rattle.child.proofs.word_of.Lts as lts
-use Rattle.child.proofs.word_in.Reads as word-in-reads
 
 word-in-requires : tie.Need-word-in-requires
 word-in-requires c κs = search needs
