@@ -2,16 +2,14 @@
 use mathlib.Core.Bool.{Bool, true, false}
 use mathlib.Core.List.{List, [], _∷_, _++_}
 use mathlib.Core.Path.{_≡_, refl, sym, ap, _∙_, subst}
-use Prim.Native.Nat.{ℕ, zero, suc, _+_, _*_, _/_, _%_, _<_, _≤_}
-use native.Mathlib.Nat.{suc-mul, mul-suc, mul-zero, mul-comm, mul-le-mul-left, mul-le-mul-right, div-add-mod', mod-lt, div-lt-iff-lt-mul}
-use native.Mathlib.Numerals.{add-one}
+use Prim.Native.Nat.{ℕ, suc, _+_, _*_, _/_, _%_, _<_, _≤_}
+use native.Mathlib.Nat.{suc-mul, mul-zero, mul-comm, div-add-mod', mod-lt, div-lt-iff-lt-mul}
 use native.Mathlib.Omega.{arith}
 use lib.Dec.{ltb}
 use borrow.Author.Tests.{le-ltb}
 use lib.ListN.{length, getD, take, drop, length-append}
-use lib.Seq.{length-take-le, take-at, drop-at, take-all}
+use lib.Seq.{take-at, drop-at, take-all}
 use Rattle.lists.specs.Rows.{cut, rows}
-use Rattle.lists.specs.Words.{largestOf}
 use Rattle.lists.proofs.Rows.{cut-length, cut-at}
 use Rattle.lists.proofs.Words.{below-largest, word-within}
 use Rattle.lists.proofs.Members.{All, All-of, All-at}
@@ -21,7 +19,7 @@ use Rattle.multiindex.specs.Sort.{insertBy, insert, sortWord}
 use Rattle.multiindex.proofs.SortLaws.{AtLeast, Sorted, sort-sorted, sort-length}
 use Rattle.complex.specs.Check.{Passed}
 use Rattle.complex.specs.Cells.{cellsOf}
-use Rattle.complex.specs.Facets.{cellAt, Cells}
+use Rattle.complex.specs.Facets.{cellAt}
 use Rattle.cells.specs.Made.{Made}
 use Rattle.cells.proofs.Words.{Word, In, in-at, at-in}
 use Rattle.cells.proofs.Order.{order-from}
@@ -30,9 +28,9 @@ use Rattle.cells.proofs.Making.{whole-words}
 use Rattle.lattice.specs.Complex.{times, same}
 use Rattle.lattice.proofs.Enumerate.{once-of-apart}
 use Rattle.ordering.specs.Order.{wordOf, byCell, IsOrder, flat}
-use Rattle.ordering.proofs.Lists.{flat-cut, cut-front, front-at, sort-back}
+use Rattle.ordering.proofs.Lists.{cut-front, sort-back}
 use Rattle.ordering.proofs.Orders.{by-cell-at, by-cell-length}
-use Rattle.refined.specs.Refined.{coarse, orderWords}
+use Rattle.refined.specs.Refined.{coarse}
 use Rattle.refined.specs.Flat.{Along}
 
 -- ---- a word and the word sorted

@@ -1,20 +1,13 @@
 -- `coarse::list` meets its contract: each call asks what the calls before it gave (proofs/Reading). Assumes nothing.
-use mathlib.Core.Path.{_≡_, refl, sym, ap, _∙_, subst}
-use mathlib.Core.List.{List, [], _∷_, _++_}
-use Prim.Native.Nat.{ℕ, zero, suc, _+_, _*_, _-_, _/_, _%_, _≤_, _<_}
-use native.Mathlib.Omega.{arith}
+use mathlib.Core.Path.{sym, _∙_}
 use borrow.Author.Needs.{needs}
 use borrow.Author.Tests.{not-true, not-false}
-use lib.ListN.{length, getD, take, drop, set, replicate, length-set}
 use lib.Seq.{length-take-le}
 use Rattle.refine.proofs.Reading.{size-in-rows, size-in-cells, meeting, list-crowded, list-cells}
 use Rattle.refine.proofs.coarse.list.Statement.{statement}
 use Rattle.refine.proofs.coarse.list.Tie as tie
 use Rattle.refine.proofs.coarse.list.Reads as reads
 use Rattle.refine.proofs.coarse.list.Lts as lts
-use Rattle.cells.proofs.cells.Reads as cells-reads
-use Rattle.facets.proofs.mates.Reads as mates-reads
-use Rattle.lists.proofs.copy.Reads as copy-reads
 
 cells-requires : tie.Need-cells-requires
 cells-requires c κs = search needs

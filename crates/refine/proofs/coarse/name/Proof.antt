@@ -1,20 +1,13 @@
 -- `coarse::name` meets its contract: the order's words, or the cells copied (proofs/Reading). Assumes nothing.
-use mathlib.Core.Bool.{true, false}
-use mathlib.Core.Path.{_≡_, refl, sym, ap, _∙_, subst}
-use mathlib.Core.List.{List, [], _∷_, _++_}
-use Prim.Native.Nat.{ℕ, zero, suc, _+_, _*_, _-_, _/_, _%_, _≤_, _<_}
-use native.Mathlib.Omega.{arith}
+use mathlib.Core.Bool.{true}
+use mathlib.Core.Path.{sym, _∙_}
 use borrow.Author.Needs.{needs}
-use borrow.Author.Tests.{not-true, not-false}
-use lib.ListN.{length, getD, take, drop, set, replicate, length-set}
 use lib.Seq.{length-take-le}
-use Rattle.refine.proofs.Reading.{words-few, fits-cells, fits-along, named-plain, by-order, by-cells}
+use Rattle.refine.proofs.Reading.{fits-cells, fits-along, named-plain, by-order, by-cells}
 use Rattle.refine.proofs.coarse.name.Statement.{statement}
 use Rattle.refine.proofs.coarse.name.Tie as tie
 use Rattle.refine.proofs.coarse.name.Reads as reads
 use Rattle.refine.proofs.coarse.name.Lts as lts
-use Rattle.refine.proofs.coarse.ordered.Reads as ordered-reads
-use Rattle.lists.proofs.copy.Reads as copy-reads
 
 ordered-requires : tie.Need-ordered-requires
 ordered-requires c κs = c .before .before .before .before .before .before .before .before .before .before .before .before .before .pre

@@ -1,19 +1,13 @@
 -- `coarse::ordered` meets its contract: what is arranged is copied (proofs/Reading). Assumes nothing.
-use mathlib.Core.Path.{_≡_, refl, sym, ap, _∙_, subst}
-use mathlib.Core.List.{List, [], _∷_, _++_}
-use Prim.Native.Nat.{ℕ, zero, suc, _+_, _*_, _-_, _/_, _%_, _≤_, _<_}
-use native.Mathlib.Omega.{arith}
+use mathlib.Core.Path.{sym, _∙_}
 use borrow.Author.Needs.{needs}
 use borrow.Author.Tests.{not-true, not-false}
-use lib.ListN.{length, getD, take, drop, set, replicate, length-set}
 use lib.Seq.{length-take-le}
-use Rattle.refine.proofs.Reading.{words-few, fits-along, arranging, fits-keys, named-none, named-order}
+use Rattle.refine.proofs.Reading.{fits-along, arranging, fits-keys, named-none, named-order}
 use Rattle.refine.proofs.coarse.ordered.Statement.{statement}
 use Rattle.refine.proofs.coarse.ordered.Tie as tie
 use Rattle.refine.proofs.coarse.ordered.Reads as reads
 use Rattle.refine.proofs.coarse.ordered.Lts as lts
-use Rattle.ordering.proofs.arranged.arrange.Reads as arrange-reads
-use Rattle.lists.proofs.copy.Reads as copy-reads
 
 arrange-requires : tie.Need-arrange-requires
 arrange-requires c κs = arranging (c .before .before .before .before .before .before .before .before .before .before .before .args .d) (c .before .before .before .before .before .before .before .before .before .before .before .args .m) (c .before .before .before .before .before .before .before .before .before .before .before .args .given .now) (c .before .before .before .before .before .before .before .before .before .before .before .args .cells .now) (c .before .before .before .before .before .before .before .before .before .before .before .args .along .now) (c .before .before .before .before .before .before .before .before .before .before .before .args .keys .now) (c .before .before .before .before .before .before .before .before .before .before .before .args .spare .now) (c .before .before .before .before .before .before .before .before .before .before .before .args .counts .now) (c .before .before .before .before .before .before .before .before .before .before .before .pre)

@@ -1,20 +1,11 @@
 -- `coarse::read` meets its contract: the cells are listed, then their words (proofs/Reading). Assumes nothing.
-use mathlib.Core.Path.{_≡_, refl, sym, ap, _∙_, subst}
-use mathlib.Core.List.{List, [], _∷_, _++_}
-use Prim.Native.Nat.{ℕ, zero, suc, _+_, _*_, _-_, _/_, _%_, _≤_, _<_}
-use native.Mathlib.Omega.{arith}
 use borrow.Author.Needs.{needs}
 use borrow.Author.Tests.{not-true, not-false}
-use lib.ListN.{length, getD, take, drop, set, replicate, length-set}
-use lib.Seq.{length-take-le}
 use Rattle.refine.proofs.Reading.{listing, naming, read-refused, read-unordered, read-words}
 use Rattle.refine.proofs.coarse.read.Statement.{statement}
 use Rattle.refine.proofs.coarse.read.Tie as tie
 use Rattle.refine.proofs.coarse.read.Reads as reads
 use Rattle.refine.proofs.coarse.read.Lts as lts
-use Rattle.refine.proofs.coarse.list.Reads as list-reads
-use Rattle.refine.proofs.coarse.name.Reads as name-reads
-use Rattle.refine.proofs.coarse.wide.Reads as wide-reads
 
 list-requires : tie.Need-list-requires
 list-requires c κs = listing (c .before .before .before .before .before .before .before .before .before .before .before .before .before .args .d) (c .before .before .before .before .before .before .before .before .before .before .before .before .before .args .given .now) (c .before .before .before .before .before .before .before .before .before .before .before .before .before .args .cells .now) (c .before .before .before .before .before .before .before .before .before .before .before .before .before .args .along .now) (c .before .before .before .before .before .before .before .before .before .before .before .before .before .args .keys .now) (c .before .before .before .before .before .before .before .before .before .before .before .before .before .args .rows .now) (c .before .before .before .before .before .before .before .before .before .before .before .before .before .args .spare .now) (c .before .before .before .before .before .before .before .before .before .before .before .before .before .args .counts .now) (c .before .before .before .before .before .before .before .before .before .before .before .before .before .pre)

@@ -1,10 +1,10 @@
 -- `coarse::vertices` meets its contract: what is passed and what is to come have the largest number between them. Assumes nothing.
 use mathlib.Core.Logic.{⊎-elim}
-use mathlib.Core.Path.{_≡_, refl, sym, ap, _∙_}
-use Prim.Native.Nat.{ℕ, suc, _+_, _-_, _≤_, _<_, max}
+use mathlib.Core.Path.{_≡_}
+use Prim.Native.Nat.{_-_, _≤_, max}
 use native.Mathlib.Omega.{arith}
 use borrow.Author.Needs.{needs}
-use lib.ListN.{length, getD, drop, set, length-set}
+use lib.ListN.{length, drop}
 use Rattle.lists.specs.Words.{largestOf}
 use Rattle.lists.proofs.Words.{largest-step, largest-end}
 use Rattle.refine.proofs.coarse.vertices.Statement.{statement}
