@@ -180,8 +180,8 @@ module _ (g : Grid) (fine : checkOf g ≡ Fine) (untangled : Untangled g) (p q :
 -- one corner is the first and the other the last, or the chains agree
 pub agree-or-across : (g : Grid) → checkOf g ≡ Fine → Untangled g → (p q : ℕ → ℕ) → Begins g p → Begins g q → (u w : ℕ → ℕ → ℕ) → Chain (g .d) u → Chain (g .d) w → (i j : ℕ) → MatchedBut g p q u w i j → j ≤ g .d
     → ((l : ℕ) → l ≤ g .d → sum (g .d) (u l) ≡ l) → ((r : ℕ) → r ≤ g .d → sum (g .d) (w r) ≡ r) → (((i ≡ 0) × (j ≡ g .d)) ⊎ ((j ≡ 0) × (i ≡ g .d))) ⊎ AgreeBut g p q u w i j
-agree-or-across g fine un p q hp hq u w cu cw i j m lj su sw =
-    let d1 : 1 ≤ g .d = taken-low g fine in
+agree-or-across g fine untangled p q hp hq u w cu cw i j m lj su sw =
+    let some : 1 ≤ g .d = taken-low g fine in
     elim (ℕ-discrete i 0) [
       | yes a ↦
           elim (ℕ-discrete j (g .d)) [
@@ -189,7 +189,7 @@ agree-or-across g fine un p q hp hq u w cu cw i j m lj su sw =
             | no b ↦
                 let f : i ≡ 0 → j ≡ g .d → ⊥ = λ x y. b y in
                 let l : j ≡ 0 → i ≡ g .d → ⊥ = λ x y. omega arith in
-                inr (agree-but g fine un p q hp hq u w cu cw i j m f l lj su sw (high-box g fine un p q hp hq u w cu cw i j m f l (λ e. omega arith) b))
+                inr (agree-but g fine untangled p q hp hq u w cu cw i j m f l lj su sw (high-box g fine untangled p q hp hq u w cu cw i j m f l (λ e. omega arith) b))
           ]
       | no a ↦
           elim (ℕ-discrete j 0) [
@@ -199,11 +199,11 @@ agree-or-across g fine un p q hp hq u w cu cw i j m lj su sw =
                   | no c ↦
                       let f : i ≡ 0 → j ≡ g .d → ⊥ = λ x y. a x in
                       let l : j ≡ 0 → i ≡ g .d → ⊥ = λ x y. c y in
-                      inr (agree-but g fine un p q hp hq u w cu cw i j m f l lj su sw (high-box g fine un p q hp hq u w cu cw i j m f l c (λ e. omega arith)))
+                      inr (agree-but g fine untangled p q hp hq u w cu cw i j m f l lj su sw (high-box g fine untangled p q hp hq u w cu cw i j m f l c (λ e. omega arith)))
                 ]
             | no b ↦
                 let f : i ≡ 0 → j ≡ g .d → ⊥ = λ x y. a x in
                 let l : j ≡ 0 → i ≡ g .d → ⊥ = λ x y. b x in
-                inr (agree-but g fine un p q hp hq u w cu cw i j m f l lj su sw (low-box g fine un p q hp hq u w cu cw i j m f l a b))
+                inr (agree-but g fine untangled p q hp hq u w cu cw i j m f l lj su sw (low-box g fine untangled p q hp hq u w cu cw i j m f l a b))
           ]
     ]
