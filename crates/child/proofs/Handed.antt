@@ -1,8 +1,8 @@
--- The values by number, read from what a refinement hands out: each child's parent and Jacobian are those of its refined cell, each birth's vertices and weights those of its
--- support, and a number past the last one is refused. Assumes nothing.
+-- The values by number, read from what a refinement and an order hand out: each child's parent and Jacobian are those of its refined cell, each birth's vertices and weights
+-- those of its support, each word is the word of its cell, and a number past the last one is refused. Assumes nothing.
 use mathlib.Core.Bool.{true, false}
 use mathlib.Core.List.{List, [], _∷_, _++_, map}
-use mathlib.Core.Path.{_≡_, refl, ap, _∙_}
+use mathlib.Core.Path.{_≡_, refl, sym, ap, _∙_}
 use Prim.Native.Nat.{ℕ, zero, suc, _+_, _*_, _<_, _≤_}
 use native.Mathlib.Nat.{zero-mul, suc-mul, mul-le-mul-right, le-refl}
 use native.Mathlib.Decide.{decLt}
@@ -11,7 +11,7 @@ use borrow.Author.Tests.{lt-ltb, le-ltb, le-leb, lt-leb, eq-eqb, ne-eqb}
 use lib.Dec.{eqb}
 use lib.IntN.{ℤ}
 use lib.Ieee.{Float}
-use lib.ListN.{length, getD, take, drop, length-map}
+use lib.ListN.{length, getD, take, drop, length-append, length-map}
 use lib.Seq.{take-at, drop-append-add}
 use Rattle.refusal.specs.declared.Answer.the-variants.{Fine, Refused}
 use Rattle.refusal.specs.Table.{tooShort}
@@ -26,9 +26,10 @@ use Rattle.births.specs.Support.{none, supporters, shares, padded}
 use Rattle.births.specs.Promise.{birthWeights}
 use Rattle.births.proofs.Points.{supporters-high, supporters-past}
 use Rattle.jacobian.specs.Entries.{nought, shareOf, wholeOf, floatOf}
+use Rattle.ordering.specs.Order as order
 use Rattle.refined.specs.Refined.{refinedCells, parentOf}
 use Rattle.refined.specs.Results.{resultsOf}
-use Rattle.child.specs.Reading.{part, reaches, childOf, noChild, four, support, birthOf, noBirth}
+use Rattle.child.specs.Reading.{part, reaches, childOf, noChild, four, support, birthOf, noBirth, wordIn}
 
 -- ---- lists of one length, one after the other
 gather-part : {A : Type 0} (f : List ℕ → List A) (s : ℕ) → ((x : List ℕ) → length (f x) ≡ s) → (ls : List (List ℕ)) (k : ℕ) → k < length ls → part s k (gather f ls) ≡ f (getD ls k [])
@@ -174,3 +175,25 @@ support-padded size l low fits =
       | yes h ↦ first-at (λ j. eqb (getD row j 0) none) (length row) (positives l) (omega (arith, long)) some (eq-eqb (getD row (positives l) 0) none (at (positives l) h ∙ supporters-past 0 l (positives l) none (le-refl (positives l))))
       | no h ↦ let e : length row ≡ positives l = omega (arith, long) in first-none (λ j. eqb (getD row j 0) none) (length row) (λ j k. some j (omega (arith, e))) ∙ e
     ]
+
+-- ---- the words
+-- words of one length, one after the other
+words-long : (s : ℕ) (ks : List (List ℕ)) → ((k : ℕ) → k < length ks → length (cellAt ks k) ≡ s) → length (order.flat ks) ≡ length ks * s
+unfolding order.flat
+words-long s [] long = sym (zero-mul s)
+words-long s (w ∷ ks) long = omega (arith, length-append w (order.flat ks), long 0 (omega arith), words-long s ks (λ k h. long (suc k) (omega arith)), suc-mul (length ks) s)
+
+words-part : (s : ℕ) (ks : List (List ℕ)) → ((k : ℕ) → k < length ks → length (cellAt ks k) ≡ s) → (k : ℕ) → k < length ks → part s k (order.flat ks) ≡ cellAt ks k
+unfolding order.flat
+words-part s [] long k h = absurd (omega arith)
+words-part s (w ∷ ks) long zero h = ap (λ (i : ℕ). take s (drop i (w ++ order.flat ks))) (zero-mul s) ∙ take-at w (order.flat ks) s (long 0 (omega arith))
+words-part s (w ∷ ks) long (suc k) h =
+    let e : suc k * s ≡ length w + k * s = omega (arith, suc-mul k s, long 0 (omega arith)) in
+    ap (λ (i : ℕ). take s (drop i (w ++ order.flat ks))) e ∙ ap (take s) (drop-append-add w (order.flat ks) (k * s)) ∙ words-part s ks (λ c q. long (suc c) (omega arith)) k (omega arith)
+
+pub word-handed : (d : ℕ) → d ≤ 3 → (ks : List (List ℕ)) → ((k : ℕ) → k < length ks → length (cellAt ks k) ≡ suc d) → (k : ℕ) → k < length ks → wordIn d k (order.flat ks) ≡ cellAt ks k
+word-handed d s ks long k h =
+    rw (le-leb d 3 s, inside (suc d) k (length ks) (length (order.flat ks)) (words-long (suc d) ks long) h) (words-part (suc d) ks long k h)
+
+pub word-past : (d : ℕ) → d ≤ 3 → (ks : List (List ℕ)) → ((k : ℕ) → k < length ks → length (cellAt ks k) ≡ suc d) → (k : ℕ) → length ks ≤ k → wordIn d k (order.flat ks) ≡ []
+word-past d s ks long k h = rw (le-leb d 3 s, outside (suc d) k (length ks) (length (order.flat ks)) (omega arith) (words-long (suc d) ks long) h)
