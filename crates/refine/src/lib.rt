@@ -11,7 +11,9 @@
 //   sorted   -                -                      -                              the children's words sorted
 //   firsts   -                -                      -                              the first child of each refined cell
 //   buckets  -                -                      -                              buckets
+
 mod coarse;
+mod room;
 
 // Lengths of the ten working lists: what a call needs of them, or what it is lent.
 pub struct Space {

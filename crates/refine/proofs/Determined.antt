@@ -1,0 +1,101 @@
+-- The promise of the refinement calls determines what they say and every list: two calls on equal inputs end alike. Assumes nothing.
+use mathlib.Core.List.{List}
+use mathlib.Core.Path.{_≡_, refl, sym, ap, _∙_}
+use Prim.Native.Nat.{ℕ}
+use native.Mathlib.Omega.{arith}
+use lib.IntN.{ℤ}
+use lib.Ieee.{Float}
+use lib.ListN.{length}
+use Rattle.refusal.specs.Lent.{onto, zeroed}
+use Rattle.refusal.proofs.Chain.{fine-refused, refused-number, refused-place}
+use Rattle.refined.specs.declared.Refinement.{Refinement}
+use Rattle.refined.specs.Results.{Results, Lengths, lengthsOf, Inside, Refines, Finishes, outside, many-cells, many-vertices, short, made, Stored}
+use Rattle.refine.specs.declared.Space.{Space}
+use Rattle.refine.specs.Space.{lent, Emptied}
+use Rattle.refine.specs.Promise.{Ends, crowded, unordered, finished, Comes, refused, cramped, ended, Refining}
+
+inside : (d R n : ℕ) (ks : List (List ℕ)) → Refines d R n ks → Inside R
+inside d R n ks x = record { least = x .least; most = x .most }
+
+module _ (d R n : ℕ) (cs ks : List (List ℕ)) (given : Lengths) where
+  finishes-one : (r r′ : Refinement) (h h′ : Results) → Finishes d R n cs ks given r h → Finishes d R n cs ks given r′ h′ → (r ≡ r′) × (h ≡ h′)
+  finishes-one r r′ h h′ (outside f) (outside f′) = (refl, refl)
+  finishes-one r r′ h h′ (outside f) (many-cells i′ l′) = absurd (f i′)
+  finishes-one r r′ h h′ (outside f) (many-vertices i′ c′ v′) = absurd (f i′)
+  finishes-one r r′ h h′ (outside f) (short x′ g′) = absurd (f (inside d R n ks x′))
+  finishes-one r r′ h h′ (outside f) (made x′ g′) = absurd (f (inside d R n ks x′))
+  finishes-one r r′ h h′ (many-cells i l) (outside f′) = absurd (f′ i)
+  finishes-one r r′ h h′ (many-cells i l) (many-cells i′ l′) = (refl, refl)
+  finishes-one r r′ h h′ (many-cells i l) (many-vertices i′ c′ v′) = absurd (omega arith)
+  finishes-one r r′ h h′ (many-cells i l) (short x′ g′) = absurd (omega (arith, x′ .few-cells, x′ .few-vertices))
+  finishes-one r r′ h h′ (many-cells i l) (made x′ g′) = absurd (omega (arith, x′ .few-cells, x′ .few-vertices))
+  finishes-one r r′ h h′ (many-vertices i c v) (outside f′) = absurd (f′ i)
+  finishes-one r r′ h h′ (many-vertices i c v) (many-cells i′ l′) = absurd (omega arith)
+  finishes-one r r′ h h′ (many-vertices i c v) (many-vertices i′ c′ v′) = (refl, refl)
+  finishes-one r r′ h h′ (many-vertices i c v) (short x′ g′) = absurd (omega (arith, x′ .few-cells, x′ .few-vertices))
+  finishes-one r r′ h h′ (many-vertices i c v) (made x′ g′) = absurd (omega (arith, x′ .few-cells, x′ .few-vertices))
+  finishes-one r r′ h h′ (short x g) (outside f′) = absurd (f′ (inside d R n ks x))
+  finishes-one r r′ h h′ (short x g) (many-cells i′ l′) = absurd (omega (arith, x .few-cells, x .few-vertices))
+  finishes-one r r′ h h′ (short x g) (many-vertices i′ c′ v′) = absurd (omega (arith, x .few-cells, x .few-vertices))
+  finishes-one r r′ h h′ (short x g) (short x′ g′) = (refl, refl)
+  finishes-one r r′ h h′ (short x g) (made x′ g′) = absurd (g g′)
+  finishes-one r r′ h h′ (made x g) (outside f′) = absurd (f′ (inside d R n ks x))
+  finishes-one r r′ h h′ (made x g) (many-cells i′ l′) = absurd (omega (arith, x .few-cells, x .few-vertices))
+  finishes-one r r′ h h′ (made x g) (many-vertices i′ c′ v′) = absurd (omega (arith, x .few-cells, x .few-vertices))
+  finishes-one r r′ h h′ (made x g) (short x′ g′) = absurd (g′ g)
+  finishes-one r r′ h h′ (made x g) (made x′ g′) = (refl, refl)
+
+module _ (d R : ℕ) (ws : List ℕ) (Ordered : Type 0) (ks : List (List ℕ)) (given : Lengths) where
+  ends-one : (r r′ : Refinement) (h h′ : Results) → Ends d R ws Ordered ks given r h → Ends d R ws Ordered ks given r′ h′ → (r ≡ r′) × (h ≡ h′)
+  ends-one r r′ h h′ (crowded x) (crowded y) = (refl, refl)
+  ends-one r r′ h h′ (crowded x) (unordered f o) = absurd (f x)
+  ends-one r r′ h h′ (crowded x) (finished f o e) = absurd (f x)
+  ends-one r r′ h h′ (unordered f o) (crowded x) = absurd (f x)
+  ends-one r r′ h h′ (unordered f o) (unordered f′ o′) = (refl, refl)
+  ends-one r r′ h h′ (unordered f o) (finished f′ o′ e) = absurd (o o′)
+  ends-one r r′ h h′ (finished f o e) (crowded x) = absurd (f x)
+  ends-one r r′ h h′ (finished f o e) (unordered f′ o′) = absurd (o′ o)
+  ends-one r r′ h h′ (finished f o e) (finished f′ o′ e′) = finishes-one d R _ _ ks given r r′ h h′ e e′
+
+  comes-one : (have : Space) {r r′ : Refinement} {h h′ : Results} {u u′ : Space} → Comes d R ws Ordered ks given have r h u → Comes d R ws Ordered ks given have r′ h′ u′ → (r ≡ r′) × (h ≡ h′) × (u ≡ u′)
+  comes-one have (refused {n = n} {p = p} e) (refused {n = m} {p = q} f) =
+      let a = refused-number n p m q (sym e ∙ f) in let b = refused-place n p m q (sym e ∙ f) in (cc, refl, refl)
+  comes-one have (refused {n = n} {p = p} e) (cramped f _) = absurd (fine-refused n p (sym e ∙ f))
+  comes-one have (refused {n = n} {p = p} e) (ended f _ _) = absurd (fine-refused n p (sym e ∙ f))
+  comes-one have (cramped e _) (refused {n = n} {p = p} f) = absurd (fine-refused n p (sym f ∙ e))
+  comes-one have (cramped e g) (cramped f g′) = (refl, refl, refl)
+  comes-one have (cramped e g) (ended f m _) = absurd (g m)
+  comes-one have (ended e _ _) (refused {n = n} {p = p} f) = absurd (fine-refused n p (sym f ∙ e))
+  comes-one have (ended e m _) (cramped f g) = absurd (g m)
+  comes-one have (ended {r = r} {h = h} e _ x) (ended {r = r′} {h = h′} f _ y) = let w = ends-one r r′ h h′ x y in (w .0, w .1, refl)
+
+-- two exits of one call: what is said, the result lists and the working lists are equal
+module _ (d : ℕ) (ws : List ℕ) (R : ℕ) (Ordered : Type 0) (ks : List (List ℕ)) (out-cells out-words parents : List ℕ) (jacobians : List Float) (wholes : List ℤ) (vertices weights : List ℕ) (shares : List Float) (cells along pattern keys rows spare counts sorted firsts buckets : List ℕ) (out-cells′ out-words′ parents′ : List ℕ) (jacobians′ : List Float) (wholes′ : List ℤ) (vertices′ weights′ : List ℕ) (shares′ : List Float) (cells′ along′ pattern′ keys′ rows′ spare′ counts′ sorted′ firsts′ buckets′ : List ℕ) (out-cells″ out-words″ parents″ : List ℕ) (jacobians″ : List Float) (wholes″ : List ℤ) (vertices″ weights″ : List ℕ) (shares″ : List Float) (cells″ along″ pattern″ keys″ rows″ spare″ counts″ sorted″ firsts″ buckets″ : List ℕ) (r r′ : Refinement) where
+  pub refining-one : Refining d ws R Ordered ks r out-cells out-cells′ out-words out-words′ parents parents′ jacobians jacobians′ wholes wholes′ vertices vertices′ weights weights′ shares shares′ cells cells′ along along′ pattern pattern′ keys keys′ rows rows′ spare spare′ counts counts′ sorted sorted′ firsts firsts′ buckets buckets′ → Refining d ws R Ordered ks r′ out-cells out-cells″ out-words out-words″ parents parents″ jacobians jacobians″ wholes wholes″ vertices vertices″ weights weights″ shares shares″ cells cells″ along along″ pattern pattern″ keys keys″ rows rows″ spare spare″ counts counts″ sorted sorted″ firsts firsts″ buckets buckets″ →
+      (r ≡ r′) × ((out-cells′ ≡ out-cells″) × (out-words′ ≡ out-words″) × (parents′ ≡ parents″) × (jacobians′ ≡ jacobians″) × (wholes′ ≡ wholes″) × (vertices′ ≡ vertices″) × (weights′ ≡ weights″) × (shares′ ≡ shares″)) × ((cells′ ≡ cells″) × (along′ ≡ along″) × (pattern′ ≡ pattern″) × (keys′ ≡ keys″) × (rows′ ≡ rows″) × (spare′ ≡ spare″) × (counts′ ≡ counts″) × (sorted′ ≡ sorted″) × (firsts′ ≡ firsts″) × (buckets′ ≡ buckets″))
+  refining-one a b =
+      let w = comes-one d R ws Ordered ks (lengthsOf out-cells out-words parents jacobians wholes vertices weights shares) (lent cells along pattern keys rows spare counts sorted firsts buckets) (a .comes) (b .comes) in (
+        w .0,
+        (
+          a .stored .in-cells ∙ ap (λ (h : Results). onto (h .cells-out) out-cells) (w .1) ∙ sym (b .stored .in-cells),
+          a .stored .in-words ∙ ap (λ (h : Results). onto (h .words-out) out-words) (w .1) ∙ sym (b .stored .in-words),
+          a .stored .in-parents ∙ ap (λ (h : Results). onto (h .parents-out) parents) (w .1) ∙ sym (b .stored .in-parents),
+          a .stored .in-jacobians ∙ ap (λ (h : Results). onto (h .jacobians-out) jacobians) (w .1) ∙ sym (b .stored .in-jacobians),
+          a .stored .in-wholes ∙ ap (λ (h : Results). onto (h .wholes-out) wholes) (w .1) ∙ sym (b .stored .in-wholes),
+          a .stored .in-vertices ∙ ap (λ (h : Results). onto (h .birth-vertices) vertices) (w .1) ∙ sym (b .stored .in-vertices),
+          a .stored .in-weights ∙ ap (λ (h : Results). onto (h .birth-weights) weights) (w .1) ∙ sym (b .stored .in-weights),
+          a .stored .in-shares ∙ ap (λ (h : Results). onto (h .birth-shares) shares) (w .1) ∙ sym (b .stored .in-shares),
+        ),
+        (
+          a .room .of-cells ∙ ap (λ (u : Space). zeroed (u .cells) cells) (w .2) ∙ sym (b .room .of-cells),
+          a .room .of-along ∙ ap (λ (u : Space). zeroed (u .along) along) (w .2) ∙ sym (b .room .of-along),
+          a .room .of-pattern ∙ ap (λ (u : Space). zeroed (u .pattern) pattern) (w .2) ∙ sym (b .room .of-pattern),
+          a .room .of-keys ∙ ap (λ (u : Space). zeroed (u .keys) keys) (w .2) ∙ sym (b .room .of-keys),
+          a .room .of-rows ∙ ap (λ (u : Space). zeroed (u .rows) rows) (w .2) ∙ sym (b .room .of-rows),
+          a .room .of-spare ∙ ap (λ (u : Space). zeroed (u .spare) spare) (w .2) ∙ sym (b .room .of-spare),
+          a .room .of-counts ∙ ap (λ (u : Space). zeroed (u .counts) counts) (w .2) ∙ sym (b .room .of-counts),
+          a .room .of-sorted ∙ ap (λ (u : Space). zeroed (u .sorted) sorted) (w .2) ∙ sym (b .room .of-sorted),
+          a .room .of-firsts ∙ ap (λ (u : Space). zeroed (u .firsts) firsts) (w .2) ∙ sym (b .room .of-firsts),
+          a .room .of-buckets ∙ ap (λ (u : Space). zeroed (u .buckets) buckets) (w .2) ∙ sym (b .room .of-buckets),
+        ),
+      )
