@@ -2,48 +2,17 @@
 use mathlib.Core.List.{List}
 use mathlib.Core.Path.{_≡_, refl, sym, ap, _∙_}
 use Prim.Native.Nat.{ℕ}
-use native.Mathlib.Omega.{arith}
 use lib.IntN.{ℤ}
 use lib.Ieee.{Float}
 use lib.ListN.{length}
-use Rattle.refusal.specs.Lent.{onto, zeroed}
+use Rattle.refusal.specs.Lent.{zeroed}
 use Rattle.refusal.proofs.Chain.{fine-refused, refused-number, refused-place}
 use Rattle.refined.specs.declared.Refinement.{Refinement}
-use Rattle.refined.specs.Results.{Results, Lengths, lengthsOf, Inside, Refines, Finishes, outside, many-cells, many-vertices, short, made, Stored}
+use Rattle.refined.specs.Results.{Results, Lengths, lengthsOf}
+use Rattle.refined.proofs.Determined.{finishes-one, Same, stored-one}
 use Rattle.refine.specs.declared.Space.{Space}
 use Rattle.refine.specs.Space.{lent, Emptied}
 use Rattle.refine.specs.Promise.{Ends, crowded, unordered, finished, Comes, refused, cramped, ended, Refining}
-
-inside : (d R n : ℕ) (ks : List (List ℕ)) → Refines d R n ks → Inside R
-inside d R n ks x = record { least = x .least; most = x .most }
-
-module _ (d R n : ℕ) (cs ks : List (List ℕ)) (given : Lengths) where
-  finishes-one : (r r′ : Refinement) (h h′ : Results) → Finishes d R n cs ks given r h → Finishes d R n cs ks given r′ h′ → (r ≡ r′) × (h ≡ h′)
-  finishes-one r r′ h h′ (outside f) (outside f′) = (refl, refl)
-  finishes-one r r′ h h′ (outside f) (many-cells i′ l′) = absurd (f i′)
-  finishes-one r r′ h h′ (outside f) (many-vertices i′ c′ v′) = absurd (f i′)
-  finishes-one r r′ h h′ (outside f) (short x′ g′) = absurd (f (inside d R n ks x′))
-  finishes-one r r′ h h′ (outside f) (made x′ g′) = absurd (f (inside d R n ks x′))
-  finishes-one r r′ h h′ (many-cells i l) (outside f′) = absurd (f′ i)
-  finishes-one r r′ h h′ (many-cells i l) (many-cells i′ l′) = (refl, refl)
-  finishes-one r r′ h h′ (many-cells i l) (many-vertices i′ c′ v′) = absurd (omega arith)
-  finishes-one r r′ h h′ (many-cells i l) (short x′ g′) = absurd (omega (arith, x′ .few-cells, x′ .few-vertices))
-  finishes-one r r′ h h′ (many-cells i l) (made x′ g′) = absurd (omega (arith, x′ .few-cells, x′ .few-vertices))
-  finishes-one r r′ h h′ (many-vertices i c v) (outside f′) = absurd (f′ i)
-  finishes-one r r′ h h′ (many-vertices i c v) (many-cells i′ l′) = absurd (omega arith)
-  finishes-one r r′ h h′ (many-vertices i c v) (many-vertices i′ c′ v′) = (refl, refl)
-  finishes-one r r′ h h′ (many-vertices i c v) (short x′ g′) = absurd (omega (arith, x′ .few-cells, x′ .few-vertices))
-  finishes-one r r′ h h′ (many-vertices i c v) (made x′ g′) = absurd (omega (arith, x′ .few-cells, x′ .few-vertices))
-  finishes-one r r′ h h′ (short x g) (outside f′) = absurd (f′ (inside d R n ks x))
-  finishes-one r r′ h h′ (short x g) (many-cells i′ l′) = absurd (omega (arith, x .few-cells, x .few-vertices))
-  finishes-one r r′ h h′ (short x g) (many-vertices i′ c′ v′) = absurd (omega (arith, x .few-cells, x .few-vertices))
-  finishes-one r r′ h h′ (short x g) (short x′ g′) = (refl, refl)
-  finishes-one r r′ h h′ (short x g) (made x′ g′) = absurd (g g′)
-  finishes-one r r′ h h′ (made x g) (outside f′) = absurd (f′ (inside d R n ks x))
-  finishes-one r r′ h h′ (made x g) (many-cells i′ l′) = absurd (omega (arith, x .few-cells, x .few-vertices))
-  finishes-one r r′ h h′ (made x g) (many-vertices i′ c′ v′) = absurd (omega (arith, x .few-cells, x .few-vertices))
-  finishes-one r r′ h h′ (made x g) (short x′ g′) = absurd (g′ g)
-  finishes-one r r′ h h′ (made x g) (made x′ g′) = (refl, refl)
 
 module _ (d R : ℕ) (ws : List ℕ) (Ordered : Type 0) (ks : List (List ℕ)) (given : Lengths) where
   ends-one : (r r′ : Refinement) (h h′ : Results) → Ends d R ws Ordered ks given r h → Ends d R ws Ordered ks given r′ h′ → (r ≡ r′) × (h ≡ h′)
@@ -72,20 +41,11 @@ module _ (d R : ℕ) (ws : List ℕ) (Ordered : Type 0) (ks : List (List ℕ)) (
 -- two exits of one call: what is said, the result lists and the working lists are equal
 module _ (d : ℕ) (ws : List ℕ) (R : ℕ) (Ordered : Type 0) (ks : List (List ℕ)) (out-cells out-words parents : List ℕ) (jacobians : List Float) (wholes : List ℤ) (vertices weights : List ℕ) (shares : List Float) (cells along pattern keys rows spare counts sorted firsts buckets : List ℕ) (out-cells′ out-words′ parents′ : List ℕ) (jacobians′ : List Float) (wholes′ : List ℤ) (vertices′ weights′ : List ℕ) (shares′ : List Float) (cells′ along′ pattern′ keys′ rows′ spare′ counts′ sorted′ firsts′ buckets′ : List ℕ) (out-cells″ out-words″ parents″ : List ℕ) (jacobians″ : List Float) (wholes″ : List ℤ) (vertices″ weights″ : List ℕ) (shares″ : List Float) (cells″ along″ pattern″ keys″ rows″ spare″ counts″ sorted″ firsts″ buckets″ : List ℕ) (r r′ : Refinement) where
   pub refining-one : Refining d ws R Ordered ks r out-cells out-cells′ out-words out-words′ parents parents′ jacobians jacobians′ wholes wholes′ vertices vertices′ weights weights′ shares shares′ cells cells′ along along′ pattern pattern′ keys keys′ rows rows′ spare spare′ counts counts′ sorted sorted′ firsts firsts′ buckets buckets′ → Refining d ws R Ordered ks r′ out-cells out-cells″ out-words out-words″ parents parents″ jacobians jacobians″ wholes wholes″ vertices vertices″ weights weights″ shares shares″ cells cells″ along along″ pattern pattern″ keys keys″ rows rows″ spare spare″ counts counts″ sorted sorted″ firsts firsts″ buckets buckets″ →
-      (r ≡ r′) × ((out-cells′ ≡ out-cells″) × (out-words′ ≡ out-words″) × (parents′ ≡ parents″) × (jacobians′ ≡ jacobians″) × (wholes′ ≡ wholes″) × (vertices′ ≡ vertices″) × (weights′ ≡ weights″) × (shares′ ≡ shares″)) × ((cells′ ≡ cells″) × (along′ ≡ along″) × (pattern′ ≡ pattern″) × (keys′ ≡ keys″) × (rows′ ≡ rows″) × (spare′ ≡ spare″) × (counts′ ≡ counts″) × (sorted′ ≡ sorted″) × (firsts′ ≡ firsts″) × (buckets′ ≡ buckets″))
+      (r ≡ r′) × Same out-cells′ out-cells″ out-words′ out-words″ parents′ parents″ jacobians′ jacobians″ wholes′ wholes″ vertices′ vertices″ weights′ weights″ shares′ shares″ × ((cells′ ≡ cells″) × (along′ ≡ along″) × (pattern′ ≡ pattern″) × (keys′ ≡ keys″) × (rows′ ≡ rows″) × (spare′ ≡ spare″) × (counts′ ≡ counts″) × (sorted′ ≡ sorted″) × (firsts′ ≡ firsts″) × (buckets′ ≡ buckets″))
   refining-one a b =
       let w = comes-one d R ws Ordered ks (lengthsOf out-cells out-words parents jacobians wholes vertices weights shares) (lent cells along pattern keys rows spare counts sorted firsts buckets) (a .comes) (b .comes) in (
         w .0,
-        (
-          a .stored .in-cells ∙ ap (λ (h : Results). onto (h .cells-out) out-cells) (w .1) ∙ sym (b .stored .in-cells),
-          a .stored .in-words ∙ ap (λ (h : Results). onto (h .words-out) out-words) (w .1) ∙ sym (b .stored .in-words),
-          a .stored .in-parents ∙ ap (λ (h : Results). onto (h .parents-out) parents) (w .1) ∙ sym (b .stored .in-parents),
-          a .stored .in-jacobians ∙ ap (λ (h : Results). onto (h .jacobians-out) jacobians) (w .1) ∙ sym (b .stored .in-jacobians),
-          a .stored .in-wholes ∙ ap (λ (h : Results). onto (h .wholes-out) wholes) (w .1) ∙ sym (b .stored .in-wholes),
-          a .stored .in-vertices ∙ ap (λ (h : Results). onto (h .birth-vertices) vertices) (w .1) ∙ sym (b .stored .in-vertices),
-          a .stored .in-weights ∙ ap (λ (h : Results). onto (h .birth-weights) weights) (w .1) ∙ sym (b .stored .in-weights),
-          a .stored .in-shares ∙ ap (λ (h : Results). onto (h .birth-shares) shares) (w .1) ∙ sym (b .stored .in-shares),
-        ),
+        stored-one (a .handed) (b .handed) (w .1) out-cells out-cells′ out-cells″ out-words out-words′ out-words″ parents parents′ parents″ jacobians jacobians′ jacobians″ wholes wholes′ wholes″ vertices vertices′ vertices″ weights weights′ weights″ shares shares′ shares″ (a .stored) (b .stored),
         (
           a .room .of-cells ∙ ap (λ (u : Space). zeroed (u .cells) cells) (w .2) ∙ sym (b .room .of-cells),
           a .room .of-along ∙ ap (λ (u : Space). zeroed (u .along) along) (w .2) ∙ sym (b .room .of-along),
