@@ -1,5 +1,4 @@
 -- Document 01: the need is at most 32 numbers for each corner of the words and of their children, up to the limit, plus 16,384. Assumes nothing.
-use mathlib.Core.Path.{_≡_}
 use Prim.Native.Nat.{ℕ, suc, _+_, _*_, _/_, _≤_}
 use native.Mathlib.Nat.{mul-le-mul-left, mul-suc}
 use native.Mathlib.Omega.{arith}

@@ -4,14 +4,13 @@ use mathlib.Core.Path.{_≡_, refl, sym, ap, _∙_}
 use Prim.Native.Nat.{ℕ}
 use lib.IntN.{ℤ}
 use lib.Ieee.{Float}
-use lib.ListN.{length}
 use Rattle.refusal.specs.Lent.{zeroed}
 use Rattle.refusal.proofs.Chain.{fine-refused, refused-number, refused-place}
 use Rattle.refined.specs.declared.Refinement.{Refinement}
 use Rattle.refined.specs.Results.{Results, Lengths, lengthsOf}
 use Rattle.refined.proofs.Determined.{finishes-one, Same, stored-one}
 use Rattle.refine.specs.declared.Space.{Space}
-use Rattle.refine.specs.Space.{lent, Emptied}
+use Rattle.refine.specs.Space.{lent}
 use Rattle.refine.specs.Promise.{Ends, crowded, unordered, finished, Comes, refused, cramped, ended, Refining}
 
 module _ (d R : ℕ) (ws : List ℕ) (Ordered : Type 0) (ks : List (List ℕ)) (given : Lengths) where

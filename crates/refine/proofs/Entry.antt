@@ -1,8 +1,7 @@
 -- The ways out of the entry. Assumes nothing.
-use mathlib.Core.Bool.{Bool, true, false}
-use mathlib.Core.List.{List, [], _∷_, _++_}
-use mathlib.Core.Path.{_≡_, refl, sym, ap, _∙_, subst}
-use Prim.Native.Nat.{ℕ, zero, suc, _+_, _*_, _/_, _^_, _≤_, _<_}
+use mathlib.Core.List.{List, _++_}
+use mathlib.Core.Path.{_≡_, refl, ap, _∙_, subst}
+use Prim.Native.Nat.{ℕ, zero}
 use lib.IntN.{ℤ}
 use lib.Ieee.{Float}
 use lib.ListN.{length, take, drop, replicate}
@@ -14,10 +13,10 @@ use Rattle.complex.specs.Check.{answerOf}
 use Rattle.complex.proofs.Fine.{fine-passed}
 use Rattle.refined.specs.declared.Refinement.{Refinement}
 use Rattle.refined.specs.declared.Refinement.the-variants.{Refused}
-use Rattle.refined.specs.Results.{Results, nothing, lengthsOf, Stored}
+use Rattle.refined.specs.Results.{nothing, Stored}
 use Rattle.refine.specs.declared.Space.{Space}
 use Rattle.refine.specs.Space.{spaceOf, unused, lent, Enough, Emptied}
-use Rattle.refine.specs.Promise.{Ends, Comes, refused, cramped, ended, Refining}
+use Rattle.refine.specs.Promise.{refused, cramped, ended, Refining}
 use Rattle.refine.specs.Work.{Working, Worked, AllTen}
 
 -- where nothing is handed out the result lists are as they were

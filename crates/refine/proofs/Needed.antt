@@ -1,17 +1,14 @@
 -- The need of a refinement: how it is computed, and that it is small. Assumes nothing.
-use mathlib.Core.Bool.{Bool, true, false, _&&_}
-use mathlib.Core.Path.{_≡_, refl, sym, ap, _∙_, subst}
-use Prim.Native.Nat.{ℕ, zero, suc, _+_, _*_, _/_, _^_, _≤_, _<_}
-use native.Mathlib.Nat.{mul-le-mul-left, mul-le-mul-right, pow-le-pow-left, pow-le-pow-right, le-trans}
+use mathlib.Core.Path.{_≡_, refl, sym, subst}
+use Prim.Native.Nat.{ℕ, suc, _+_, _*_, _/_, _^_, _≤_, _<_}
+use native.Mathlib.Nat.{mul-le-mul-right, pow-le-pow-left, pow-le-pow-right, le-trans}
 use native.Mathlib.Numerals.{add-one}
 use native.Mathlib.Omega.{arith}
-use lib.Dec.{ltb}
 use native.Mathlib.Decide.{decLt}
 use borrow.Author.Tests.{lt-ltb, le-ltb}
 use Rattle.refusal.specs.Limits.{mostCells, mostVertices, mostRefinement, mostDimension}
-use Rattle.lattice.specs.Children.{pick}
 use Rattle.refine.specs.declared.Space.{Space}
-use Rattle.refine.specs.Space.{counted, childrenRoom, spaceFor, spaceOf}
+use Rattle.refine.specs.Space.{counted, childrenRoom, spaceFor}
 
 -- ---- R as the need counts it
 pub counted-none : (r : ℕ) → r ≡ 0 → 1 ≡ counted r

@@ -1,9 +1,9 @@
 -- The work of a refinement, step by step: what each call asks follows from what the calls before it gave. Assumes nothing.
 use mathlib.Core.Bool.{Bool, true, false}
-use mathlib.Core.List.{List, [], _∷_, _++_}
-use mathlib.Core.Path.{_≡_, refl, sym, ap, _∙_, subst}
-use Prim.Native.Nat.{ℕ, zero, suc, _+_, _*_, _/_, _^_, _≤_, _<_}
-use native.Mathlib.Nat.{mul-le-mul-left, mul-le-mul-right, mul-suc, suc-mul, zero-mul, mul-assoc, zero-lt-suc, le-trans, le-div-iff-mul-le}
+use mathlib.Core.List.{List, [], _∷_}
+use mathlib.Core.Path.{_≡_, sym, ap, _∙_, subst}
+use Prim.Native.Nat.{ℕ, suc, _+_, _*_, _/_, _^_, _≤_, _<_}
+use native.Mathlib.Nat.{mul-le-mul-left, mul-le-mul-right, zero-mul, mul-assoc, zero-lt-suc, le-trans, le-div-iff-mul-le}
 use native.Mathlib.Decide.{decLt}
 use native.Mathlib.Numerals.{add-one}
 use native.Mathlib.Omega.{arith}
@@ -12,21 +12,21 @@ use lib.Ieee.{Float}
 use lib.ListN.{length}
 use Rattle.refusal.specs.declared.Counted.{Counted}
 use Rattle.refusal.specs.declared.Counted.the-variants as Counted
-use Rattle.refusal.specs.Limits.{mostCells, mostVertices, mostRefinement}
+use Rattle.refusal.specs.Limits.{mostCells}
 use Rattle.lists.specs.Rows.{cut}
 use Rattle.lists.proofs.Rows.{cut-length}
 use Rattle.complex.specs.Check.{Passed}
 use Rattle.complex.specs.Cells.{place, placed, inOrder, cellsOf, comesBefore}
 use Rattle.complex.specs.Facets.{Crowded}
-use Rattle.cells.proofs.Making.{whole-words, few-corners}
+use Rattle.cells.proofs.Making.{whole-words}
 use Rattle.cells.proofs.Pigeon.{largest-low}
 use Rattle.refined.specs.declared.Refinement.{Refinement}
-use Rattle.refined.specs.declared.Refinement.the-variants.{Made, Refused}
+use Rattle.refined.specs.declared.Refinement.the-variants.{Refused}
 use Rattle.refined.specs.Refined.{coarse}
 use Rattle.refined.specs.Flat.{Along}
-use Rattle.refined.specs.Results.{Results, nothing, Lengths, lengthsOf, Inside, Finishes, Stored}
+use Rattle.refined.specs.Results.{nothing, Lengths, lengthsOf, Inside, Finishes}
 use Rattle.refined.specs.Stage.{Spacious, Ready, Handed}
-use Rattle.refine.specs.Space.{childrenRoom, spaceOf}
+use Rattle.refine.specs.Space.{childrenRoom}
 use Rattle.refine.specs.Reading.{Making, Reads, crowded, unordered, read}
 use Rattle.refine.specs.Promise as promise
 use Rattle.refine.specs.Work.{Working, Worked}

@@ -1,11 +1,11 @@
 -- `refine::room::children` meets its contract: the product is small, and the limit cuts it as the definition does. Assumes nothing.
 use mathlib.Core.Path.{_≡_, sym, ap, _∙_, subst}
 use Prim.Native.Nat.{ℕ, _*_, _^_, _≤_, _<_}
-use native.Mathlib.Nat.{mul-le-mul-right, mul-le-mul-left, le-trans}
+use native.Mathlib.Nat.{mul-le-mul-left}
 use native.Mathlib.Omega.{arith}
 use borrow.Author.Needs.{needs}
 use Rattle.refusal.specs.Limits.{mostCells}
-use Rattle.refine.specs.Space.{counted, childrenRoom}
+use Rattle.refine.specs.Space.{counted}
 use Rattle.refine.proofs.Needed.{counted-most, power-small, children-over, children-in}
 use Rattle.refine.proofs.room.children.Statement.{statement}
 use Rattle.refine.proofs.room.children.Tie as tie

@@ -1,5 +1,4 @@
 -- `refine::room::counted` meets its contract: one law of proofs/Needed for each way out. Assumes nothing.
-use Prim.Native.Nat.{ℕ, _≤_, _<_}
 use native.Mathlib.Omega.{arith}
 use Rattle.refine.proofs.Needed.{counted-none, counted-over, counted-in}
 use Rattle.refine.proofs.room.counted.Statement.{statement}
