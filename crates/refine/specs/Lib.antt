@@ -1,3 +1,5 @@
 pub mod Space
 pub mod Reading
+pub mod Coarse
 pub mod Promise
+pub mod Work
