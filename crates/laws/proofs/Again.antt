@@ -12,7 +12,7 @@ use Rattle.lattice.proofs.Count.{Nodup, no-longer}
 use Rattle.lattice.proofs.Whole.{sound-words, nodup-words}
 use Rattle.lattice.proofs.Fits.{Stage, facewise-words, length-words}
 use Rattle.lattice.proofs.Refines.{refined}
-use Rattle.refine.specs.Refined.{refinedCells, refinedWords}
+use Rattle.refined.specs.Refined.{refinedCells, refinedWords}
 use Rattle.laws.proofs.Listed.{Listed}
 use Rattle.laws.proofs.Facets.{listed-nodup}
 use Rattle.laws.proofs.Arranged.{listed-by, in-by, of-by}

@@ -28,7 +28,7 @@ use Rattle.lattice.proofs.Sums.{same-self}
 use Rattle.lattice.proofs.Enumerate.{place-of}
 use Rattle.lattice.proofs.Faces.{rising}
 use Rattle.lattice.proofs.Fits.{Stage}
-use Rattle.refine.specs.Refined.{coarse, orderWords}
+use Rattle.refined.specs.Refined.{coarse, orderWords}
 use Rattle.laws.proofs.Words.{of-mem, sort-times, times-among, plain-of}
 use Rattle.laws.proofs.Listed.{Listed, counts-at, number-of, word-in, listed-complex, listed-distinct}
 use Rattle.laws.proofs.Facets.{listed-nodup, listed-thin, listed-agree}

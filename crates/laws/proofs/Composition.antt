@@ -21,9 +21,10 @@ use Rattle.lattice.specs.Conform.{Used, Facewise}
 use Rattle.lattice.proofs.Sums.{same-yes, same-no, sum-ext, sum-scale, sum-pick}
 use Rattle.lattice.proofs.Faces.{by-facets, by-faces}
 use Rattle.lattice.proofs.Fits.{Stage, fits, length-words, tower-words}
-use Rattle.refine.specs.Refined.{coarse, orderWords, refinedCells, refinedWords}
+use Rattle.refined.specs.Refined.{coarse, orderWords, refinedCells, refinedWords}
+use Rattle.refined.specs.Results.{Refines}
 use Rattle.laws.specs.Refinement.{Counted}
-use Rattle.laws.specs.Composition.{Refines, Renamed, Composes, Law, LawSorted}
+use Rattle.laws.specs.Composition.{Renamed, Composes, Law, LawSorted}
 use Rattle.laws.proofs.Listed.{Listed, number-of}
 use Rattle.laws.proofs.Facets.{listed-uncrowded, listed-agree-back}
 use Rattle.laws.proofs.Checked.{order-listed, stage-of, stage-sorted}

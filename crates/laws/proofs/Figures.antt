@@ -13,8 +13,9 @@ use Rattle.complex.specs.Check.{answerOf}
 use Rattle.complex.specs.Facets.{Crowded}
 use Rattle.ordering.specs.Order.{sameWord, wordIf, wordOf, byCell, flat}
 use Rattle.lattice.specs.Refine.{vertices}
-use Rattle.refine.specs.Refined.{refinedCells, refinedWords}
-use Rattle.laws.specs.Composition.{Accepted, Refines, Composes, LawSorted}
+use Rattle.refined.specs.Refined.{refinedCells, refinedWords}
+use Rattle.refined.specs.Results.{Refines}
+use Rattle.laws.specs.Composition.{Accepted, Composes, LawSorted}
 use Rattle.laws.proofs.Composition.{composition-sorted}
 
 abbrev triangle : List (List ℕ)

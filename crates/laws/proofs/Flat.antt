@@ -23,7 +23,7 @@ use Rattle.lattice.specs.Complex.{times, Rises}
 use Rattle.lattice.specs.Refine.{In}
 use Rattle.lattice.specs.Conform.{Used, Distinct}
 use Rattle.lattice.proofs.Refines.{mem-at}
-use Rattle.refine.specs.Refined.{coarse, orderWords}
+use Rattle.refined.specs.Refined.{coarse, orderWords}
 use Rattle.laws.proofs.Words.{to-mem, of-mem, sort-times, sort-fixed, rises-plain, repeat-none, among-some}
 use Rattle.laws.proofs.Listed.{Listed, counts-at, number-of, word-in, listed-complex, listed-distinct}
 use Rattle.ordering.proofs.Orders.{by-cell-length, by-cell-at}

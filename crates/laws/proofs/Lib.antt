@@ -9,6 +9,9 @@ pub mod Again
 pub mod Parents
 pub mod Refinement
 pub mod Unrefined
+pub mod Accepted
 pub mod Composition
 pub mod Figures
 pub mod Strip
+pub mod Told
+pub mod Calls

@@ -21,8 +21,8 @@ use Rattle.lattice.proofs.Enumerate.{times-at, once-of-apart, child-of-mem}
 use Rattle.lattice.proofs.Count.{Nodup, count}
 use Rattle.lattice.proofs.Refines.{mem-at, names}
 use Rattle.lattice.proofs.Fits.{length-words}
-use Rattle.refine.proofs.Firsts.{visit-first}
-use Rattle.refine.specs.Refined.{visitOf, refinedCells, refinedWords, parentOf, parents}
+use Rattle.refined.proofs.Firsts.{visit-first}
+use Rattle.refined.specs.Refined.{visitOf, refinedCells, refinedWords, parentOf, parents}
 use Rattle.laws.proofs.Words.{of-mem, sort-times}
 use Rattle.laws.proofs.Listed.{Listed}
 use Rattle.laws.proofs.Arranged.{from-word, to-cell}

@@ -21,7 +21,7 @@ use Rattle.lattice.proofs.Enumerate.{place-of, mem-of-child}
 use Rattle.lattice.proofs.Count.{Nodup}
 use Rattle.lattice.proofs.Pattern.{child-corners, corner-long, corner-falls}
 use Rattle.lattice.proofs.Refines.{yes-pick}
-use Rattle.refine.specs.Refined.{coarse, orderWords, refinedCells, refinedWords, parentOf}
+use Rattle.refined.specs.Refined.{coarse, orderWords, refinedCells, refinedWords, parentOf}
 use Rattle.laws.specs.Refinement.{Split, Counted}
 use Rattle.laws.specs.Composition.{Accepted}
 use Rattle.laws.proofs.Listed.{Listed, counts-at, number-of}

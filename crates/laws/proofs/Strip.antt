@@ -18,8 +18,9 @@ use Rattle.complex.specs.Facets.{cellAt, facetAt, Crowded}
 use Rattle.ordering.specs.Order.{sameWord, wordIf, wordOf, byCell, keepUnless, without, IsOrder, AgreeOnFacets, flat}
 use Rattle.ordering.proofs.Orders.{same-true, true-same}
 use Rattle.lattice.specs.Refine.{vertices}
-use Rattle.refine.specs.Refined.{orderWords, refinedCells, refinedWords}
-use Rattle.laws.specs.Composition.{Accepted, Ordered, Refines, Composes, Law}
+use Rattle.refined.specs.Refined.{orderWords, refinedCells, refinedWords}
+use Rattle.refined.specs.Results.{Refines}
+use Rattle.laws.specs.Composition.{Accepted, Ordered, Composes, Law}
 use Rattle.laws.proofs.Composition.{composition}
 
 -- the words of the band, and as their order themselves

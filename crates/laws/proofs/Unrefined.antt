@@ -36,7 +36,7 @@ use Rattle.lattice.proofs.Pattern.{child-corners, corner-long, row-at, unrefine
 use Rattle.lattice.proofs.Seats.{weigh-at}
 use Rattle.lattice.proofs.Conform.{apart-at}
 use Rattle.lattice.proofs.Refines.{refined}
-use Rattle.refine.specs.Refined.{coarse, orderWords, refinedCells}
+use Rattle.refined.specs.Refined.{coarse, orderWords, refinedCells}
 use Rattle.laws.specs.Composition.{Accepted}
 use Rattle.laws.specs.Unrefined.{Same}
 use Rattle.laws.proofs.Words.{to-mem, of-mem, sort-times}

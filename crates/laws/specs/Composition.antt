@@ -5,14 +5,14 @@ use mathlib.Core.Path.{_≡_}
 use Prim.Native.Nat.{ℕ, _*_, _^_, _<_, _≤_}
 use lib.ListN.{length}
 use Rattle.refusal.specs.declared.Answer.the-variants.{Fine}
-use Rattle.refusal.specs.Limits.{mostCells, mostVertices, mostRefinement}
 use Rattle.complex.specs.Cells.{cellsOf}
 use Rattle.complex.specs.Check.{answerOf}
 use Rattle.complex.specs.Facets.{Crowded}
 use Rattle.ordering.specs.Order.{Orders, AgreeOnFacets, flat}
 use Rattle.lattice.specs.Complex.{through}
 use Rattle.lattice.specs.Refine.{vertices, share, In}
-use Rattle.refine.specs.Refined.{coarse, orderWords, refinedCells, refinedWords}
+use Rattle.refined.specs.Refined.{coarse, orderWords, refinedCells, refinedWords}
+use Rattle.refined.specs.Results.{Refines}
 
 -- an accepted complex: none of 1 to 7 applies
 pub record Accepted (d : ℕ) (ws : List ℕ) : Type 0 where
@@ -23,13 +23,6 @@ pub record Accepted (d : ℕ) (ws : List ℕ) : Type 0 where
 pub record Ordered (d : ℕ) (ws os : List ℕ) : Type 0 where
   pub orders : Orders d (cellsOf d ws) os
   pub agrees : AgreeOnFacets d (cellsOf d ws) (orderWords d ws os)
-
--- n vertices and the words ks, refined by R: none of 11, 3 and 6 applies
-pub record Refines (d R n : ℕ) (ks : List (List ℕ)) : Type 0 where
-  pub least : 1 ≤ R
-  pub most : R ≤ mostRefinement
-  pub few-cells : length ks * R ^ d ≤ mostCells
-  pub few-vertices : vertices d R n ks ≤ mostVertices
 
 -- The words ts over N vertices are the words cs over N′, up to a one-to-one renaming of the vertices that fixes the first n and keeps every vertex's shares: renamed
 -- by `to`, vertex by vertex, each word of ts is a word of cs, and each word of cs comes back by `from`.

@@ -1,3 +1,4 @@
+pub mod Composition
 pub mod Refinement
 pub mod Unrefined
-pub mod Composition
+pub mod Calls

@@ -5,11 +5,14 @@ use mathlib.Core.Path.{_≡_}
 use Prim.Native.Nat.{ℕ, _*_, _^_, _<_}
 use lib.ListN.{length, getD}
 use Rattle.multiindex.specs.Sort.{sortWord}
+use Rattle.complex.specs.Cells.{cellsOf}
 use Rattle.complex.specs.Facets.{cellAt}
+use Rattle.ordering.specs.Order.{Orders, flat}
 use Rattle.lattice.specs.Lattice.{Child}
 use Rattle.lattice.specs.Complex.{same, sum, times, Names}
 use Rattle.lattice.specs.Refine.{vertices, share}
-use Rattle.refine.specs.Refined.{refinedCells, refinedWords, parents}
+use Rattle.refined.specs.Refined.{coarse, refinedCells, refinedWords, parents}
+use Rattle.laws.specs.Composition.{Accepted}
 
 -- n vertices and the words ks, one for each cell, refined by R: the children
 pub record Split (d R n : ℕ) (ks : List (List ℕ)) : Type 0 where
@@ -38,3 +41,9 @@ pub record Counted (d R n : ℕ) (ks : List (List ℕ)) : Type 0 where
   pub whole : (x : ℕ) → x < vertices d R n ks → sum n (share d R n ks x) ≡ R
   -- no vertex is counted twice: two with the same shares are one
   pub once : (x y : ℕ) → x < vertices d R n ks → y < vertices d R n ks → ((v : ℕ) → share d R n ks x v ≡ share d R n ks y v) → x ≡ y
+
+-- what is handed out is taken again: none of 1 to 7 applies to the refined cells, their words are an order of them, and their vertices are those that were counted
+pub record Taken (d R n : ℕ) (ks : List (List ℕ)) : Type 0 where
+  pub accepted : Accepted d (flat (refinedCells d R n ks))
+  pub orders : Orders d (cellsOf d (flat (refinedCells d R n ks))) (flat (refinedWords d R n ks))
+  pub counted : coarse (flat (refinedCells d R n ks)) ≡ vertices d R n ks

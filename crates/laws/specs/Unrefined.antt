@@ -3,7 +3,7 @@ use mathlib.Core.List.{List}
 use mathlib.Core.Path.{_≡_}
 use Prim.Native.Nat.{ℕ}
 use Rattle.lattice.specs.Refine.{vertices}
-use Rattle.refine.specs.Refined.{refinedCells, refinedWords}
+use Rattle.refined.specs.Refined.{refinedCells, refinedWords}
 
 -- refinement hands out what it was given: cells cs with the words ks over n vertices
 pub record Same (d R n : ℕ) (cs ks : List (List ℕ)) : Type 0 where

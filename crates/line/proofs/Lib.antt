@@ -2,3 +2,4 @@
 pub mod Front
 pub mod Numerals
 pub mod Figures
+pub mod Long

@@ -1,3 +1,7 @@
-pub mod Figures
-pub mod Firsts
-pub mod Seats
+pub mod Along
+pub mod Reading
+pub mod Needed
+pub mod Entry
+pub mod Steps
+pub mod Determined
+pub mod Bound

@@ -1,2 +1,5 @@
-pub mod Refined
-pub mod Flat
+pub mod Space
+pub mod Reading
+pub mod Coarse
+pub mod Promise
+pub mod Work

@@ -40,7 +40,7 @@ use Rattle.jacobian.specs.Entries.{nineOf, wholeOf, floatOf, floatStep, nought}
 use Rattle.jacobian.proofs.Laws.{column-in, row-in, entry-past}
 use Rattle.jacobian.specs.Weights.{placeOf, weightOf, Seated}
 use Rattle.children.specs.Family.{weightsAt, wholeAt, floatAt, Family}
-use Rattle.refine.specs.Flat.{Along, Refining}
+use Rattle.refined.specs.Flat.{Along, Refining}
 
 -- ---- places
 found-lt : (b : Bool) (n k : ℕ) → (b ≡ false → k < n) → foundAt b k < suc n
@@ -80,7 +80,7 @@ gather-at f size h (k ∷ ks) (suc a) q l b =
     ∙ getD-append-add (f k) (gather f ks) (a * size + q) []
     ∙ gather-at f size h ks a q (omega arith) b
 
-map-at : {A B : Type 0} (f : A → B) (l : List A) (i : ℕ) (x : A) (y : B) → i < length l → getD (map f l) i y ≡ f (getD l i x)
+pub map-at : {A B : Type 0} (f : A → B) (l : List A) (i : ℕ) (x : A) (y : B) → i < length l → getD (map f l) i y ≡ f (getD l i x)
 map-at f [] i x y h = absurd (omega arith)
 map-at f (z ∷ l) zero x y h = refl
 map-at f (z ∷ l) (suc i) x y h = map-at f l i x y (omega arith)
@@ -144,10 +144,10 @@ module _ (d R n m : ℕ) (along cells pattern names-list : List ℕ) (h : Refini
   in-cut : (k : List ℕ) → List·Memᴰ k ks → (a : ℕ) × (a < m) × (getD ks a [] ≡ k)
   in-cut k i = let q = list-place ks k i in (q .0, omega (arith, q .1, cut-length (suc d) m along), q .2)
 
-  ks-long : (k : List ℕ) → List·Memᴰ k ks → length k ≡ suc d
+  pub ks-long : (k : List ℕ) → List·Memᴰ k ks → length k ≡ suc d
   ks-long k i = let q = in-cut k i in ap length (sym (q .2) ∙ word-of (q .0) (q .1)) ∙ word-long (q .0) (q .1)
 
-  ks-low : (k : List ℕ) → List·Memᴰ k ks → (v : ℕ) → 0 < times k v → v < n
+  pub ks-low : (k : List ℕ) → List·Memᴰ k ks → (v : ℕ) → 0 < times k v → v < n
   ks-low k i v l = let q = in-cut k i in word-low (q .0) (q .1) v (subst (λ (w : List ℕ). 0 < times w v) (sym (q .2) ∙ word-of (q .0) (q .1)) l)
 
   -- ---- child x: its parent a, its place q in the pattern

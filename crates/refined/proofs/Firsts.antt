@@ -21,7 +21,7 @@ use Rattle.cells.proofs.Making.{key-length, key-row, made-same, made-cell}
 use Rattle.ordering.specs.Order.{sameWord, wordOf, byCell, flat}
 use Rattle.ordering.proofs.Orders.{true-same, same-false, word-first, by-cell-rows}
 use Rattle.children.specs.Colex.{Arranged}
-use Rattle.refine.specs.Refined.{visitOf}
+use Rattle.refined.specs.Refined.{visitOf}
 
 -- the first word that sorts to the cell is its visit
 pub visit-first : (ows : List (List ℕ)) (c : List ℕ) (r : ℕ) → r < length ows → sortWord (getD ows r []) ≡ c → ((s : ℕ) → s < r → sortWord (getD ows s []) ≡ c → ⊥) → visitOf ows c ≡ r

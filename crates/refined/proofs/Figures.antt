@@ -8,7 +8,7 @@ use Rattle.lists.specs.Words.{foundAt, either}
 use Rattle.complex.specs.Cells.{decides, comesBefore, placed, place, inOrder}
 use Rattle.ordering.specs.Order.{sameWord, wordIf, wordOf, byCell}
 use Rattle.lattice.specs.Refine.{births}
-use Rattle.refine.specs.Refined.{visitOf, refinedCells, refinedWords, parents, wholes}
+use Rattle.refined.specs.Refined.{visitOf, refinedCells, refinedWords, parents, wholes}
 
 abbrev pub triangle : List (List ℕ)
 triangle = (0 ∷ 1 ∷ 2 ∷ []) ∷ []

@@ -1,0 +1,14 @@
+pub mod Turns
+pub mod Folding
+pub mod Facing
+pub mod Members
+pub mod Words
+pub mod Twice
+pub mod Count
+pub mod Seams
+pub mod Seven
+pub mod Edges
+pub mod Sizes
+pub mod Room
+pub mod Said
+pub mod Figures

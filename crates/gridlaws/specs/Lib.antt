@@ -1,0 +1,2 @@
+-- What the laws speak of.
+pub mod Said

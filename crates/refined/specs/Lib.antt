@@ -1,0 +1,5 @@
+pub mod Refined
+pub mod Flat
+pub mod Results
+pub mod Stage
+pub mod Steps

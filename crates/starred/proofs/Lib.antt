@@ -1,0 +1,3 @@
+pub mod Tests
+pub mod Bands
+pub mod Table

@@ -1,0 +1,5 @@
+pub mod Bounds
+pub mod Ends
+pub mod Determined
+pub mod Fits
+pub mod Enough

@@ -1,0 +1,3 @@
+-- What the contracts of `sums` cite.
+pub mod Promise
+pub mod Work
