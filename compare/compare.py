@@ -10,7 +10,7 @@ from port import Port
 
 
 # calls that the library does not have yet: anything else that is missing is an error
-LATER = {"planner_refine", "planner_refine_with"}
+LATER = set()
 
 
 def cell_lists(j, lists):
