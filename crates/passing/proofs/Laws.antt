@@ -18,7 +18,9 @@ use Rattle.quotient.specs.declared.Made.{Made}
 use Rattle.quotient.specs.declared.Made.the-variants.{Taken, Refused}
 use Rattle.gridlengths.specs.declared.EdgeLength.{EdgeLength}
 use Rattle.gridlengths.specs.declared.EdgeLength.the-variants as EdgeLength
-use Rattle.passing.specs.Said.{refusedCode, madeCode, madeAxes, lengthCode, lengthSquares}
+use Rattle.refined.specs.declared.Refinement.{Refinement}
+use Rattle.refined.specs.declared.Refinement.the-variants as Refinement
+use Rattle.passing.specs.Said.{refusedCode, madeCode, madeAxes, lengthCode, lengthSquares, refinedCode, refinedVertices}
 use Rattle.passing.specs.Given.{glueOf, axisGiven, sidesGiven, gridGiven, entry, sideGiven, gluesGiven, glueCode, axesOf}
 
 -- a list's element does not turn on what stands past its end
@@ -109,3 +111,12 @@ pub length-two : (s : EdgeLength) {x y : Float} (squares : List Float) → s ≡
     → (_≡_ {A = ℕ} 2 (lengthCode s)) × (set (set squares 0 x) 1 y ≡ lengthSquares s squares)
 unfolding lengthCode lengthSquares
 length-two s squares e = (sym (ap lengthCode e), sym (ap (λ (t : EdgeLength). lengthSquares t squares) e))
+
+pub refined-refused : (s : Refinement) {n p r : ℕ} (vertices : List ℕ) → s ≡ Refinement.Refused n p → r ≡ refusedCode n p → (r ≡ refinedCode s) × (vertices ≡ refinedVertices s vertices)
+unfolding refinedCode refinedVertices
+refined-refused s vertices e h = (h ∙ sym (ap refinedCode e), sym (ap (λ (x : Refinement). refinedVertices x vertices) e))
+
+pub refined-made : (s : Refinement) {children total : ℕ} (vertices : List ℕ) → s ≡ Refinement.Made children total
+    → (children ≡ refinedCode s) × (set vertices 0 total ≡ refinedVertices s vertices)
+unfolding refinedCode refinedVertices
+refined-made s vertices e = (sym (ap refinedCode e), sym (ap (λ (x : Refinement). refinedVertices x vertices) e))

@@ -21,6 +21,8 @@ use Rattle.gridorder.specs.declared.Triangulated.{Triangulated}
 use Rattle.gridorder.specs.declared.Triangulated.the-variants as Triangulated
 use Rattle.gridlengths.specs.declared.EdgeLength.{EdgeLength}
 use Rattle.gridlengths.specs.declared.EdgeLength.the-variants as EdgeLength
+use Rattle.refined.specs.declared.Refinement.{Refinement}
+use Rattle.refined.specs.declared.Refinement.the-variants as Refinement
 use Rattle.passing.specs.Given.{axesOf}
 
 -- 2 ^ 32 times the number, and the place
@@ -84,6 +86,16 @@ lengthSquares (EdgeLength.Length x) squares = set squares 0 x
 lengthSquares (EdgeLength.Clash x y) squares = set (set squares 0 x) 1 y
 lengthSquares EdgeLength.NoEdge squares = squares
 lengthSquares (EdgeLength.Refused number place) squares = squares
+
+-- how many children a refinement has
+unfoldable pub refinedCode : Refinement → ℕ
+refinedCode (Refinement.Made children total) = children
+refinedCode (Refinement.Refused number place) = refusedCode number place
+
+-- the number of vertices that is handed out; on a refusal what stood there
+unfoldable pub refinedVertices : Refinement → List ℕ → List ℕ
+refinedVertices (Refinement.Made children total) vertices = set vertices 0 total
+refinedVertices (Refinement.Refused number place) vertices = vertices
 
 -- r returns an answer that meets the call's promise
 pub record Said {S : Type 0} (code : S → ℕ) (Meets : S → Type 0) (r : ℕ) : Type 0 where

@@ -6,11 +6,12 @@ use ordering::Ordered;
 use quotient::Made;
 use quotient::Parity;
 use quotient::Reduced;
+use refined::Refinement;
 use refusal::Counted;
 use refusal::Verdict;
 ghost use mathlib.Core.Path.{_≡_};
 ghost use Prim.Native.Nat.{_+_, _*_};
-ghost use Rattle.passing.specs.Said.{refusedCode, countedCode, verdictCode, parityCode, reducedCode, madeCode, madeAxes, orderedCode, triangulatedCode, lengthCode, lengthSquares};
+ghost use Rattle.passing.specs.Said.{refusedCode, countedCode, verdictCode, parityCode, reducedCode, madeCode, madeAxes, orderedCode, triangulatedCode, lengthCode, lengthSquares, refinedCode, refinedVertices};
 
 // A refusal.
 pub fn refused(number: u32, place: u32) -> u64
@@ -113,6 +114,20 @@ pub fn edge_length(said: EdgeLength, squares: &mut [f64; 2]) -> u64
             squares[0] = x;
             squares[1] = y;
             2
+        }
+    }
+}
+
+// A refinement: how many children there are, and the number of vertices goes to the list. A refusal leaves the list as it was.
+pub fn refined(said: Refinement, vertices: &mut [u32; 1]) -> u64
+    ensures { λ r. ⌜ r ≡ refinedCode said ⌝ }
+    ensures { λ _. ⌜ now (vertices .exit) ≡ refinedVertices said (now (vertices .entry)) ⌝ }
+{
+    match said {
+        Refinement::Refused(number, place) => refused(number, place),
+        Refinement::Made(children, total) => {
+            vertices[0] = total;
+            children as u64
         }
     }
 }
