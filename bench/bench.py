@@ -39,6 +39,7 @@ GRID_CALLS = ["reduce", "nvertices", "is_orientation_preserving", "cell_words", 
 LIST_CALLS = ["cells", "edges", "facets", "border", "orientation", "orient_by", "ordering", "induced_orientation"]
 REFINE_CALLS = ["refine", "refine_with"]
 NOT_IN_RUST = {"edge_length_sq"}
+CONSTANT = {"nvertices", "is_orientation_preserving"}          # made a thousand times in one run: they do not grow
 
 
 def coherent(d, ws):
@@ -109,7 +110,7 @@ def counted(program, function, lines):
         found = re.search(r"Collected : (\d+)", p.stderr)
         if p.returncode or not found:
             sys.exit(program + ": " + p.stderr)
-        out.append([float(found[1]), 0])
+        out.append([float(found[1]) / (1000 if CONSTANT & set(line.split()[:2]) else 1), 0])
     return out
 
 
@@ -131,7 +132,7 @@ def main():
     print("%-26s %-26s %12s %12s %8s %12s %7s" % ("call", "input", "ours", "Rust", "ratio", "Rust alone", "growth"))
     for i, (call, name, whole, quarter) in enumerate(table):
         a, b = ours[2 * i][0], ours[2 * i + 1][0]
-        growth = "%7.1f" % (a / b * 4 * quarter.cells / whole.cells) if call not in ("nvertices", "is_orientation_preserving") else "      -"
+        growth = "%7.1f" % (a / b * 4 * quarter.cells / whole.cells) if call not in CONSTANT else "      -"
         if call in NOT_IN_RUST:
             print("%-26s %-26s %12s %12s %8s %12s %s" % (call, name, shown(a), "-", "-", "-", growth))
             continue
