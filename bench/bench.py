@@ -1,5 +1,7 @@
-"""bench.py OURS RUST: the same calls on the same inputs timed in both programs, at the limits and at a quarter of their size. One line a call: the median of each, the ratio,
-and how our time grows from the quarter to the whole, set to four times the cells (linear: about 4)."""
+"""bench.py OURS RUST [count]: the same calls on the same inputs timed in both programs, at the limits and at a quarter of their size. One line a call: the median of each, the
+ratio, and how our time grows from the quarter to the whole, set to four times the cells (linear: about 4). With `count` instructions are counted instead, by valgrind: the same
+whatever else the machine does."""
+import re
 import subprocess
 import sys
 
@@ -37,6 +39,7 @@ GRID_CALLS = ["reduce", "nvertices", "is_orientation_preserving", "cell_words", 
 LIST_CALLS = ["cells", "edges", "facets", "border", "orientation", "orient_by", "ordering", "induced_orientation"]
 REFINE_CALLS = ["refine", "refine_with"]
 NOT_IN_RUST = {"edge_length_sq"}
+CONSTANT = {"nvertices", "is_orientation_preserving"}          # made a thousand times in one run: they do not grow
 
 
 def coherent(d, ws):
@@ -98,19 +101,38 @@ def run(program, lines):
     return [[float(x) for x in line.split()] for line in p.stdout.splitlines()]
 
 
+def counted(program, function, lines):
+    """the instructions of one run of each line, in the function alone"""
+    out = []
+    for line in lines:
+        tool = ["valgrind", "--tool=callgrind", "--callgrind-out-file=/dev/null", "--toggle-collect=" + function, program, "1"]
+        p = subprocess.run(tool, input=line + "\n", capture_output=True, text=True)
+        found = re.search(r"Collected : (\d+)", p.stderr)
+        if p.returncode or not found:
+            sys.exit(program + ": " + p.stderr)
+        out.append([float(found[1]) / (1000 if CONSTANT & set(line.split()[:2]) else 1), 0])
+    return out
+
+
 def shown(ns):
+    if "count" in sys.argv:
+        return "%12d" % ns
     return "%9.3f us" % (ns / 1e3) if ns < 1e6 else "%9.3f ms" % (ns / 1e6)
 
 
 def main():
     table = list(cases())
-    ours = run(sys.argv[1], [c.ours for row in table for c in row[2:]])
     asked = [row for row in table if row[0] not in NOT_IN_RUST]
-    rust = iter(run(sys.argv[2], [row[2].rust for row in asked]))
+    if "count" in sys.argv:
+        ours = counted(sys.argv[1], "once", [c.ours for row in table for c in row[2:]])
+        rust = iter(counted(sys.argv[2], "bench::timed*", [row[2].rust for row in asked]))
+    else:
+        ours = run(sys.argv[1], [c.ours for row in table for c in row[2:]])
+        rust = iter(run(sys.argv[2], [row[2].rust for row in asked]))
     print("%-26s %-26s %12s %12s %8s %12s %7s" % ("call", "input", "ours", "Rust", "ratio", "Rust alone", "growth"))
     for i, (call, name, whole, quarter) in enumerate(table):
         a, b = ours[2 * i][0], ours[2 * i + 1][0]
-        growth = "%7.1f" % (a / b * 4 * quarter.cells / whole.cells) if call not in ("nvertices", "is_orientation_preserving") else "      -"
+        growth = "%7.1f" % (a / b * 4 * quarter.cells / whole.cells) if call not in CONSTANT else "      -"
         if call in NOT_IN_RUST:
             print("%-26s %-26s %12s %12s %8s %12s %s" % (call, name, shown(a), "-", "-", "-", growth))
             continue

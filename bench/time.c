@@ -27,7 +27,7 @@ static uint32_t d, r;
 /* how many runs of the call are timed together */
 static int batch(const char *call) { return strcmp(call, "nvertices") && strcmp(call, "is_orientation_preserving") ? 1 : 1000; }
 
-static uint64_t once(const char *call) {
+__attribute__((noinline)) static uint64_t once(const char *call) {
     uint32_t total;
     double squares[2];
     if (!strcmp(call, "reduce")) {

@@ -227,7 +227,7 @@ def refine(j, c):
     refinement(j, c, order, r if j.rnd.random() < 0.5 else inputs.refinement_for(j.rnd, c.d, most))
 
 
-CELL_CALLS = [cells, edges, facets, border, orientation, orient_by, ordering, refine]
+CELL_CALLS = [cells, edges, facets, border, orientation, orient_by, ordering]
 
 
 # ---- grids
