@@ -21,6 +21,8 @@ use Rattle.gridorder.specs.declared.Triangulated.{Triangulated}
 use Rattle.gridorder.specs.declared.Triangulated.the-variants as Triangulated
 use Rattle.gridlengths.specs.declared.EdgeLength.{EdgeLength}
 use Rattle.gridlengths.specs.declared.EdgeLength.the-variants as EdgeLength
+use Rattle.refusal.specs.declared.Answer.{Answer}
+use Rattle.refusal.specs.declared.Answer.the-variants as Answer
 use Rattle.refined.specs.declared.Refinement.{Refinement}
 use Rattle.refined.specs.declared.Refinement.the-variants as Refinement
 use Rattle.passing.specs.Given.{axesOf}
@@ -102,3 +104,13 @@ pub record Said {S : Type 0} (code : S → ℕ) (Meets : S → Type 0) (r : ℕ)
   pub answer : S
   pub coded : r ≡ code answer
   pub meets : Meets answer
+
+-- a number, where there is no refusal
+abbrev pub answerCode : Answer → ℕ → ℕ
+answerCode Answer.Fine n = n
+answerCode (Answer.Refused number place) n = refusedCode number place
+
+-- the list that is handed out, and on a refusal what stood there
+abbrev pub answerList : {A : Type 0} → Answer → List A → List A → List A
+answerList Answer.Fine list old = list
+answerList (Answer.Refused number place) list old = old

@@ -11,3 +11,4 @@ pub mod grids;
 pub mod lengths;
 pub mod orders;
 pub mod refinements;
+pub mod values;
