@@ -2,3 +2,4 @@ pub mod Space
 pub mod Reading
 pub mod Coarse
 pub mod Promise
+pub mod Work
