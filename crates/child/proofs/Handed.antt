@@ -15,10 +15,11 @@ use lib.ListN.{length, getD, take, drop, length-append, length-map}
 use lib.Seq.{take-at, drop-append-add}
 use Rattle.refusal.specs.declared.Answer.the-variants.{Fine, Refused}
 use Rattle.refusal.specs.Table.{tooShort}
+use Rattle.lists.specs.Rows.{flat}
+use Rattle.lists.proofs.Laws.{map-at}
 use Rattle.lists.proofs.Words.{first-none, first-at}
 use Rattle.complex.specs.Facets.{cellAt}
 use Rattle.lattice.specs.Children.{gather}
-use Rattle.lattice.specs.Pattern.{flat}
 use Rattle.lattice.specs.Refine.{positives, births, share}
 use Rattle.lattice.proofs.Count.{length-gather}
 use Rattle.lattice.proofs.Tab.{length-tab, getD-tab}
@@ -55,11 +56,6 @@ drop-map f (suc i) (x ∷ l) = drop-map f i l
 
 part-map : {A B : Type 0} (f : A → B) (s k : ℕ) (l : List A) → part s k (map f l) ≡ map f (part s k l)
 part-map f s k l = ap (take s) (drop-map f (k * s) l) ∙ take-map f s (drop (k * s) l)
-
-map-at : (f : List ℕ → ℕ) (ls : List (List ℕ)) (k : ℕ) → k < length ls → getD (map f ls) k 0 ≡ f (getD ls k [])
-map-at f [] k h = absurd (omega arith)
-map-at f (x ∷ ls) zero h = refl
-map-at f (x ∷ ls) (suc k) h = map-at f ls k (omega arith)
 
 -- ---- the tests
 inside : (n k m long : ℕ) → long ≡ m * n → k < m → reaches n k long ≡ true
@@ -100,7 +96,7 @@ module _ (d R n : ℕ) (cs ks : List (List ℕ)) where
         lt-ltb c (length (resultsOf d R n cs ks .parents-out)) (omega (arith, many-parents)),
         inside 9 c (length (refinedCells d R n ks)) (length (resultsOf d R n cs ks .jacobians-out)) many-floats h,
         inside 9 c (length (refinedCells d R n ks)) (length (resultsOf d R n cs ks .wholes-out)) many-wholes h,
-        map-at (parentOf d R n ks) (refinedCells d R n ks) c h,
+        map-at (parentOf d R n ks) (refinedCells d R n ks) c [] 0 h,
         gather-part floatBy 9 (λ x. refl) (refinedCells d R n ks) c h,
         gather-part wholeBy 9 (λ x. refl) (refinedCells d R n ks) c h,
       )
