@@ -27,7 +27,6 @@ use Rattle.births.specs.Support.{none, supporters, shares, padded}
 use Rattle.births.specs.Promise.{birthWeights}
 use Rattle.births.proofs.Points.{supporters-high, supporters-past}
 use Rattle.jacobian.specs.Entries.{nought, shareOf, wholeOf, floatOf}
-use Rattle.ordering.specs.Order as order
 use Rattle.refined.specs.Refined.{refinedCells, parentOf}
 use Rattle.refined.specs.Results.{resultsOf}
 use Rattle.child.specs.Reading.{part, reaches, childOf, noChild, four, support, birthOf, noBirth, wordIn}
@@ -174,22 +173,20 @@ support-padded size l low fits =
 
 -- ---- the words
 -- words of one length, one after the other
-words-long : (s : ℕ) (ks : List (List ℕ)) → ((k : ℕ) → k < length ks → length (cellAt ks k) ≡ s) → length (order.flat ks) ≡ length ks * s
-unfolding order.flat
+words-long : (s : ℕ) (ks : List (List ℕ)) → ((k : ℕ) → k < length ks → length (cellAt ks k) ≡ s) → length (flat ks) ≡ length ks * s
 words-long s [] long = sym (zero-mul s)
-words-long s (w ∷ ks) long = omega (arith, length-append w (order.flat ks), long 0 (omega arith), words-long s ks (λ k h. long (suc k) (omega arith)), suc-mul (length ks) s)
+words-long s (w ∷ ks) long = omega (arith, length-append w (flat ks), long 0 (omega arith), words-long s ks (λ k h. long (suc k) (omega arith)), suc-mul (length ks) s)
 
-words-part : (s : ℕ) (ks : List (List ℕ)) → ((k : ℕ) → k < length ks → length (cellAt ks k) ≡ s) → (k : ℕ) → k < length ks → part s k (order.flat ks) ≡ cellAt ks k
-unfolding order.flat
+words-part : (s : ℕ) (ks : List (List ℕ)) → ((k : ℕ) → k < length ks → length (cellAt ks k) ≡ s) → (k : ℕ) → k < length ks → part s k (flat ks) ≡ cellAt ks k
 words-part s [] long k h = absurd (omega arith)
-words-part s (w ∷ ks) long zero h = ap (λ (i : ℕ). take s (drop i (w ++ order.flat ks))) (zero-mul s) ∙ take-at w (order.flat ks) s (long 0 (omega arith))
+words-part s (w ∷ ks) long zero h = ap (λ (i : ℕ). take s (drop i (w ++ flat ks))) (zero-mul s) ∙ take-at w (flat ks) s (long 0 (omega arith))
 words-part s (w ∷ ks) long (suc k) h =
     let e : suc k * s ≡ length w + k * s = omega (arith, suc-mul k s, long 0 (omega arith)) in
-    ap (λ (i : ℕ). take s (drop i (w ++ order.flat ks))) e ∙ ap (take s) (drop-append-add w (order.flat ks) (k * s)) ∙ words-part s ks (λ c q. long (suc c) (omega arith)) k (omega arith)
+    ap (λ (i : ℕ). take s (drop i (w ++ flat ks))) e ∙ ap (take s) (drop-append-add w (flat ks) (k * s)) ∙ words-part s ks (λ c q. long (suc c) (omega arith)) k (omega arith)
 
-pub word-handed : (d : ℕ) → d ≤ 3 → (ks : List (List ℕ)) → ((k : ℕ) → k < length ks → length (cellAt ks k) ≡ suc d) → (k : ℕ) → k < length ks → wordIn d k (order.flat ks) ≡ cellAt ks k
+pub word-handed : (d : ℕ) → d ≤ 3 → (ks : List (List ℕ)) → ((k : ℕ) → k < length ks → length (cellAt ks k) ≡ suc d) → (k : ℕ) → k < length ks → wordIn d k (flat ks) ≡ cellAt ks k
 word-handed d s ks long k h =
-    rw (le-leb d 3 s, inside (suc d) k (length ks) (length (order.flat ks)) (words-long (suc d) ks long) h) (words-part (suc d) ks long k h)
+    rw (le-leb d 3 s, inside (suc d) k (length ks) (length (flat ks)) (words-long (suc d) ks long) h) (words-part (suc d) ks long k h)
 
-pub word-past : (d : ℕ) → d ≤ 3 → (ks : List (List ℕ)) → ((k : ℕ) → k < length ks → length (cellAt ks k) ≡ suc d) → (k : ℕ) → length ks ≤ k → wordIn d k (order.flat ks) ≡ []
-word-past d s ks long k h = rw (le-leb d 3 s, outside (suc d) k (length ks) (length (order.flat ks)) (omega arith) (words-long (suc d) ks long) h)
+pub word-past : (d : ℕ) → d ≤ 3 → (ks : List (List ℕ)) → ((k : ℕ) → k < length ks → length (cellAt ks k) ≡ suc d) → (k : ℕ) → length ks ≤ k → wordIn d k (flat ks) ≡ []
+word-past d s ks long k h = rw (le-leb d 3 s, outside (suc d) k (length ks) (length (flat ks)) (omega arith) (words-long (suc d) ks long) h)
