@@ -211,6 +211,22 @@ uint64_t planner_refine_with(
     uint32_t *rows, size_t rows_len, uint32_t *spare, size_t spare_len, uint32_t *counts, size_t counts_len, uint32_t *sorted, size_t sorted_len, uint32_t *firsts,
     size_t firsts_len, uint32_t *buckets, size_t buckets_len, uint32_t vertices[1]);
 
+/* ---- one child, one birth by number, read from the lists that a refinement handed out. (The word of cell number k of an order or a cell list is the d+1 numbers from
+ * place k * (d+1) of its list on.) */
+
+/* The child of that number. Returns its parent; jacobian gets its nine floats, whole its nine whole numbers over r. Refused: 12 where a list has none of that number; then
+ * the arrays keep their values. */
+uint64_t planner_child_of(
+    uint32_t number, const uint32_t *parents, size_t parents_len, const double *jacobians, size_t jacobians_len, const int32_t *wholes, size_t wholes_len,
+    double jacobian[9], int32_t whole[9]);
+
+/* The birth of that number, counted from the first new vertex on. Returns how many coarse vertices support it; vertices gets these, weights their weights over r and shares
+ * weight times (1/r), with 4294967295, 0 and 0.0 past them. Refused: 1 where d is more than 3, 12 where a list has none of that number; then the arrays keep their
+ * values. */
+uint64_t planner_birth_of(
+    uint32_t d, uint32_t number, const uint32_t *birth_vertices, size_t birth_vertices_len, const uint32_t *birth_weights, size_t birth_weights_len,
+    const double *birth_shares, size_t birth_shares_len, uint32_t vertices[4], uint32_t weights[4], double shares[4]);
+
 #ifdef __cplusplus
 }
 #endif
