@@ -5,3 +5,4 @@ pub mod Entry
 pub mod Steps
 pub mod Determined
 pub mod Bound
+pub mod Figures
