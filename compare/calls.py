@@ -156,6 +156,77 @@ def ordering(j, c):
     j.call("planner_induced_orientation", [c.d], [("u32", c.ws), ("u32", order)], [], w)
 
 
+# ---- refinement
+
+REFINED = ["u32", "u32", "u32", "f64", "i32", "u32", "u32", "f64"]          # cells, words, parents, Jacobians twice, births: vertices, weights, shares
+
+
+def refine_need(d, n, r):
+    """the ten working lists of a refinement of words with n corners"""
+    children = min(n // (d + 1) * (r if 1 <= r <= 64 else 1) ** d, 4096)
+    corners = children * (d + 1)
+    return [n, n, corners * (d + 1), 4 * n + 8 * corners, n + corners, n + corners, n + corners + 65, corners, children, 4096]
+
+
+def refined_lists(d, f):
+    """the result lists of a refinement, from the model"""
+    def wide(row, size, fill):
+        return list(row) + [fill] * (size - len(row))
+    jacobians = [m.bits(x) for row in f.floats for x in wide(row, 9, 0.0)]
+    wholes = [x for row in f.jacobians for x in wide(row, 9, 0)]
+    vertices = [x for b in f.births for x in wide([v for v, _ in b], d + 1, m.NO_VERTEX)]
+    weights = [x for b in f.births for x in wide([w for _, w in b], d + 1, 0)]
+    shares = [m.bits(x) for b in f.births for x in wide([m.share(w, f.r) for _, w in b], d + 1, 0.0)]
+    return [flat(f.cells), flat(f.words), f.parents, jacobians, wholes, vertices, weights, shares]
+
+
+def rust_lists(d, f):
+    """the same from the Rust's answer, without the whole numbers"""
+    births = [[p.split(":") for p in b.split(",")] for b in f["births"].split(";")] if f["births"] not in ("-", "") else []
+    children = [c.split(":") for c in f["children"].split(";")]
+    jacobians = [x for c in children for x in ([int(y, 16) for y in c[1].split(",")] if c[1] else []) + [0] * (9 - d * d)]
+    vertices = [x for b in births for x in [int(v) for v, _ in b] + [m.NO_VERTEX] * (d + 1 - len(b))]
+    shares = [x for b in births for x in [int(y, 16) for _, y in b] + [0] * (d + 1 - len(b))]
+    return [words(f["cells"]), words(f["words"]), [int(c[0]) for c in children], jacobians, vertices, shares]
+
+
+def refinement(j, c, order, r):
+    """one refinement, by the caller's words where there is an order"""
+    name = "planner_refine" if order is None else "planner_refine_with"
+    lists = [("u32", c.ws)] + ([] if order is None else [("u32", order)])
+    need_ = refine_need(c.d, len(c.ws), r) if c.need else None
+    late, results, vertices = c.late, [], 0
+    if c.fine:
+        by = c.cells if order is None else m.order_of(c.d, c.cells, order)
+        if by is None:
+            late = (16, 0)
+        elif not 1 <= r <= 64:
+            late = (11, 0)
+        elif len(c.cells) * r ** c.d > 4096:
+            late = (3, 0)
+        elif m.refinement_count(c.d, c.cells, r) + max(c.ws) + 1 > 4096:
+            late = (6, 0)
+        else:
+            f = m.Refined(c.d, c.cells, by, r)
+            results, vertices = refined_lists(c.d, f), f.coarse + len(f.births)
+            rust = j.rust.fields("refine %s %d" % (c.line, r) if order is None else "refinewith %s %s %d" % (c.line, text(order, c.d + 1), r))
+            j.agree("refinement by %d of %s" % (r, c.line[:200]), [results[i] for i in (0, 1, 2, 3, 5, 7)] + [vertices],
+                    rust_lists(c.d, rust) + [int(rust["nvertices"])] if rust else None)
+    want = Want(c.early, need_, late, value=len(results[2]) if results else 0, results=list(zip(REFINED, results)))
+    j.call(name, [c.d, r], lists, REFINED, want, fixed=("u32", [vertices] if results else [], 1))
+
+
+def refine(j, c):
+    """along the sorted vertices, and along an order"""
+    if [name for name in ("planner_refine", "planner_refine_with") if j.lacks(name)]:
+        return
+    most = len(c.cells) if c.fine else 1
+    r = inputs.refinement_for(j.rnd, c.d, most)
+    refinement(j, c, None, r)
+    order = inputs.order_for(j.rnd, c.d, c.cells) if c.fine else [j.rnd.randrange(5) for _ in range(j.rnd.randrange(9))]
+    refinement(j, c, order, r if j.rnd.random() < 0.5 else inputs.refinement_for(j.rnd, c.d, most))
+
+
 CELL_CALLS = [cells, edges, facets, border, orientation, orient_by, ordering]
 
 

@@ -13,11 +13,14 @@ from port import Port
 LATER = set()
 
 
-def cell_lists(j, lists):
-    for d, ws in lists:
+def cell_lists(j, lists, refined=1):
+    """every call on each list; of refinement, which has many and long results, on one list of so many"""
+    for i, (d, ws) in enumerate(lists):
         c = calls.Cells(j, d, ws)
         for call in calls.CELL_CALLS:
             call(j, c)
+        if i % refined == 0:
+            calls.refine(j, c)
 
 
 def grid(j, rnd, d, axes, sides):
@@ -48,8 +51,8 @@ def run(port, oracle, seed, count):
     """every small input, the inputs around each limit, and then at least COUNT random requests"""
     rnd = random.Random(seed)
     j = Judge(port, Rust(oracle), rnd)
-    cell_lists(j, inputs.small_lists())
-    cell_lists(j, inputs.limit_lists())
+    cell_lists(j, inputs.small_lists(), refined=8)
+    cell_lists(j, inputs.limit_lists(), refined=8)
     grids(j, rnd, inputs.small_grids())
     grids(j, rnd, inputs.limit_grids())
     begun = j.requests

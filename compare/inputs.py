@@ -237,6 +237,17 @@ def signs_for(rnd, cells, signs):
     return out
 
 
+def refinement_for(rnd, d, cells):
+    """a refinement number: mostly small, or as large as the limit of children allows and one more, or outside 1 to 64"""
+    k = rnd.random()
+    if k < 0.7:
+        return rnd.choice((1, 2, 2, 3, 3, 4))
+    if k < 0.8:
+        return rnd.choice((0, 65, 2 ** 32 - 1, 64))
+    most = next((r for r in range(64, 0, -1) if cells * r ** min(d, 3) <= (4096 if k > 0.995 else 100)), 1)
+    return rnd.choice((most, most, most + 1))
+
+
 # ---- grids
 
 def small_grids():

@@ -35,8 +35,14 @@ class Want:
 PATTERN = {"u32": 0xA5A5A500, "i32": -0x5A5A5B00, "f64": 0x7FF8DEADBEEF0000}     # none of these is a result
 
 
+FILLED = {}
+
+
 def filled(kind, n):
-    return [PATTERN[kind] + i % 251 for i in range(n)]
+    kept = FILLED.setdefault(kind, [])
+    if len(kept) < n:
+        kept += [PATTERN[kind] + i % 251 for i in range(len(kept), n)]
+    return kept[:n]
 
 
 class Judge:
@@ -71,10 +77,15 @@ class Judge:
                 out[i] = rnd.choice((exact[i] - 1, exact[i] - 1, 0))
         return out
 
-    def call(self, name, numbers, inputs, kinds, want, fixed=None):
-        """kinds: the kinds of the result lists. fixed: kind and values of a result of fixed length, and what it is filled with first."""
+    def lacks(self, name):
+        """whether the library has no such call yet"""
         if not self.port.has(name):
             self.missing.add(name)
+        return name in self.missing
+
+    def call(self, name, numbers, inputs, kinds, want, fixed=None):
+        """kinds: the kinds of the result lists. fixed: kind and values of a result of fixed length, and what it is filled with first."""
+        if self.lacks(name):
             return
         rnd = self.rnd
         refused = want.early or want.late
@@ -120,3 +131,4 @@ class Judge:
     # how many working lists a call has, where it is not four
     LISTS = {name: 0 for name in ("planner_torus", "planner_klein", "planner_moebius", "planner_quasi_uniform", "planner_reduce", "planner_nvertices",
                                   "planner_is_orientation_preserving", "planner_edge_length_sq")}
+    LISTS.update(planner_refine=10, planner_refine_with=10)

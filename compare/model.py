@@ -3,6 +3,7 @@
 Values come from the Rust wherever it answers; this model decides where the Rust has no limits, panics, or has no such list."""
 import math
 import struct
+from functools import lru_cache
 from itertools import combinations, permutations
 
 CELLS, VERTICES, MOST_D, MOST_R, NO_VERTEX = 4096, 4096, 3, 64, 4294967295
@@ -281,6 +282,7 @@ def length_of(values):
 
 # ---- refinement
 
+@lru_cache(maxsize=64)
 def lattice_children(d, r):
     """for each child of a cell, for each of its corners, the weights over the places of the cell's word"""
     orders = [tuple(reversed(o)) for o in permutations(range(d))]       # the Rust's sequence

@@ -32,6 +32,9 @@ class Sampler(Judge):
         super().__init__(None, rust, rnd)
         self.lines, self.most = [], most
 
+    def lacks(self, name):
+        return name not in KINDS
+
     def call(self, name, numbers, inputs_, kinds, want, fixed=None):
         kind = KINDS.get(name)
         if kind is None:

@@ -13,7 +13,7 @@
  * RESULT LISTS get exactly as many elements as the meaning of the call says, from the start; what lies past them keeps its values. A
  * refusal changes no result list. One that is too short is refused with 12.
  *
- * WORKING LISTS: keys, rows, spare, counts. A call says how many elements it needs of each; fewer are refused with 12. Their values before the
+ * WORKING LISTS: keys, rows, spare, counts (ten lists for a refinement). A call says how many elements it needs of each; fewer are refused with 12. Their values before the
  * call do not matter. After the call what is needed of them is all zero, unless the call was refused before it tested them: then they are as
  * they were. What lies past the need is never touched.
  *
@@ -176,6 +176,56 @@ uint64_t planner_ordering(
 uint64_t planner_induced_orientation(
     uint32_t d, const uint32_t *words, size_t n, const uint32_t *order, size_t order_len, uint32_t *keys, size_t keys_len, uint32_t *rows, size_t rows_len,
     uint32_t *spare, size_t spare_len, uint32_t *counts, size_t counts_len);
+
+/* ---- refinement: every cell is cut into r^d children, along a word of its vertices
+ *
+ * Results, m children in the colex order of the refined cells and b births, the new vertices in the order of their numbers, which follow the coarse ones:
+ *   out_cells        (d+1) * m   the refined cells, sorted
+ *   out_words        (d+1) * m   each child's word
+ *   parents          m           the coarse cell that a child lies in, by its place in planner_cells' list
+ *   jacobians        9 * m       d * d numbers by column, then zeros: column j is the child's sorted corner j+1 less its corner 0, in the parent's local coordinates
+ *   wholes           9 * m       the same times r, whole numbers
+ *   birth_vertices   (d+1) * b   the coarse vertices with a positive weight, rising, then PLANNER_NO_VERTEX
+ *   birth_weights    (d+1) * b   their weights, whole numbers over r, then 0
+ *   birth_shares     (d+1) * b   weight times (1/r), then 0.0
+ *   vertices[0]                  how many vertices there are, coarse and new together
+ * The call returns m. Refused: 1, 2, 3, 4, 6, 5, 12 (working lists), 7, 16 (planner_refine_with), 11 (r outside 1 to 64), 3 and 6 (of the refined complex), 12 (a result
+ * list). Working lists, where c is the lesser of 4,096 and (n / (d + 1)) * r^d (r as 1 where it is outside 1 to 64) and k = c * (d + 1): cells n, along n,
+ * pattern (d + 1) * k, keys 4 * n + 8 * k, rows n + k, spare n + k, counts n + k + 65, sorted k, firsts c, buckets 4,096. */
+
+/* Along each cell's sorted vertices. */
+uint64_t planner_refine(
+    uint32_t d, uint32_t r, const uint32_t *words, size_t n,
+    uint32_t *out_cells, size_t out_cells_len, uint32_t *out_words, size_t out_words_len, uint32_t *parents, size_t parents_len, double *jacobians, size_t jacobians_len,
+    int32_t *wholes, size_t wholes_len, uint32_t *birth_vertices, size_t birth_vertices_len, uint32_t *birth_weights, size_t birth_weights_len, double *birth_shares,
+    size_t birth_shares_len, uint32_t *cells, size_t cells_len, uint32_t *along, size_t along_len, uint32_t *pattern, size_t pattern_len, uint32_t *keys, size_t keys_len,
+    uint32_t *rows, size_t rows_len, uint32_t *spare, size_t spare_len, uint32_t *counts, size_t counts_len, uint32_t *sorted, size_t sorted_len, uint32_t *firsts,
+    size_t firsts_len, uint32_t *buckets, size_t buckets_len, uint32_t vertices[1]);
+
+/* Along the caller's word for each cell: one word for each cell, in any order. */
+uint64_t planner_refine_with(
+    uint32_t d, uint32_t r, const uint32_t *words, size_t n, const uint32_t *order, size_t order_len,
+    uint32_t *out_cells, size_t out_cells_len, uint32_t *out_words, size_t out_words_len, uint32_t *parents, size_t parents_len, double *jacobians, size_t jacobians_len,
+    int32_t *wholes, size_t wholes_len, uint32_t *birth_vertices, size_t birth_vertices_len, uint32_t *birth_weights, size_t birth_weights_len, double *birth_shares,
+    size_t birth_shares_len, uint32_t *cells, size_t cells_len, uint32_t *along, size_t along_len, uint32_t *pattern, size_t pattern_len, uint32_t *keys, size_t keys_len,
+    uint32_t *rows, size_t rows_len, uint32_t *spare, size_t spare_len, uint32_t *counts, size_t counts_len, uint32_t *sorted, size_t sorted_len, uint32_t *firsts,
+    size_t firsts_len, uint32_t *buckets, size_t buckets_len, uint32_t vertices[1]);
+
+/* ---- one child, one birth by number, read from the lists that a refinement handed out. (The word of cell number k of an order or a cell list is the d+1 numbers from
+ * place k * (d+1) of its list on.) */
+
+/* The child of that number. Returns its parent; jacobian gets its nine floats, whole its nine whole numbers over r. Refused: 12 where a list has none of that number; then
+ * the arrays keep their values. */
+uint64_t planner_child_of(
+    uint32_t number, const uint32_t *parents, size_t parents_len, const double *jacobians, size_t jacobians_len, const int32_t *wholes, size_t wholes_len,
+    double jacobian[9], int32_t whole[9]);
+
+/* The birth of that number, counted from the first new vertex on. Returns how many coarse vertices support it; vertices gets these, weights their weights over r and shares
+ * weight times (1/r), with 4294967295, 0 and 0.0 past them. Refused: 1 where d is more than 3, 12 where a list has none of that number; then the arrays keep their
+ * values. */
+uint64_t planner_birth_of(
+    uint32_t d, uint32_t number, const uint32_t *birth_vertices, size_t birth_vertices_len, const uint32_t *birth_weights, size_t birth_weights_len,
+    const double *birth_shares, size_t birth_shares_len, uint32_t vertices[4], uint32_t weights[4], double shares[4]);
 
 #ifdef __cplusplus
 }

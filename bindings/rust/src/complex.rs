@@ -16,7 +16,7 @@ macro_rules! with_room {
 pub(crate) use with_room;
 
 /// How many corners a word list may have and still come to the test of the working lists; a longer one, or another dimension, is refused before it.
-fn corners(d: u32, words: &[u32]) -> usize {
+pub(crate) fn corners(d: u32, words: &[u32]) -> usize {
     if d <= 3 && words.len() <= 4096 * (d as usize + 1) {
         words.len()
     } else {

@@ -9,9 +9,9 @@ use native.Mathlib.Omega.{arith}
 use native.Mathlib.Numerals.{add-one}
 use lib.ListN.{length, getD, set, take, drop, length-append, length-drop, length-set, length-map, List·getD-append, List·getD-eq-default, drop-of-length-le, take-append-drop}
 use lib.Seq.{ext-getD, getD-drop, getD-set-same, getD-set-other, length-take-le, take-at, drop-at, drop-drop}
+use Rattle.lists.specs.Rows.{flat}
 use Rattle.sorting.specs.Gather.{row}
 use Rattle.lattice.specs.Lattice.{tab}
-use Rattle.lattice.specs.Pattern.{flat}
 use Rattle.lattice.specs.Refine.{positives}
 use Rattle.lattice.proofs.Tab.{length-tab, getD-tab}
 use Rattle.births.specs.Support.{none, supporters, shares, padded, rowOf, Named}

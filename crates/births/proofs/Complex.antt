@@ -1,15 +1,16 @@
 -- From the rows of the visits and their classes to the words and births of the refined complex. Assumes nothing.
 use mathlib.Core.Bool.{Bool, true, false, _||_}
 use mathlib.Core.Path.{_≡_, refl, sym, ap, _∙_, subst}
-use mathlib.Core.List.{List, [], _∷_, _++_, map, map-map, map-append, append-assoc, List·Memᴰ, List·Memᴰ·head, List·Memᴰ·tail, Memᴰ·of-map}
-use Prim.Native.Nat.{ℕ, zero, suc, _+_, _*_, _^_, _/_, _%_, _≤_, _<_}
-use native.Mathlib.Nat.{not-suc-le-zero, le-of-suc-le-suc, le-refl, suc-mul, mul-assoc}
+use mathlib.Core.List.{List, [], _∷_, _++_, map, map-map, map-append, List·Memᴰ, Memᴰ·of-map}
+use Prim.Native.Nat.{ℕ, suc, _+_, _*_, _^_, _/_, _%_, _≤_, _<_}
+use native.Mathlib.Nat.{le-refl, suc-mul, mul-assoc}
 use native.Mathlib.Omega.{arith}
 use lib.Dec.{eqb, ltb}
 use lib.ListN.{length, getD, take, drop, replicate, length-append, length-map, length-replicate, getD-replicate, take-append-drop}
-use lib.Seq.{ext-getD, getD-take, length-take-le, take-at, drop-at}
-use Rattle.lists.specs.Rows.{cut}
-use Rattle.lists.proofs.Laws.{front-part}
+use lib.Seq.{ext-getD, getD-take, length-take-le}
+use Rattle.lists.specs.Rows.{cut, flat}
+use Rattle.lists.proofs.Flat.{flat-append, cut-before}
+use Rattle.lists.proofs.Laws.{front-part, map-at}
 use Rattle.lists.proofs.Rows.{cut-length, cut-at}
 use Rattle.sorting.specs.Bucket.{cell}
 use Rattle.sorting.specs.Order.{Table}
@@ -21,7 +22,7 @@ use Rattle.facets.proofs.Laws.{row-fits, slots-some, row-cell-below, row-slot-b
 use Rattle.lattice.specs.Lattice.{tab}
 use Rattle.lattice.specs.Complex.{weigh}
 use Rattle.lattice.specs.Children.{gather, children, pick}
-use Rattle.lattice.specs.Pattern.{flat, patternOf}
+use Rattle.lattice.specs.Pattern.{patternOf}
 use Rattle.lattice.specs.Refine.{point, visits, positives, place, births-from, births, number, words, vertices}
 use Rattle.lattice.proofs.Tab.{length-tab}
 use Rattle.lattice.proofs.Count.{length-gather}
@@ -49,10 +50,6 @@ classed keys stride many m reps ids q long =
     }
 
 -- ---- visits by number
-pub getD-map : {A B : Type 0} (f : A → B) (l : List A) (i : ℕ) (a : A) (b : B) → i < length l → getD (map f l) i b ≡ f (getD l i a)
-getD-map f [] i a b h = absurd (not-suc-le-zero h)
-getD-map f (x ∷ l) zero a b h = refl
-getD-map f (x ∷ l) (suc i) a b h = getD-map f l i a b (le-of-suc-le-suc h)
 
 total-added : (ws : List ℕ) → total ws ≡ added ws
 total-added [] = refl
@@ -107,14 +104,10 @@ module _ (d R n m p : ℕ) (ws pattern : List ℕ) (corners : p ≡ R ^ d * suc 
       ∙ ap (λ (i : ℕ). getD (gather (λ k. map (λ us. tab n (weigh k us)) (patternOf d R)) (cut (suc d) m ws)) i []) (sym (row-is x m p h))
       ∙ gather-at (λ k. map (λ us. tab n (weigh k us)) (patternOf d R)) p [] [] (cut (suc d) m ws) (λ k i. parent-long k) (x / p) (x % p) (omega (arith, cut-length (suc d) m ws)) b
       ∙ ap (λ (k : List ℕ). getD (map (λ us. tab n (weigh k us)) (patternOf d R)) (x % p) []) (cut-at (suc d) m ws (x / p) a)
-      ∙ getD-map (λ us. tab n (weigh (row ws (suc d) (x / p)) us)) (patternOf d R) (x % p) [] [] (omega (arith, pattern-long))
+      ∙ map-at (λ us. tab n (weigh (row ws (suc d) (x / p)) us)) (patternOf d R) (x % p) [] [] (omega (arith, pattern-long))
       ∙ ap (λ (us : List ℕ). tab n (weigh (row ws (suc d) (x / p)) us)) (pattern-row (x % p) b)
 
 -- ---- words in one list
-flat-append : (a b : List (List ℕ)) → flat (a ++ b) ≡ flat a ++ flat b
-flat-append [] b = refl
-flat-append (x ∷ a) b = ap (λ (l : List ℕ). x ++ l) (flat-append a b) ∙ sym (append-assoc x (flat a) (flat b))
-
 child-words : (g : List ℕ → ℕ) (pt : List ℕ → List ℕ) (cs : List (List (List ℕ))) → flat (map (map (λ s. g (pt s))) cs) ≡ map g (gather (λ c. map pt c) cs)
 child-words g pt [] = refl
 child-words g pt (c ∷ cs) =
@@ -135,18 +128,6 @@ all-words R n g cs (k ∷ ks) =
 pub words-flat : (d R n : ℕ) (ks : List (List ℕ)) → flat (words d R n ks) ≡ map (number n (births d R n ks)) (visits d R n ks)
 words-flat d R n ks = all-words R n (number n (births d R n ks)) (children d R) ks
 
--- a flat list cut again
-cut-flat : (n : ℕ) (rs : List (List ℕ)) (rest : List ℕ) → ((r : List ℕ) → List·Memᴰ r rs → length r ≡ n) → cut n (length rs) (flat rs ++ rest) ≡ rs
-unfolding cut
-cut-flat n [] rest h = refl
-cut-flat n (r ∷ rs) rest h =
-    let e : length r ≡ n = h r (List·Memᴰ·head refl) in
-    let a : (r ++ flat rs) ++ rest ≡ r ++ (flat rs ++ rest) = append-assoc r (flat rs) rest in
-    let f : take n ((r ++ flat rs) ++ rest) ≡ r = ap (take n) a ∙ take-at r (flat rs ++ rest) n e in
-    let g : drop n ((r ++ flat rs) ++ rest) ≡ flat rs ++ rest = ap (drop n) a ∙ drop-at r (flat rs ++ rest) n e in
-    let i : cut n (length rs) (drop n ((r ++ flat rs) ++ rest)) ≡ rs = ap (cut n (length rs)) g ∙ cut-flat n rs rest (λ x m. h x (List·Memᴰ·tail m)) in
-    cc (f, i)
-
 word-long : (d R n : ℕ) (ks : List (List ℕ)) (w : List ℕ) → List·Memᴰ w (words d R n ks) → length w ≡ suc d
 word-long d R n ks w m =
     let (k, a, b) = of-gather (λ k. map (map (λ s. number n (births d R n ks) (point R n k s))) (children d R)) ks m in
@@ -158,7 +139,7 @@ pub words-cut : (d R n m p : ℕ) (ks : List (List ℕ)) (count : ℕ) (keys fre
     → cut (suc d) (length (words d R n ks)) corners ≡ words d R n ks
 words-cut d R n m p ks count keys fresh corners r =
     ap (cut (suc d) (length (words d R n ks))) (sym (take-append-drop (m * p) corners) ∙ ap (λ (l : List ℕ). l ++ drop (m * p) corners) (r .reads))
-    ∙ cut-flat (suc d) (words d R n ks) (drop (m * p) corners) (word-long d R n ks)
+    ∙ cut-before (suc d) (words d R n ks) (drop (m * p) corners) (word-long d R n ks)
 
 -- R^d words for each word
 pub words-many : (d R n : ℕ) (ks : List (List ℕ)) → length (words d R n ks) ≡ length ks * R ^ d
@@ -295,7 +276,7 @@ module _ (d R n m p : ℕ) (ws pattern keys rows spare counts : List ℕ) (q : R
             let g : x < m * p = omega (arith, length-take-le (m * p) corners long) in
             getD-take (m * p) corners x 0 g
             ∙ r .done x (omega arith)
-            ∙ sym (ap (λ (k : List ℕ). getD k x 0) (words-flat d R n (cut (suc d) m ws)) ∙ getD-map (number n (births d R n (cut (suc d) m ws))) (visits d R n (cut (suc d) m ws)) x [] 0 (omega arith)));
+            ∙ sym (ap (λ (k : List ℕ). getD k x 0) (words-flat d R n (cut (suc d) m ws)) ∙ map-at (number n (births d R n (cut (suc d) m ws))) (visits d R n (cut (suc d) m ws)) x [] 0 (omega arith)));
         below = low;
         supports =
             record {

@@ -3,8 +3,9 @@ use mathlib.Core.Path.{_≡_}
 use mathlib.Core.List.{List, [], map}
 use Prim.Native.Nat.{ℕ, suc, _+_, _*_, _^_, _≤_, _<_}
 use lib.ListN.{length, getD, take}
+use Rattle.lists.specs.Rows.{flat}
 use Rattle.sorting.specs.Gather.{row}
-use Rattle.lattice.specs.Pattern.{flat, patternOf}
+use Rattle.lattice.specs.Pattern.{patternOf}
 use Rattle.lattice.specs.Refine.{births, words}
 use Rattle.births.specs.Support.{none, supporters, shares, padded, rowOf, Named}
 

@@ -7,13 +7,14 @@ use native.Mathlib.Nat.{suc-mul, mul-le-mul-right, le-refl}
 use native.Mathlib.Omega.{arith}
 use lib.ListN.{length, getD, take, drop}
 use lib.Seq.{length-take-le, getD-take}
+use Rattle.lists.specs.Rows.{flat}
 use Rattle.sorting.specs.Bucket.{cell}
 use Rattle.sorting.specs.Order.{SameRow}
 use Rattle.sorting.specs.Gather.{row, rowsOf}
 use Rattle.sorting.specs.Distinct.{Distinct}
 use Rattle.sorting.proofs.Colex.{row-length, same-row}
 use Rattle.complex.specs.Cells.{place}
-use Rattle.complex.specs.Skeleton.{flat, inColex}
+use Rattle.complex.specs.Skeleton.{inColex}
 use Rattle.cells.specs.Named.{rowList, Naming, Named}
 use Rattle.cells.proofs.Words.{Word, Each, Rising, In, each-of, each-in, in-at, at-in, rising-by, one-list}
 use Rattle.cells.proofs.Order.{Colex, colex-irr, colex-trans, place-from, place-old, place-new, place-rising}

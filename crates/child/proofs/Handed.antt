@@ -15,10 +15,11 @@ use lib.ListN.{length, getD, take, drop, length-append, length-map}
 use lib.Seq.{take-at, drop-append-add}
 use Rattle.refusal.specs.declared.Answer.the-variants.{Fine, Refused}
 use Rattle.refusal.specs.Table.{tooShort}
+use Rattle.lists.specs.Rows.{flat}
+use Rattle.lists.proofs.Laws.{map-at}
 use Rattle.lists.proofs.Words.{first-none, first-at}
 use Rattle.complex.specs.Facets.{cellAt}
 use Rattle.lattice.specs.Children.{gather}
-use Rattle.lattice.specs.Pattern.{flat}
 use Rattle.lattice.specs.Refine.{positives, births, share}
 use Rattle.lattice.proofs.Count.{length-gather}
 use Rattle.lattice.proofs.Tab.{length-tab, getD-tab}
@@ -26,7 +27,6 @@ use Rattle.births.specs.Support.{none, supporters, shares, padded}
 use Rattle.births.specs.Promise.{birthWeights}
 use Rattle.births.proofs.Points.{supporters-high, supporters-past}
 use Rattle.jacobian.specs.Entries.{nought, shareOf, wholeOf, floatOf}
-use Rattle.ordering.specs.Order as order
 use Rattle.refined.specs.Refined.{refinedCells, parentOf}
 use Rattle.refined.specs.Results.{resultsOf}
 use Rattle.child.specs.Reading.{part, reaches, childOf, noChild, four, support, birthOf, noBirth, wordIn}
@@ -55,11 +55,6 @@ drop-map f (suc i) (x ∷ l) = drop-map f i l
 
 part-map : {A B : Type 0} (f : A → B) (s k : ℕ) (l : List A) → part s k (map f l) ≡ map f (part s k l)
 part-map f s k l = ap (take s) (drop-map f (k * s) l) ∙ take-map f s (drop (k * s) l)
-
-map-at : (f : List ℕ → ℕ) (ls : List (List ℕ)) (k : ℕ) → k < length ls → getD (map f ls) k 0 ≡ f (getD ls k [])
-map-at f [] k h = absurd (omega arith)
-map-at f (x ∷ ls) zero h = refl
-map-at f (x ∷ ls) (suc k) h = map-at f ls k (omega arith)
 
 -- ---- the tests
 inside : (n k m long : ℕ) → long ≡ m * n → k < m → reaches n k long ≡ true
@@ -100,7 +95,7 @@ module _ (d R n : ℕ) (cs ks : List (List ℕ)) where
         lt-ltb c (length (resultsOf d R n cs ks .parents-out)) (omega (arith, many-parents)),
         inside 9 c (length (refinedCells d R n ks)) (length (resultsOf d R n cs ks .jacobians-out)) many-floats h,
         inside 9 c (length (refinedCells d R n ks)) (length (resultsOf d R n cs ks .wholes-out)) many-wholes h,
-        map-at (parentOf d R n ks) (refinedCells d R n ks) c h,
+        map-at (parentOf d R n ks) (refinedCells d R n ks) c [] 0 h,
         gather-part floatBy 9 (λ x. refl) (refinedCells d R n ks) c h,
         gather-part wholeBy 9 (λ x. refl) (refinedCells d R n ks) c h,
       )
@@ -178,22 +173,20 @@ support-padded size l low fits =
 
 -- ---- the words
 -- words of one length, one after the other
-words-long : (s : ℕ) (ks : List (List ℕ)) → ((k : ℕ) → k < length ks → length (cellAt ks k) ≡ s) → length (order.flat ks) ≡ length ks * s
-unfolding order.flat
+words-long : (s : ℕ) (ks : List (List ℕ)) → ((k : ℕ) → k < length ks → length (cellAt ks k) ≡ s) → length (flat ks) ≡ length ks * s
 words-long s [] long = sym (zero-mul s)
-words-long s (w ∷ ks) long = omega (arith, length-append w (order.flat ks), long 0 (omega arith), words-long s ks (λ k h. long (suc k) (omega arith)), suc-mul (length ks) s)
+words-long s (w ∷ ks) long = omega (arith, length-append w (flat ks), long 0 (omega arith), words-long s ks (λ k h. long (suc k) (omega arith)), suc-mul (length ks) s)
 
-words-part : (s : ℕ) (ks : List (List ℕ)) → ((k : ℕ) → k < length ks → length (cellAt ks k) ≡ s) → (k : ℕ) → k < length ks → part s k (order.flat ks) ≡ cellAt ks k
-unfolding order.flat
+words-part : (s : ℕ) (ks : List (List ℕ)) → ((k : ℕ) → k < length ks → length (cellAt ks k) ≡ s) → (k : ℕ) → k < length ks → part s k (flat ks) ≡ cellAt ks k
 words-part s [] long k h = absurd (omega arith)
-words-part s (w ∷ ks) long zero h = ap (λ (i : ℕ). take s (drop i (w ++ order.flat ks))) (zero-mul s) ∙ take-at w (order.flat ks) s (long 0 (omega arith))
+words-part s (w ∷ ks) long zero h = ap (λ (i : ℕ). take s (drop i (w ++ flat ks))) (zero-mul s) ∙ take-at w (flat ks) s (long 0 (omega arith))
 words-part s (w ∷ ks) long (suc k) h =
     let e : suc k * s ≡ length w + k * s = omega (arith, suc-mul k s, long 0 (omega arith)) in
-    ap (λ (i : ℕ). take s (drop i (w ++ order.flat ks))) e ∙ ap (take s) (drop-append-add w (order.flat ks) (k * s)) ∙ words-part s ks (λ c q. long (suc c) (omega arith)) k (omega arith)
+    ap (λ (i : ℕ). take s (drop i (w ++ flat ks))) e ∙ ap (take s) (drop-append-add w (flat ks) (k * s)) ∙ words-part s ks (λ c q. long (suc c) (omega arith)) k (omega arith)
 
-pub word-handed : (d : ℕ) → d ≤ 3 → (ks : List (List ℕ)) → ((k : ℕ) → k < length ks → length (cellAt ks k) ≡ suc d) → (k : ℕ) → k < length ks → wordIn d k (order.flat ks) ≡ cellAt ks k
+pub word-handed : (d : ℕ) → d ≤ 3 → (ks : List (List ℕ)) → ((k : ℕ) → k < length ks → length (cellAt ks k) ≡ suc d) → (k : ℕ) → k < length ks → wordIn d k (flat ks) ≡ cellAt ks k
 word-handed d s ks long k h =
-    rw (le-leb d 3 s, inside (suc d) k (length ks) (length (order.flat ks)) (words-long (suc d) ks long) h) (words-part (suc d) ks long k h)
+    rw (le-leb d 3 s, inside (suc d) k (length ks) (length (flat ks)) (words-long (suc d) ks long) h) (words-part (suc d) ks long k h)
 
-pub word-past : (d : ℕ) → d ≤ 3 → (ks : List (List ℕ)) → ((k : ℕ) → k < length ks → length (cellAt ks k) ≡ suc d) → (k : ℕ) → length ks ≤ k → wordIn d k (order.flat ks) ≡ []
-word-past d s ks long k h = rw (le-leb d 3 s, outside (suc d) k (length ks) (length (order.flat ks)) (omega arith) (words-long (suc d) ks long) h)
+pub word-past : (d : ℕ) → d ≤ 3 → (ks : List (List ℕ)) → ((k : ℕ) → k < length ks → length (cellAt ks k) ≡ suc d) → (k : ℕ) → length ks ≤ k → wordIn d k (flat ks) ≡ []
+word-past d s ks long k h = rw (le-leb d 3 s, outside (suc d) k (length ks) (length (flat ks)) (omega arith) (words-long (suc d) ks long) h)

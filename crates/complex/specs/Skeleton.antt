@@ -7,11 +7,6 @@ use lib.ListN.{length}
 use Rattle.complex.specs.Cells.{place}
 use Rattle.complex.specs.Facets.{cellAt, facetAt, slots}
 
--- words one after the other
-abbrev pub flat : List (List ℕ) → List ℕ
-flat [] = []
-flat (w ∷ ws) = w ++ flat ws
-
 -- words of n numbers in colex order, without duplicates
 unfoldable pub inColex : ℕ → List (List ℕ) → List (List ℕ)
 inColex n [] = []

@@ -2,19 +2,18 @@
 -- that have the same vertices but for one in each are a facet in three cells, unless two of them are one cell. Assumes nothing.
 use mathlib.Core.Path.{_≡_, refl, sym, ap, subst, _∙_}
 use mathlib.Core.Bool.{false}
-use mathlib.Core.List.{List, [], _∷_, _++_, map}
+use mathlib.Core.List.{List, [], map}
 use Prim.Native.Nat.{ℕ, suc, _/_, _≤_, _<_}
 use native.Mathlib.Numerals.{add-one}
 use native.Mathlib.Decide.{decLt}
 use native.Mathlib.Omega.{arith}
-use lib.ListN.{length, getD, take, drop}
-use lib.Seq.{take-at, drop-at}
+use lib.ListN.{length, getD}
 use Rattle.refusal.specs.declared.Answer.the-variants.{Fine}
 use Rattle.lists.specs.Words.{hasRepeat}
 use Rattle.lists.specs.Rows.{cut, rows}
 use Rattle.lists.proofs.Rows.{cut-at}
+use Rattle.lists.proofs.Flat.{each-long, cut-flat}
 use Rattle.lists.proofs.Members.{Mem, Mem-of, Mem-at, Pairs-at}
-use Rattle.multiindex.specs.Permutation.{gather}
 use Rattle.multiindex.specs.Sort.{sortWord}
 use Rattle.multiindex.proofs.SortLaws.{sort-length}
 use Rattle.lattice.proofs.Tab.{getD-tab}
@@ -23,7 +22,7 @@ use Rattle.sorting.proofs.Colex.{row-cell}
 use Rattle.complex.specs.Cells.{inOrder}
 use Rattle.complex.specs.Cells as Complex
 use Rattle.complex.specs.Facets.{cellAt, facetAt, Mates, Crowded, Cells}
-use Rattle.cells.proofs.Words.{Word, Each, In, each-of, in-at, at-in}
+use Rattle.cells.proofs.Words.{Word, Each, In, each-in, each-of, in-at, at-in}
 use Rattle.cells.proofs.Order.{order-from, order-has}
 use Rattle.cells.proofs.Strict.{sort-strict}
 use Rattle.quotient.specs.declared.Grid.{Grid}
@@ -47,15 +46,6 @@ wordNo g x = map (vertexOf g) (cellNo g x)
 abbrev pub vertexNo : Grid → ℕ → ℕ → ℕ
 vertexNo g x j = vertexOf g (cornerOf g x j)
 
--- words of n numbers one after the other, cut into words of n numbers
-cut-flat : (n : ℕ) (ws : List Word) → Each (λ w. length w ≡ n) ws → cut n (length ws) (gather (λ w. w) ws) ≡ ws
-unfolding cut
-cut-flat n [] a = refl
-cut-flat n (w ∷ ws) a =
-    let e : take n (w ++ gather (λ w. w) ws) ≡ w = take-at w (gather (λ w. w) ws) n (a .0) in
-    let f : cut n (length ws) (drop n (w ++ gather (λ w. w) ws)) ≡ ws = ap (cut n (length ws)) (drop-at w (gather (λ w. w) ws) n (a .0)) ∙ cut-flat n ws (a .1) in
-    cc
-
 module _ (g : Grid) (fine : checkOf g ≡ Fine) where
   pub words-each : Each (λ w. length w ≡ suc (g .d)) (wordsOf g)
   words-each =
@@ -66,7 +56,8 @@ module _ (g : Grid) (fine : checkOf g ≡ Fine) where
   pub own-words : rows (suc (g .d)) (flatWords g) ≡ wordsOf g
   own-words =
       let c : length (flatWords g) / suc (g .d) ≡ cellsOf g = subst (λ (n : ℕ). length (flatWords g) / n ≡ cellsOf g) (add-one (g .d)) (words-count g fine) in
-      ap (λ (n : ℕ). cut (suc (g .d)) n (flatWords g)) (c ∙ sym (words-many g fine)) ∙ cut-flat (suc (g .d)) (wordsOf g) words-each
+      ap (λ (n : ℕ). cut (suc (g .d)) n (flatWords g)) (c ∙ sym (words-many g fine)) ∙ cut-flat (suc (g .d)) (wordsOf g)
+      (each-long (suc (g .d)) (wordsOf g) (λ c h. each-in (λ w. length w ≡ suc (g .d)) (getD (wordsOf g) c []) (wordsOf g) words-each (in-at (wordsOf g) c h)))
 
   pub glued-are : gluedCells g ≡ inOrder (suc (g .d)) (wordsOf g)
   unfolding Complex.cellsOf

@@ -1,7 +1,7 @@
 -- The glued edges as classes of visits: the ends of each visit, sorted, are its edge, and the distinct ones in order are the glued edges. Assumes nothing.
 use mathlib.Core.Path.{_≡_, refl, sym, ap, subst, _∙_}
 use mathlib.Core.Bool.{Bool, true, false, cond, _&&_}
-use mathlib.Core.List.{List, [], _∷_, _++_, map}
+use mathlib.Core.List.{List, [], _∷_, _++_, map, append-nil}
 use Prim.Native.Nat.{ℕ, zero, suc, _+_, _-_, _*_, _/_, _%_, _≤_, _<_, _^_, min, max, suc-le-suc}
 use native.Mathlib.Nat.{le-refl, mul-le-mul-left, mul-le-mul-right, mul-assoc}
 use native.Mathlib.Omega.{arith}
@@ -39,10 +39,6 @@ use Rattle.gridlengths.specs.Noted.{endOf, endsOf, oneEdge}
 use Rattle.gridlengths.specs.Lengths.{endsRoom}
 use Rattle.gridlengths.specs.Work.{VisitOf, Classed}
 use Rattle.gridlengths.proofs.Measuring.{visits-few, corner-at, cell-in, first-low, second-low}
-
-append-nil : (l : List ℕ) → l ++ [] ≡ l
-append-nil [] = refl
-append-nil (x ∷ l) = ap (λ (t : List ℕ). x ∷ t) (append-nil l)
 
 -- ---- two numbers sorted
 two-by : (a b : ℕ) (t : Bool) → ltb b a ≡ t → insertBy t a b [] (a ∷ []) ≡ min a b ∷ max a b ∷ []

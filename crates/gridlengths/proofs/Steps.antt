@@ -1,7 +1,7 @@
 -- The work of `edge_lengths_sq`, step by step: what each call asks follows from what the calls before it gave. Assumes nothing.
 use mathlib.Core.Path.{_≡_, refl, sym, ap, subst, _∙_}
 use mathlib.Core.Bool.{Bool, true, false, cond}
-use mathlib.Core.List.{List, [], _∷_, _++_, map}
+use mathlib.Core.List.{List, [], _∷_, _++_, map, append-nil}
 use Prim.Native.Nat.{ℕ, zero, suc, _+_, _-_, _*_, _≤_, _<_, min, max}
 use native.Mathlib.Numerals.{add-one}
 use native.Mathlib.Omega.{arith}
@@ -46,10 +46,6 @@ store-suc z (x ∷ xs) (y ∷ ys) (suc i) h k = ap (λ (l : List Float). x ∷ l
 
 pub store-length : (z : Float) (src dst : List Float) (i : ℕ) → i < length src → i < length dst → set (take i src ++ drop i dst) i (getD src i z) ≡ take (i + 1) src ++ drop (i + 1) dst
 store-length z src dst i h k = rw add-one (store-suc z src dst i h k)
-
-append-nil : (l : List Float) → l ++ [] ≡ l
-append-nil [] = refl
-append-nil (x ∷ l) = ap (λ (t : List Float). x ∷ t) (append-nil l)
 
 pub stored-lengths : (src dst : List Float) (i : ℕ) → length src ≤ i → length dst ≤ i → take i src ++ drop i dst ≡ src
 stored-lengths src dst i h k = rw (take-all i src h, drop-of-length-le dst k) (append-nil src)

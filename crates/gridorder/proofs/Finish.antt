@@ -9,7 +9,8 @@ use native.Mathlib.Omega.{arith}
 use lib.ListN.{length, getD, take, drop, length-append, length-drop, drop-of-length-le}
 use lib.Seq.{length-take-le, take-at, drop-at, drop-drop, take-all, getD-take, getD-drop}
 use Rattle.refusal.specs.Table.{crowdedFacet}
-use Rattle.lists.specs.Rows.{cut, rows}
+use Rattle.lists.specs.Rows.{cut, rows, flat}
+use Rattle.lists.proofs.Flat.{flat-cut}
 use Rattle.lists.proofs.Rows.{cut-length, cut-at}
 use Rattle.lists.proofs.Words.{tail-part}
 use Rattle.multiindex.specs.Sort.{sortWord}
@@ -31,9 +32,9 @@ use Rattle.gridwords.proofs.Good.{words-count}
 use Rattle.gridwords.proofs.Corners.{dim}
 use Rattle.gridmesh.specs.Words.{gluedCells, cornersOf}
 use Rattle.gridmesh.proofs.Steps.{meeting, corners-few}
-use Rattle.ordering.specs.Order.{wordOf, flat}
+use Rattle.ordering.specs.Order.{wordOf}
 use Rattle.ordering.specs.Agree.{Agreeing}
-use Rattle.ordering.proofs.Lists.{flat-cut, cut-front, front-at}
+use Rattle.ordering.proofs.Lists.{cut-front, front-at}
 use Rattle.ordering.proofs.Steps.{need-bound}
 use Rattle.ordering.proofs.Orders.{word-found, by-cell-at, by-cell-rows}
 use Rattle.gridorder.specs.declared.Triangulated.{Triangulated}

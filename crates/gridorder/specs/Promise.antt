@@ -7,13 +7,13 @@ use Rattle.refusal.specs.declared.Room.{Room}
 use Rattle.refusal.specs.Table.{crowdedFacet, tooShort}
 use Rattle.refusal.specs.Lent.{onto, lengths, Cleared}
 use Rattle.refusal.specs.Call.{Comes}
-use Rattle.lists.specs.Rows.{rows}
+use Rattle.lists.specs.Rows.{rows, flat}
 use Rattle.complex.specs.Facets.{Crowded}
 use Rattle.quotient.specs.declared.Grid.{Grid}
 use Rattle.quotient.specs.Shape.{checkOf}
 use Rattle.gridwords.specs.Cells.{flatWords}
 use Rattle.gridmesh.specs.Words.{gluedCells, cornersOf}
-use Rattle.ordering.specs.Order.{IsOrder, AgreeOnFacets, byCell, flat}
+use Rattle.ordering.specs.Order.{IsOrder, AgreeOnFacets, byCell}
 use Rattle.ordering.specs.Promise.{orderNeed}
 use Rattle.gridorder.specs.declared.Triangulated.{Triangulated}
 use Rattle.gridorder.specs.declared.Triangulated.the-variants.{Ordered, Unordered, Refused}

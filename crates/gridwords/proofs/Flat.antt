@@ -7,15 +7,13 @@ use native.Mathlib.Nat.{suc-mul, zero-mul, mul-le-mul-right, div-add-mod', div-l
 use native.Mathlib.Omega.{arith}
 use lib.ListN.{length, getD, length-append, List·getD-append}
 use lib.Seq.{getD-append-add}
+use Rattle.lists.specs.Rows.{flat}
 use Rattle.multiindex.specs.Permutation.{tab, gather}
 use Rattle.lattice.proofs.Tab.{list-tab, getD-tab}
 use Rattle.cells.proofs.Words.{Word, In}
 use Rattle.quotient.proofs.Laws.{lt-or-ge}
 
 -- ---- words of n numbers, one after the other
-abbrev pub flat : List (List ℕ) → List ℕ
-flat ws = gather (λ w. w) ws
-
 pub flat-length : (n count : ℕ) (F : ℕ → List ℕ) → ((x : ℕ) → x < count → length (F x) ≡ n) → length (flat (tab count F)) ≡ count * n
 flat-length n zero F h = sym (zero-mul n)
 flat-length n (suc count) F h =

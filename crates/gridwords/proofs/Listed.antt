@@ -14,7 +14,9 @@ use lib.ListN.{length, getD, take, length-map}
 use lib.Seq.{take-all}
 use borrow.Author.Tests.{ltb-true, ltb-false, le-ltb}
 use Rattle.refusal.specs.declared.Answer.the-variants.{Fine}
-use Rattle.multiindex.specs.Permutation.{tab, upto, gather, orders, orderOf}
+use Rattle.lists.specs.Rows.{flat}
+use Rattle.lists.proofs.Laws.{map-at}
+use Rattle.multiindex.specs.Permutation.{tab, upto, orders, orderOf}
 use Rattle.multiindex.specs.Sort.{insertBy, insert, sortWord}
 use Rattle.lattice.proofs.Tab.{length-tab, getD-tab, map-tab, tab-ext}
 use Rattle.lists.proofs.Members.{All, All-at, All-of, Pairs, Pairs-of}
@@ -222,11 +224,6 @@ module _ (g : Grid) (fine : checkOf g ≡ Fine) where
   listed = one-list (Colex (suc (g .d))) (colex-irr (suc (g .d))) (colex-trans (suc (g .d))) (gridCells g) (tab (cellsOf g) (cellNo g)) (order-rising (suc (g .d)) (chains g)) cells-rise listed-in in-listed
 
   -- the word of cell x, and number i of the flat list
-  map-at : (f : ℕ → ℕ) (l : List ℕ) (i : ℕ) → i < length l → getD (map f l) i 0 ≡ f (getD l i 0)
-  map-at f [] i h = absurd (let w : ⊥ = omega arith in w)
-  map-at f (x ∷ l) zero h = refl
-  map-at f (x ∷ l) (suc i) h = map-at f l i (omega arith)
-
   pub words-tab : wordsOf g ≡ tab (cellsOf g) (λ x. map (vertexOf g) (cellNo g x))
   words-tab = ap (map (map (vertexOf g))) listed ∙ map-tab (map (vertexOf g)) (cellsOf g) (cellNo g)
 
@@ -235,10 +232,10 @@ module _ (g : Grid) (fine : checkOf g ≡ Fine) where
 
   pub flat-words : flatWords g ≡ tab (cellsOf g * suc (g .d)) (λ i. vertexOf g (cornerOf g (i / suc (g .d)) (i % suc (g .d))))
   flat-words =
-      ap (gather (λ w. w)) words-tab
+      ap flat words-tab
       ∙ flat-tab (suc (g .d)) (cellsOf g) (λ x. map (vertexOf g) (cellNo g x)) (omega arith) (λ x h. word-length x)
       ∙ tab-ext (cellsOf g * suc (g .d)) _ _
-      (λ i h. map-at (vertexOf g) (cellNo g (i / suc (g .d))) (i % suc (g .d)) (rw (cell-length (i / suc (g .d))) (mod-lt i (omega arith))))
+      (λ i h. map-at (vertexOf g) (cellNo g (i / suc (g .d))) (i % suc (g .d)) 0 0 (rw (cell-length (i / suc (g .d))) (mod-lt i (omega arith))))
 
   pub words-long : length (flatWords g) ≡ cellsOf g * suc (g .d)
   words-long = ap length flat-words ∙ length-tab (cellsOf g * suc (g .d)) _

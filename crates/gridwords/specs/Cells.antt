@@ -2,6 +2,7 @@
 -- sorted before the words are read off. Assumes nothing.
 use mathlib.Core.List.{List, [], _∷_, map}
 use Prim.Native.Nat.{ℕ, suc, _+_, _/_, _%_}
+use Rattle.lists.specs.Rows.{flat}
 use Rattle.multiindex.specs.Permutation.{upto, gather, same, orders}
 use Rattle.quotient.specs.declared.Grid.{Grid}
 use Rattle.quotient.specs.Fold.{product}
@@ -40,4 +41,4 @@ abbrev pub wordsOf : Grid → List (List ℕ)
 wordsOf g = map (map (vertexOf g)) (gridCells g)
 
 abbrev pub flatWords : Grid → List ℕ
-flatWords g = gather (λ w. w) (wordsOf g)
+flatWords g = flat (wordsOf g)

@@ -7,11 +7,12 @@ use Prim.Native.Nat.{ℕ, zero, suc, _+_, _*_, _-_, _^_, _≤_, _<_, suc-le-suc}
 use native.Mathlib.Nat.{not-suc-le-zero, le-of-suc-le-suc, suc-mul, zero-mul, mul-assoc, pow-zero, pow-suc}
 use native.Mathlib.Omega.{arith}
 use lib.ListN.{length, getD, take, drop, length-append, length-map}
-use lib.Seq.{take-at, drop-at, drop-drop}
+use Rattle.lists.specs.Rows.{flat}
+use Rattle.lists.proofs.Flat.{flat-length, flat-at}
 use Rattle.lattice.specs.Lattice.{tab, Falls, weights}
 use Rattle.lattice.specs.Complex.{same, weigh}
 use Rattle.lattice.specs.Children.{gather, children}
-use Rattle.lattice.specs.Pattern.{flat, patternOf}
+use Rattle.lattice.specs.Pattern.{patternOf}
 use Rattle.lattice.specs.Refine.{point, visits}
 use Rattle.lattice.proofs.Tab.{step, step-yes, step-no, length-tab, getD-tab, tab-ext, map-tab}
 use Rattle.lattice.proofs.Perms.{Undoes, back, undoes}
@@ -152,27 +153,12 @@ row-at d R c i h l =
     gather-at (map (weights R)) (suc d) [] [] (children d R) (λ w m. length-map w (weights R) ∙ child-corners d R w m) c i (omega (arith, count d R)) l
 
 -- row m of the flat list
-flat-at : (n : ℕ) (rs : List (List ℕ)) → ((r : List ℕ) → List·Memᴰ r rs → length r ≡ n) → (m : ℕ) → m < length rs → take n (drop (m * n) (flat rs)) ≡ getD rs m []
-flat-at n [] h m l = absurd (not-suc-le-zero l)
-flat-at n (r ∷ rs) h zero l =
-    ap (λ (o : ℕ). take n (drop o (r ++ flat rs))) (zero-mul n) ∙ take-at r (flat rs) n (h r (List·Memᴰ·head refl))
-flat-at n (r ∷ rs) h (suc m) l =
-    ap (λ (o : ℕ). take n (drop o (r ++ flat rs))) {x = suc m * n} {y = n + m * n} (omega (arith, suc-mul m n))
-    ∙ ap (take n) (sym (drop-drop (m * n) n (r ++ flat rs)))
-    ∙ ap (λ (x : List ℕ). take n (drop (m * n) x)) (drop-at r (flat rs) n (h r (List·Memᴰ·head refl)))
-    ∙ flat-at n rs (λ x k. h x (List·Memᴰ·tail k)) m (le-of-suc-le-suc l)
-
 pub flat-row : (d R m : ℕ) → m < R ^ d * suc d → take (suc d) (drop (m * suc d) (flat (patternOf d R))) ≡ getD (patternOf d R) m []
 flat-row d R m h = flat-at (suc d) (patternOf d R) (row-long d R) m (omega (arith, row-count d R))
 
-flat-long : (n : ℕ) (rs : List (List ℕ)) → ((r : List ℕ) → List·Memᴰ r rs → length r ≡ n) → length (flat rs) ≡ length rs * n
-flat-long n [] h = sym (zero-mul n)
-flat-long n (r ∷ rs) h =
-    length-append r (flat rs) ∙ omega (arith, h r (List·Memᴰ·head refl), flat-long n rs (λ x m. h x (List·Memᴰ·tail m)), suc-mul (length rs) n)
-
 pub flat-count : (d R : ℕ) → length (flat (patternOf d R)) ≡ R ^ d * (suc d * suc d)
 flat-count d R =
-    flat-long (suc d) (patternOf d R) (row-long d R) ∙ ap (λ (n : ℕ). n * suc d) (row-count d R) ∙ mul-assoc (R ^ d) (suc d) (suc d)
+    flat-length (suc d) (patternOf d R) (row-long d R) ∙ ap (λ (n : ℕ). n * suc d) (row-count d R) ∙ mul-assoc (R ^ d) (suc d) (suc d)
 
 -- a complex is visited along the pattern, word by word
 map-gather : {A B C : Type 0} (g : B → C) (f : A → List B) (l : List A) → map g (gather f l) ≡ gather (λ x. map g (f x)) l

@@ -1,14 +1,9 @@
 -- The pattern of a refined cell: for each corner of each child, in the order in which they are visited, its weights over the places of the cell's word.
 -- Assumes nothing.
-use mathlib.Core.List.{List, [], _∷_, _++_, map}
+use mathlib.Core.List.{List, map}
 use Prim.Native.Nat.{ℕ}
 use Rattle.lattice.specs.Lattice.{weights}
 use Rattle.lattice.specs.Children.{gather, children}
-
--- rows one after the other in one list
-abbrev pub flat : List (List ℕ) → List ℕ
-flat [] = []
-flat (r ∷ rs) = r ++ flat rs
 
 -- the rows of weights of a cell of dimension d refined by R: d + 1 corners for each child, d + 1 weights in each row
 abbrev pub patternOf : ℕ → ℕ → List (List ℕ)

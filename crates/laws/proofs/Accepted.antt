@@ -5,12 +5,13 @@ use Prim.Native.Nat.{ℕ, suc, _≤_, _<_}
 use native.Mathlib.Omega.{arith}
 use lib.ListN.{length}
 use Rattle.refusal.specs.Limits.{mostCells}
+use Rattle.lists.specs.Rows.{flat}
 use Rattle.complex.specs.Cells.{cellsOf}
 use Rattle.complex.specs.Check.{Passed}
 use Rattle.complex.specs.Facets.{Crowded}
 use Rattle.complex.proofs.Fine.{fine-passed, passed-fine}
 use Rattle.cells.proofs.Order.{order-rising}
-use Rattle.ordering.specs.Order.{Orders, flat}
+use Rattle.ordering.specs.Order.{Orders}
 use Rattle.lattice.specs.Refine.{words, vertices, In}
 use Rattle.lattice.specs.Conform.{Used, Sound}
 use Rattle.lattice.proofs.Count.{Nodup}

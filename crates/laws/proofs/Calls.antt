@@ -6,12 +6,13 @@ use native.Mathlib.Omega.{arith}
 use lib.ListN.{length}
 use Rattle.refusal.specs.declared.Answer.the-variants as answers
 use Rattle.refusal.proofs.Chain.{fine-refused}
-use Rattle.lists.specs.Rows.{rows}
+use Rattle.refusal.specs.Call.{refused, cramped, ended}
+use Rattle.lists.specs.Rows.{rows, flat}
 use Rattle.complex.specs.Check.{answerOf, Passed}
 use Rattle.complex.specs.Cells.{cellsOf}
 use Rattle.complex.specs.Facets.{Crowded}
 use Rattle.complex.proofs.Fine.{fine-passed}
-use Rattle.ordering.specs.Order.{Orders, AgreeOnFacets, flat}
+use Rattle.ordering.specs.Order.{Orders, AgreeOnFacets}
 use Rattle.lattice.specs.Complex.{through}
 use Rattle.lattice.specs.Refine.{vertices, share, In}
 use Rattle.lattice.proofs.Sums.{sum-ext}
@@ -22,11 +23,11 @@ use Rattle.refined.specs.Refined.{coarse, orderWords, refinedCells, refinedWord
 use Rattle.refined.specs.Results.{Results, Lengths, Holds, Inside, Refines, resultsOf, Finishes, outside, many-cells, many-vertices, short, made}
 use Rattle.refine.specs.declared.Space.{Space}
 use Rattle.refine.specs.Space.{spaceOf, Enough}
-use Rattle.refine.specs.Promise.{Ends, crowded, unordered, finished, Comes, refused, cramped, ended}
+use Rattle.refine.specs.Promise.{Ends, crowded, unordered, finished, Comes}
 use Rattle.laws.specs.Composition.{Accepted, Ordered, Renamed, Composes, Law, LawSorted}
 use Rattle.laws.specs.Calls.{Called, told, Tower, TowerLaw, TowerLawSorted}
 use Rattle.laws.proofs.Checked.{order-listed, stage-of, stage-sorted}
-use Rattle.laws.proofs.Flat.{rows-flat}
+use Rattle.lists.proofs.Flat.{rows-flat}
 use Rattle.laws.proofs.Again.{sorted-stage}
 use Rattle.laws.proofs.Composition.{composition, composition-sorted}
 use Rattle.laws.proofs.Told.{told-share}

@@ -8,12 +8,13 @@ use native.Mathlib.Decide.{ℕ-discrete}
 use native.Mathlib.Omega.{arith}
 use lib.ListN.{length}
 use Rattle.refusal.specs.Limits.{mostCells}
+use Rattle.lists.specs.Rows.{flat}
 use Rattle.complex.specs.Cells.{cellsOf}
 use Rattle.complex.specs.Check.{Passed}
 use Rattle.complex.specs.Facets.{Crowded}
 use Rattle.complex.proofs.Fine.{fine-passed, passed-fine}
 use Rattle.cells.proofs.Order.{order-rising}
-use Rattle.ordering.specs.Order.{Orders, flat}
+use Rattle.ordering.specs.Order.{Orders}
 use Rattle.ordering.specs.Order as order
 use Rattle.lattice.specs.Complex.{same, through, Alike, AgreeOnFacets}
 use Rattle.lattice.specs.Refine.{words, vertices, share, In}

@@ -6,12 +6,12 @@ use Prim.Native.Nat.{ℕ, _*_, _<_, _≤_}
 use native.Mathlib.Omega.{arith}
 use lib.ListN.{getD}
 use Rattle.lists.specs.Words.{either, among, hasRepeat, largestOf, foundAt, firstWhere}
-use Rattle.lists.specs.Rows.{cut}
+use Rattle.lists.specs.Rows.{cut, flat}
 use Rattle.multiindex.specs.Sort.{insertBy, insert, sortWord}
 use Rattle.complex.specs.Cells.{decides, comesBefore, placed, place, inOrder, cellsOf}
 use Rattle.complex.specs.Check.{answerOf}
 use Rattle.complex.specs.Facets.{Crowded}
-use Rattle.ordering.specs.Order.{sameWord, wordIf, wordOf, byCell, flat}
+use Rattle.ordering.specs.Order.{sameWord, wordIf, wordOf, byCell}
 use Rattle.lattice.specs.Refine.{vertices}
 use Rattle.refined.specs.Refined.{refinedCells, refinedWords}
 use Rattle.refined.specs.Results.{Refines}

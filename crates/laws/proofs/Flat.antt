@@ -1,16 +1,16 @@
 -- Cells in colex order written one after the other are an accepted cell list with these cells, and their words one after the other an order of it. Assumes nothing.
-use mathlib.Core.Path.{_≡_, refl, sym, ap, _∙_, subst}
-use mathlib.Core.List.{List, [], _∷_, List·Memᴰ, List·Memᴰ·head, List·Memᴰ·tail}
-use Prim.Native.Nat.{ℕ, suc, _*_, _-_, _/_, _%_, _≤_, _<_}
+use mathlib.Core.Path.{_≡_, sym, ap, _∙_, subst}
+use mathlib.Core.List.{List, [], List·Memᴰ}
+use Prim.Native.Nat.{ℕ, suc, _-_, _≤_, _<_}
 use native.Mathlib.Numerals.{add-one}
-use native.Mathlib.Nat.{suc-mul, zero-mul, mul-le-mul-right, div-eq-of-eq-mul-left, mul-mod-left}
+use native.Mathlib.Nat.{mul-le-mul-right}
 use native.Mathlib.Omega.{arith}
-use lib.ListN.{length, getD, length-append}
-use lib.Seq.{take-at, drop-at, ext-getD}
+use lib.ListN.{length}
+use lib.Seq.{ext-getD}
 use Rattle.refusal.specs.Limits.{mostCells, mostVertices}
-use Rattle.lists.specs.Rows.{cut, rows}
+use Rattle.lists.specs.Rows.{flat}
 use Rattle.lists.specs.Words.{hasRepeat, largestOf, wordAt}
-use Rattle.lists.proofs.Rows.{cut-at}
+use Rattle.lists.proofs.Flat.{flat-length, flat-at, cut-flat, flat-count, flat-whole, rows-flat}
 use Rattle.multiindex.specs.Sort.{sortWord}
 use Rattle.complex.specs.Cells.{inOrder, cellsOf}
 use Rattle.complex.specs.Check.{Passed}
@@ -18,7 +18,7 @@ use Rattle.complex.specs.Facets.{cellAt}
 use Rattle.cells.proofs.Words.{Word, Rising, each-of, at-in, one-list}
 use Rattle.cells.proofs.Order.{Colex, colex-irr, colex-trans, order-rising, order-from, order-has}
 use Rattle.cells.proofs.Words as cells
-use Rattle.ordering.specs.Order.{IsOrder, Orders, wordOf, byCell, flat}
+use Rattle.ordering.specs.Order.{IsOrder, Orders, wordOf, byCell}
 use Rattle.lattice.specs.Complex.{times, Rises}
 use Rattle.lattice.specs.Refine.{In}
 use Rattle.lattice.specs.Conform.{Used, Distinct}
@@ -29,30 +29,6 @@ use Rattle.laws.proofs.Listed.{Listed, counts-at, number-of, word-in, l
 use Rattle.ordering.proofs.Orders.{by-cell-length, by-cell-at}
 use Rattle.laws.proofs.Arranged.{word-found}
 use Rattle.laws.proofs.Checked.{cut-times, cut-has, largest-times, at-most}
-
--- ---- words of n numbers one after the other
-pub flat-length : (n : ℕ) (cs : List (List ℕ)) → ((w : List ℕ) → List·Memᴰ w cs → length w ≡ n) → length (flat cs) ≡ length cs * n
-unfolding flat
-flat-length n [] f = sym (zero-mul n)
-flat-length n (w ∷ cs) f =
-    length-append w (flat cs)
-    ∙ omega (arith, f w (List·Memᴰ·head refl), flat-length n cs (λ v m. f v (List·Memᴰ·tail m)), suc-mul (length cs) n)
-
-pub cut-flat : (n : ℕ) (cs : List (List ℕ)) → ((w : List ℕ) → List·Memᴰ w cs → length w ≡ n) → cut n (length cs) (flat cs) ≡ cs
-unfolding flat cut
-cut-flat n [] f = refl
-cut-flat n (w ∷ cs) f =
-    let e : length w ≡ n = f w (List·Memᴰ·head refl) in
-    rw (take-at w (flat cs) n e, drop-at w (flat cs) n e) (ap (λ (r : List (List ℕ)). w ∷ r) (cut-flat n cs (λ v m. f v (List·Memᴰ·tail m))))
-
-pub flat-count : (d : ℕ) (cs : List (List ℕ)) → ((w : List ℕ) → List·Memᴰ w cs → length w ≡ suc d) → length (flat cs) / suc d ≡ length cs
-flat-count d cs f = div-eq-of-eq-mul-left {n = suc d} {m = length (flat cs)} {k = length cs} (omega arith) (flat-length (suc d) cs f)
-
-pub rows-flat : (d : ℕ) (cs : List (List ℕ)) → ((w : List ℕ) → List·Memᴰ w cs → length w ≡ suc d) → rows (suc d) (flat cs) ≡ cs
-rows-flat d cs f = ap (λ (m : ℕ). cut (suc d) m (flat cs)) (flat-count d cs f) ∙ cut-flat (suc d) cs f
-
-flat-whole : (d : ℕ) (cs : List (List ℕ)) → ((w : List ℕ) → List·Memᴰ w cs → length w ≡ suc d) → length (flat cs) % suc d ≡ 0
-flat-whole d cs f = ap (λ (m : ℕ). m % suc d) (flat-length (suc d) cs f) ∙ mul-mod-left (length cs) (suc d)
 
 -- ---- cells with a word each
 module _ (d n : ℕ) (cs ks : List (List ℕ)) (l : Listed d n cs ks) where
@@ -96,7 +72,7 @@ module _ (d n : ℕ) (cs ks : List (List ℕ)) (l : Listed d n cs ks) where
   flat-some h e = omega (arith, flat-length (suc d) cs cells-long, mul-le-mul-right {m = 1} {n = length cs} (suc d) h)
 
   flat-word : (k : ℕ) → k < length cs → wordAt (suc d) (flat cs) k ≡ cellAt cs k
-  flat-word k h = sym (cut-at (suc d) (length cs) (flat cs) k h) ∙ ap (λ (ws : List (List ℕ)). getD ws k []) (cut-flat (suc d) cs cells-long)
+  flat-word k h = flat-at (suc d) cs cells-long k h
 
   module _ (some : 0 < length cs) (used : Used n (In ks)) where
     largest-in : largestOf (flat cs) < n

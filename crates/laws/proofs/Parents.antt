@@ -7,6 +7,7 @@ use native.Mathlib.Nat.{le-of-suc-le-suc, not-suc-le-zero, suc-mul, zero-mul, mu
 use native.Mathlib.Omega.{arith}
 use lib.ListN.{length, getD, length-map, List·getD-map, List·getD-append}
 use lib.Seq.{getD-append-add}
+use Rattle.lists.proofs.Laws.{map-at}
 use Rattle.multiindex.specs.Sort.{sortWord}
 use Rattle.complex.specs.Facets.{cellAt}
 use Rattle.cells.proofs.Words.{at-in}
@@ -34,11 +35,6 @@ nodup-at [] n i j h b e = not-suc-le-zero b
 nodup-at (x ∷ l) n i zero h b e = not-suc-le-zero h
 nodup-at (x ∷ l) n zero (suc j) h b e = n .0 (subst (λ (w : List ℕ). List·Memᴰ w l) (sym e) (mem-at l j (le-of-suc-le-suc b)))
 nodup-at (x ∷ l) n (suc i) (suc j) h b e = nodup-at l (n .1) i j (le-of-suc-le-suc h) (le-of-suc-le-suc b) e
-
-map-at : (f : List ℕ → ℕ) (l : List (List ℕ)) (i : ℕ) → i < length l → getD (map f l) i 0 ≡ f (getD l i [])
-map-at f [] i h = absurd (not-suc-le-zero h)
-map-at f (x ∷ l) zero h = refl
-map-at f (x ∷ l) (suc i) h = map-at f l i (le-of-suc-le-suc h)
 
 -- what stands in row p of rows of one length
 gather-at : {A : Type 0} (f : A → List (List ℕ)) (m : ℕ) (z : A) (l : List A) → ((x : A) → length (f x) ≡ m) → (p j : ℕ) → p < length l → j < m
@@ -156,7 +152,7 @@ module _ (d R n : ℕ) (ks : List (List ℕ)) (pos-R : 0 < R) (sound : Sound d n
       }
 
   parent-is : (i : ℕ) (h : i < length cs) → getD (parents d R n ks) i 0 ≡ seen i h .visit / R ^ d
-  parent-is i h = map-at (parentOf d R n ks) cs i h ∙ ap (λ (v : ℕ). v / R ^ d) (seen i h .is)
+  parent-is i h = map-at (parentOf d R n ks) cs i [] 0 h ∙ ap (λ (v : ℕ). v / R ^ d) (seen i h .is)
 
   pub has-parent : (i : ℕ) → i < length (refinedCells d R n ks) → getD (parents d R n ks) i 0 < length ks
   has-parent i h =
@@ -196,12 +192,12 @@ module _ (d R n : ℕ) (ks : List (List ℕ)) (pos-R : 0 < R) (sound : Sound d n
   seens = map (visitOf ws) cs
 
   seen-at : (i : ℕ) (h : i < length cs) → getD seens i 0 ≡ seen i h .visit
-  seen-at i h = map-at (visitOf ws) cs i h ∙ seen i h .is
+  seen-at i h = map-at (visitOf ws) cs i [] 0 h ∙ seen i h .is
 
   seen-once : (r : ℕ) → r < length ws → times seens r ≡ 1
   seen-once r h =
       let (i, b, e) = to-cell d N ws complex (getD ws r []) (mem-at ws r h) in
-      let q : getD seens i 0 ≡ r = map-at (visitOf ws) cs i b ∙ ap (visitOf ws) e ∙ first-visit r h in
+      let q : getD seens i 0 ≡ r = map-at (visitOf ws) cs i [] 0 b ∙ ap (visitOf ws) e ∙ first-visit r h in
       omega (
         arith,
         subst (λ (x : ℕ). 0 < times seens x) q (times-at seens i (omega (arith, length-map cs (visitOf ws)))),

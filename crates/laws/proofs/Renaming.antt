@@ -1,23 +1,18 @@
 -- Two complexes that are alike up to the numbers of their vertices: the renaming as a function with an inverse. A vertex goes to the vertex with the same shares; there
 -- is one, since every vertex is used and the words are alike, and only one, since different vertices have different shares. Assumes nothing.
-use mathlib.Core.Path.{_≡_, refl, sym, ap, _∙_}
-use mathlib.Core.List.{List, [], _∷_, map, Memᴰ·cast}
-use Prim.Native.Nat.{ℕ, zero, suc, _≤_, _<_}
-use native.Mathlib.Nat.{le-of-suc-le-suc, not-suc-le-zero}
+use mathlib.Core.Path.{_≡_, sym, ap, _∙_}
+use mathlib.Core.List.{List, map, Memᴰ·cast}
+use Prim.Native.Nat.{ℕ, suc, _≤_, _<_}
 use native.Mathlib.Decide.{decLt}
 use native.Mathlib.Omega.{arith}
 use lib.ListN.{length, getD, length-map}
 use lib.Seq.{ext-getD}
+use Rattle.lists.proofs.Laws.{map-at}
 use Rattle.lattice.specs.Complex.{Words, Complex, Apart, Within, Alike}
 use Rattle.lattice.specs.Refine.{In}
 use Rattle.lattice.specs.Conform.{Used}
 use Rattle.lattice.proofs.Enumerate.{times-at, place-of}
 use Rattle.laws.specs.Composition.{Renamed}
-
-map-at : (f : ℕ → ℕ) (w : List ℕ) (i : ℕ) → i < length w → getD (map f w) i 0 ≡ f (getD w i 0)
-map-at f [] i h = absurd (not-suc-le-zero h)
-map-at f (x ∷ w) zero h = refl
-map-at f (x ∷ w) (suc i) h = map-at f w i (le-of-suc-le-suc h)
 
 -- a vertex at its place in a word
 record Place (d : ℕ) (T : Words) (x : ℕ) : Type 0 where
@@ -95,7 +90,7 @@ module _ (d N N′ : ℕ) (T C : Words) (share share′ : ℕ → ℕ → ℕ) (
             let b : i < suc d = omega (arith, length-map w send) in
             let x : ℕ = getD w i 0 in
             let hx : x < N = c .below w m x (times-at w i (omega arith)) in
-            map-at send w i (omega arith)
+            map-at send w i 0 0 (omega arith)
             ∙ told d N′ C share′ c′ u′ apart (send x) (getD y i 0) (send-in x hx)
             (c′ .below y k (getD y i 0) (times-at y i (omega arith)))
             (λ v. send-keeps x hx v ∙ s i b v)),

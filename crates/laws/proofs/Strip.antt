@@ -9,13 +9,13 @@ use lib.Dec.{eqb}
 use lib.ListN.{getD}
 use borrow.Author.Tests.{ne-eqb, eqb-true}
 use Rattle.lists.specs.Words.{either, among, hasRepeat, largestOf, foundAt, firstWhere}
-use Rattle.lists.specs.Rows.{cut, rows}
+use Rattle.lists.specs.Rows.{cut, rows, flat}
 use Rattle.multiindex.specs.Sort.{insertBy, insert, sortWord}
 use Rattle.multiindex.proofs.Tables.{allBelow, at-below}
 use Rattle.complex.specs.Cells.{decides, comesBefore, placed, place, inOrder, cellsOf}
 use Rattle.complex.specs.Check.{answerOf}
 use Rattle.complex.specs.Facets.{cellAt, facetAt, Crowded}
-use Rattle.ordering.specs.Order.{sameWord, wordIf, wordOf, byCell, keepUnless, without, IsOrder, AgreeOnFacets, flat}
+use Rattle.ordering.specs.Order.{sameWord, wordIf, wordOf, byCell, keepUnless, without, IsOrder, AgreeOnFacets}
 use Rattle.ordering.proofs.Orders.{same-true, true-same}
 use Rattle.lattice.specs.Refine.{vertices}
 use Rattle.refined.specs.Refined.{orderWords, refinedCells, refinedWords}

@@ -9,14 +9,13 @@ use native.Mathlib.Decide.{decLt}
 use native.Mathlib.Omega.{arith}
 use lib.Dec.{eqb, ltb, T, lt→ltb, ltb→lt}
 use lib.ListN.{length, getD, take, drop, length-map, length-append}
-use lib.Seq.{take-at, drop-at}
-use Rattle.lists.specs.Rows.{cut}
-use Rattle.lists.proofs.Rows.{cut-at}
+use Rattle.lists.specs.Rows.{flat}
+use Rattle.lists.proofs.Laws.{map-at}
+use Rattle.lists.proofs.Flat.{flat-at}
 use Rattle.sorting.specs.Gather.{row}
 use Rattle.lattice.specs.Lattice.{tab, weights}
 use Rattle.lattice.specs.Complex.{same, weigh}
 use Rattle.lattice.specs.Children.{gather, children, pick}
-use Rattle.lattice.specs.Pattern.{flat}
 use Rattle.lattice.specs.Refine.{point, visits, positives, place, births-from, births, vertices, share, In}
 use Rattle.lattice.proofs.Tab.{length-tab, getD-tab}
 use Rattle.lattice.proofs.Sums.{same-yes, same-no}
@@ -25,7 +24,6 @@ use Rattle.lattice.proofs.Refines.{mem-at, yes-pick, no-pick}
 use Rattle.births.specs.Support.{none, supporters, shares, padded}
 use Rattle.births.specs.Promise.{birthVertices, birthWeights}
 use Rattle.births.proofs.Points.{supporters-long, shares-long, supporters-low, weigh-past, positives-most}
-use Rattle.births.proofs.Complex.{getD-map}
 use Rattle.refined.specs.Results.{Results, resultsOf}
 use Rattle.laws.specs.Calls.{told}
 
@@ -63,20 +61,10 @@ padded-share zero (x ∷ k) (w ∷ ws) z v e h = absurd (omega arith)
 padded-share (suc size) (x ∷ k) (w ∷ ws) z v e h = ap (λ (y : ℕ). w * same v x + y) (padded-share size k ws z v (omega arith) (omega arith))
 
 -- a row of rows written one after the other
-row-flat : (n : ℕ) (rs : List (List ℕ)) → ((r : List ℕ) → List·Memᴰ r rs → length r ≡ n) → cut n (length rs) (flat rs) ≡ rs
-unfolding cut
-row-flat n [] f = refl
-row-flat n (r ∷ rs) f =
-    let e : length r ≡ n = f r (List·Memᴰ·head refl) in
-    rw (take-at r (flat rs) n e, drop-at r (flat rs) n e) (ap (λ (y : List (List ℕ)). r ∷ y) (row-flat n rs (λ v m. f v (List·Memᴰ·tail m))))
-
 row-map : (size : ℕ) (g : List ℕ → List ℕ) (ls : List (List ℕ)) → ((l : List ℕ) → length (g l) ≡ size) → (b : ℕ) → b < length ls → row (flat (map g ls)) size b ≡ g (getD ls b [])
 row-map size g ls e b h =
-    let rs : List (List ℕ) = map g ls in
-    let k : length rs ≡ length ls = length-map ls g in
-    sym (cut-at size (length rs) (flat rs) b (omega arith))
-    ∙ ap (λ (y : List (List ℕ)). getD y b []) (row-flat size rs (λ r m. let (l, p, q) = Memᴰ·of-map g ls m in ap length (sym q) ∙ e l))
-    ∙ getD-map g ls b [] [] h
+    let k : length (map g ls) ≡ length ls = length-map ls g in
+    flat-at size (map g ls) (λ r m. let (l, p, q) = Memᴰ·of-map g ls m in ap length (sym q) ∙ e l) b (omega arith) ∙ map-at g ls b [] [] h
 
 -- what holds of all visits holds of all births
 keep : (P : List ℕ → Type 0) (b : Bool) (seen : List (List ℕ)) (x : List ℕ) → ((l : List ℕ) → List·Memᴰ l seen → P l) → P x → (l : List ℕ) → List·Memᴰ l (pick b seen (seen ++ (x ∷ []))) → P l

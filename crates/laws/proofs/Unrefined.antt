@@ -4,12 +4,13 @@ use mathlib.Core.Path.{_≡_, refl, sym, ap, _∙_, subst}
 use mathlib.Core.Logic.{_⊎_, ⊎-elim}
 use mathlib.Core.List.{List, [], _∷_, map, List·Memᴰ, List·Memᴰ·not-nil, List·Memᴰ·cases-cons, Memᴰ·cast}
 use Prim.Native.Nat.{ℕ, zero, suc, _+_, _*_, _^_, _≤_, _<_}
-use native.Mathlib.Nat.{le-of-suc-le-suc, not-suc-le-zero, pow-zero, pow-suc, zero-mul}
+use native.Mathlib.Nat.{pow-zero, pow-suc, zero-mul}
 use native.Mathlib.Decide.{ℕ-discrete, decLt}
 use native.Mathlib.Omega.{arith}
 use lib.ListN.{length, getD}
 use lib.Seq.{ext-getD}
 use Rattle.lists.specs.Rows.{rows}
+use Rattle.lists.proofs.Laws.{map-at}
 use Rattle.multiindex.specs.Sort.{sortWord}
 use Rattle.complex.specs.Cells.{inOrder, cellsOf}
 use Rattle.complex.specs.Check.{Passed}
@@ -162,10 +163,6 @@ module _ (d R n : ℕ) (ks : List (List ℕ)) (pos-R : 0 < R) (sound : Sound d n
     stays = record { vertices = same-vertices; cells = same-cells; words = ap (byCell ws) same-cells ∙ same-words }
 
 -- ---- R = 1
-map-at : (f : List ℕ → List ℕ) (l : List (List ℕ)) (i : ℕ) → i < length l → getD (map f l) i [] ≡ f (getD l i [])
-map-at f [] i h = absurd (not-suc-le-zero h)
-map-at f (x ∷ l) zero h = refl
-map-at f (x ∷ l) (suc i) h = map-at f l i (le-of-suc-le-suc h)
 
 only : (l : List (List (List ℕ))) (c : List (List ℕ)) → length l ≡ 1 → List·Memᴰ c l → getD l 0 [] ≡ c
 only [] c e m = absurd (List·Memᴰ·not-nil m)
@@ -180,7 +177,7 @@ pub still-one : (d : ℕ) → Still d 1
 still-one d c child i j h b =
     let in-c : List·Memᴰ c (children d 1) = mem-of-child d 1 c child in
     ap (λ (w : List ℕ). getD w j 0)
-    (sym (map-at (weights 1) c i (omega (arith, child-corners d 1 c in-c)))
+    (sym (map-at (weights 1) c i [] [] (omega (arith, child-corners d 1 c in-c)))
     ∙ ap (λ (w : List (List ℕ)). getD (map (weights 1) w) i []) (sym (only (children d 1) c (count d 1 ∙ one-power d) in-c))
     ∙ sym (row-at d 1 0 i (omega (arith, one-power d)) h)
     ∙ ap (λ (o : ℕ). getD (patternOf d 1) o []) {x = 0 * suc d + i} {y = i} (omega (arith, zero-mul (suc d)))

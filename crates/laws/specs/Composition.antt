@@ -5,10 +5,11 @@ use mathlib.Core.Path.{_≡_}
 use Prim.Native.Nat.{ℕ, _*_, _^_, _<_, _≤_}
 use lib.ListN.{length}
 use Rattle.refusal.specs.declared.Answer.the-variants.{Fine}
+use Rattle.lists.specs.Rows.{flat}
 use Rattle.complex.specs.Cells.{cellsOf}
 use Rattle.complex.specs.Check.{answerOf}
 use Rattle.complex.specs.Facets.{Crowded}
-use Rattle.ordering.specs.Order.{Orders, AgreeOnFacets, flat}
+use Rattle.ordering.specs.Order.{Orders, AgreeOnFacets}
 use Rattle.lattice.specs.Complex.{through}
 use Rattle.lattice.specs.Refine.{vertices, share, In}
 use Rattle.refined.specs.Refined.{coarse, orderWords, refinedCells, refinedWords}

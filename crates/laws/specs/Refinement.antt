@@ -4,10 +4,11 @@ use mathlib.Core.List.{List}
 use mathlib.Core.Path.{_≡_}
 use Prim.Native.Nat.{ℕ, _*_, _^_, _<_}
 use lib.ListN.{length, getD}
+use Rattle.lists.specs.Rows.{flat}
 use Rattle.multiindex.specs.Sort.{sortWord}
 use Rattle.complex.specs.Cells.{cellsOf}
 use Rattle.complex.specs.Facets.{cellAt}
-use Rattle.ordering.specs.Order.{Orders, flat}
+use Rattle.ordering.specs.Order.{Orders}
 use Rattle.lattice.specs.Lattice.{Child}
 use Rattle.lattice.specs.Complex.{same, sum, times, Names}
 use Rattle.lattice.specs.Refine.{vertices, share}

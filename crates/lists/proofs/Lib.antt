@@ -3,3 +3,4 @@ pub mod Members
 pub mod Front
 pub mod Rows
 pub mod Words
+pub mod Flat

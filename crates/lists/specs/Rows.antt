@@ -1,7 +1,12 @@
--- A flat list cut into words. Assumes nothing.
-use mathlib.Core.List.{List, [], _∷_}
+-- Words one after the other in a flat list, and a flat list cut into words. Assumes nothing.
+use mathlib.Core.List.{List, [], _∷_, _++_}
 use Prim.Native.Nat.{ℕ, zero, suc, _/_}
 use lib.ListN.{length, take, drop}
+
+-- words one after the other
+abbrev pub flat : List (List ℕ) → List ℕ
+flat [] = []
+flat (w ∷ ws) = w ++ flat ws
 
 -- count words of n numbers, cut off a flat list one after the other
 unfoldable pub cut : ℕ → ℕ → List ℕ → List (List ℕ)

@@ -1,15 +1,16 @@
 -- The slots' agreement is agreement on every facet of two cells, and the words' marks are their signs: words and cells are read back from the keys' last part.
 -- Assumes nothing.
-use mathlib.Core.List.{List, [], _∷_, _++_}
+use mathlib.Core.List.{List, []}
 use mathlib.Core.Path.{_≡_, refl, sym, ap, _∙_, subst}
 use mathlib.Core.Logic.{_⊎_, inl, inr, ⊎-elim}
 use Prim.Native.Nat.{ℕ, zero, suc, _+_, _-_, _*_, _/_, _%_, _<_, _≤_}
-use native.Mathlib.Nat.{suc-mul, zero-mul, mul-le-mul-right, suc-mod}
+use native.Mathlib.Nat.{suc-mul, mul-le-mul-right, suc-mod}
 use native.Mathlib.Numerals.{add-one}
 use native.Mathlib.Omega.{arith}
-use lib.ListN.{length, getD, take, drop, length-append, take-append-drop}
-use lib.Seq.{getD-take, getD-drop, take-at, drop-at, drop-drop}
-use Rattle.lists.specs.Rows.{rows}
+use lib.ListN.{length, getD, take, drop, take-append-drop}
+use lib.Seq.{getD-take, getD-drop}
+use Rattle.lists.specs.Rows.{rows, flat}
+use Rattle.lists.proofs.Flat.{each-long, flat-length, flat-at}
 use Rattle.lists.proofs.Laws.{front-part}
 use Rattle.sorting.specs.Gather.{row}
 use Rattle.multiindex.specs.Sort.{inversions}
@@ -22,36 +23,18 @@ use Rattle.facets.proofs.Meeting.{slots-most}
 use Rattle.walk.specs.Signs as walk
 use Rattle.signs.specs.Found.{signOf}
 use Rattle.signs.proofs.Linking.{facet-row, mates-row, mate-below, rows-few}
-use Rattle.ordering.specs.Order.{wordOf, without, AgreeOnFacets, flat}
+use Rattle.ordering.specs.Order.{wordOf, without, AgreeOnFacets}
 use Rattle.ordering.specs.Agree.{rowWord, AgreesAt, Clash, markAt}
 use Rattle.ordering.specs.Promise.{wordsBy, wordSign, Ready}
 use Rattle.ordering.proofs.Orders.{by-cell-at, by-cell-length}
-
--- ---- words of n numbers one after the other
-pub flat-length : (n : ℕ) (ks : List (List ℕ)) → ((c : ℕ) → c < length ks → length (getD ks c []) ≡ n) → length (flat ks) ≡ length ks * n
-unfolding flat
-flat-length n [] f = sym (zero-mul n)
-flat-length n (w ∷ ks) f =
-    let e : length w ≡ n = f 0 (omega arith) in
-    let r : length (flat ks) ≡ length ks * n = flat-length n ks (λ c h. f (suc c) (omega arith)) in
-    omega (arith, length-append w (flat ks), suc-mul (length ks) n)
-
-flat-row : (n : ℕ) (ks : List (List ℕ)) → ((c : ℕ) → c < length ks → length (getD ks c []) ≡ n) → (c : ℕ) → c < length ks → row (flat ks) n c ≡ getD ks c []
-unfolding flat
-flat-row n [] f c h = absurd (omega arith)
-flat-row n (w ∷ ks) f zero h = ap (λ (i : ℕ). take n (drop i (w ++ flat ks))) (zero-mul n) ∙ take-at w (flat ks) n (f 0 (omega arith))
-flat-row n (w ∷ ks) f (suc c) h =
-    let e : suc c * n ≡ n + c * n = omega (arith, suc-mul c n) in
-    ap (λ (i : ℕ). take n (drop i (w ++ flat ks))) e ∙ ap (take n) (sym (drop-drop (c * n) n (w ++ flat ks)))
-    ∙ ap (λ (l : List ℕ). row l n c) (drop-at w (flat ks) n (f 0 (omega arith))) ∙ flat-row n ks (λ c h. f (suc c) (omega arith)) c (omega arith)
 
 -- a list that begins with the words
 module _ (n : ℕ) (l : List ℕ) (ks : List (List ℕ)) (e : take (length ks * n) l ≡ flat ks) (f : (c : ℕ) → c < length ks → length (getD ks c []) ≡ n) (c : ℕ) (h : c < length ks) where
   front-row : row l n c ≡ getD ks c []
   front-row =
       let s = length ks * n in
-      let g : c * n + n ≤ length (take s l) = omega (arith, suc-mul c n, mul-le-mul-right n h, ap length e, flat-length n ks f) in
-      ap (λ (t : List ℕ). row t n c) (sym (take-append-drop s l)) ∙ front-part (take s l) (drop s l) (c * n) n g ∙ ap (λ (t : List ℕ). row t n c) e ∙ flat-row n ks f c h
+      let g : c * n + n ≤ length (take s l) = omega (arith, suc-mul c n, mul-le-mul-right n h, ap length e, flat-length n ks (each-long n ks f)) in
+      ap (λ (t : List ℕ). row t n c) (sym (take-append-drop s l)) ∙ front-part (take s l) (drop s l) (c * n) n g ∙ ap (λ (t : List ℕ). row t n c) e ∙ flat-at n ks (each-long n ks f) c h
 
   front-number : (j : ℕ) → j < n → getD l (c * n + j) 0 ≡ getD (getD ks c []) j 0
   front-number j g = sym (getD-drop (c * n) l j 0) ∙ sym (getD-take n (drop (c * n) l) j 0 g) ∙ ap (λ (t : List ℕ). getD t j 0) front-row
@@ -77,7 +60,7 @@ module _ (d at n : ℕ) (cs : List (List ℕ)) (order keys mates : List ℕ) (r 
   many = by-cell-length (rows (suc d) order) cs
 
   pub words-long : length (flat (wordsBy d cs order)) ≡ length cs * suc d
-  words-long = flat-length (suc d) (wordsBy d cs order) (λ c h. word-long c (omega (arith, many))) ∙ ap (λ (x : ℕ). x * suc d) many
+  words-long = flat-length (suc d) (wordsBy d cs order) (each-long (suc d) (wordsBy d cs order) (λ c h. word-long c (omega (arith, many)))) ∙ ap (λ (x : ℕ). x * suc d) many
 
   few : length cs * suc d < none
   few = omega (arith, r .most)

@@ -8,7 +8,7 @@ use native.Mathlib.Numerals.{add-one}
 use native.Mathlib.Omega.{arith}
 use lib.ListN.{length, getD, take, drop, length-append, length-drop}
 use lib.Seq.{length-take-le, take-at, drop-at, getD-take}
-use Rattle.lists.specs.Rows.{cut, rows}
+use Rattle.lists.specs.Rows.{cut, rows, flat}
 use Rattle.lists.proofs.Rows.{cut-length, cut-at}
 use Rattle.lists.proofs.Members.{All, All-at, All-of}
 use Rattle.multiindex.specs.Sort.{sortWord}
@@ -19,7 +19,7 @@ use Rattle.complex.specs.Cells.{inOrder, cellsOf}
 use Rattle.cells.specs.Made.{Made}
 use Rattle.cells.proofs.Words.{Word, Each, Rising, In, each-of, in-at, at-in}
 use Rattle.cells.proofs.Order.{Colex, order-rising, order-has}
-use Rattle.ordering.specs.Order.{wordOf, byCell, IsOrder, Orders, flat}
+use Rattle.ordering.specs.Order.{wordOf, byCell, IsOrder, Orders}
 use Rattle.ordering.specs.Arrange.{Matching, Fits, Matched, Arranging, Arranged}
 use Rattle.ordering.proofs.Orders.{order-same, same-order, by-cell-rows}
 use Rattle.ordering.proofs.Lists.{sort-back}

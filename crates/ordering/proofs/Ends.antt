@@ -12,6 +12,7 @@ use Rattle.refusal.specs.declared.Counted.{Counted}
 use Rattle.refusal.specs.declared.Counted.the-variants as Counted
 use Rattle.refusal.specs.Table.{crowdedFacet, badOrder, tooShort}
 use Rattle.refusal.specs.Lent.{onto}
+use Rattle.lists.specs.Rows.{flat}
 use Rattle.complex.specs.Room.{keyRoom}
 use Rattle.complex.specs.Cells.{cellsOf}
 use Rattle.complex.specs.Facets.{slots}
@@ -21,7 +22,6 @@ use Rattle.cells.proofs.Making.{few-corners}
 use Rattle.signs.proofs.Linking.{mate-below}
 use Rattle.ordering.specs.declared.Ordered.{Ordered}
 use Rattle.ordering.specs.declared.Ordered.the-variants.{Agree, Differ, Refused}
-use Rattle.ordering.specs.Order.{flat}
 use Rattle.ordering.specs.Agree.{AgreesAt, Clash, Agreeing}
 use Rattle.ordering.specs.Promise.{wordsBy, Preparing, Ready, Prepared, Ends, Worked}
 use Rattle.ordering.specs.Promise.Prepared.{crowded as prepared-crowded, unordered as prepared-unordered, ready as prepared-ready}

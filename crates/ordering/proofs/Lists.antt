@@ -3,24 +3,16 @@ use mathlib.Core.Bool.{Bool, true, false}
 use mathlib.Core.List.{List, [], _∷_, _++_}
 use mathlib.Core.Path.{_≡_, refl, sym, ap, _∙_, subst}
 use Prim.Native.Nat.{ℕ, zero, suc, _+_, _-_, _*_, _<_, _≤_}
-use native.Mathlib.Nat.{suc-mul, zero-mul, add-sub-cancel-left, mul-le-mul-right, zero-add}
+use native.Mathlib.Nat.{suc-mul, add-sub-cancel-left, mul-le-mul-right, zero-add}
 use native.Mathlib.Omega.{arith}
 use lib.Dec.{ltb}
 use lib.ListN.{length, getD, take, drop, length-drop}
-use lib.Seq.{length-take-le, take-at, drop-at, take-add, take-take, drop-drop, drop-append-add, take-append-le, getD-take}
-use Rattle.lists.specs.Rows.{cut}
+use lib.Seq.{length-take-le, take-at, drop-at, take-take, drop-drop, drop-append-add, take-append-le, getD-take}
+use Rattle.lists.specs.Rows.{cut, flat}
+use Rattle.lists.proofs.Flat.{flat-cut}
 use Rattle.lists.proofs.Members.{All}
 use Rattle.multiindex.specs.Sort.{insertBy, insert, sortWord, sortWords}
 use Rattle.multiindex.proofs.SortLaws.{sort-length}
-use Rattle.ordering.specs.Order.{flat}
-
--- the words of a list, joined again
-pub flat-cut : (n m : ℕ) (l : List ℕ) → flat (cut n m l) ≡ take (m * n) l
-unfolding cut flat
-flat-cut n zero l = rw (zero-mul n)
-flat-cut n (suc m) l =
-    let e : n + m * n ≡ suc m * n = omega (arith, suc-mul m n) in
-    ap (λ (t : List ℕ). take n l ++ t) (flat-cut n m (drop n l)) ∙ sym (take-add n (m * n) l) ∙ ap (λ (i : ℕ). take i l) e
 
 take-nil : (k : ℕ) → _≡_ {A = List ℕ} (take k []) []
 take-nil zero = refl

@@ -8,13 +8,14 @@ use native.Mathlib.Omega.{arith}
 use lib.Dec.{eqb}
 use lib.ListN.{length, getD}
 use borrow.Author.Tests.{eqb-true, eqb-false, eq-eqb, ne-eqb}
+use Rattle.lists.specs.Rows.{flat}
 use Rattle.multiindex.specs.Sort.{sortWord}
 use Rattle.complex.specs.Cells.{comesBefore, placed, place, inOrder}
 use Rattle.complex.specs.Facets.{cellAt}
 use Rattle.cells.proofs.Words.{Word, Each, Rising, In, each-in, each-of, in-at, at-in}
 use Rattle.cells.proofs.Order.{Colex, colex-irr, colex-trans, order-rising, order-from, order-has}
 use Rattle.sorting.specs.Gather.{row, rowsOf}
-use Rattle.ordering.specs.Order.{sameWord, wordIf, wordOf, byCell, IsOrder, flat}
+use Rattle.ordering.specs.Order.{sameWord, wordIf, wordOf, byCell, IsOrder}
 
 -- ---- the test of two words
 both-true : (a b : Bool) → (a && b) ≡ true → (a ≡ true) × (b ≡ true)
@@ -89,7 +90,7 @@ by-cell-length ows (x ∷ cs) = ap suc (by-cell-length ows cs)
 
 -- the words by cell, where the numbers of their rows are known
 pub by-cell-rows : (ows cs : List Word) (order : List ℕ) (n : ℕ) (reps : List ℕ) → length reps ≡ length cs → ((c : ℕ) → c < length cs → wordOf ows (getD cs c []) ≡ row order n (getD reps c 0)) → flat (byCell ows cs) ≡ rowsOf order n reps
-unfolding byCell flat rowsOf
+unfolding byCell rowsOf
 by-cell-rows ows [] order n [] e f = refl
 by-cell-rows ows [] order n (r ∷ reps) e f = absurd (omega arith)
 by-cell-rows ows (x ∷ cs) order n [] e f = absurd (omega arith)

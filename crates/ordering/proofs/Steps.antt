@@ -9,7 +9,8 @@ use lib.ListN.{length, getD, take, drop, length-append, length-drop, drop-of-len
 use lib.Seq.{length-take-le, take-at, drop-at}
 use Rattle.refusal.specs.declared.Counted.the-variants as Counted
 use Rattle.refusal.specs.Table.{crowdedFacet, badOrder}
-use Rattle.lists.specs.Rows.{cut, rows}
+use Rattle.lists.specs.Rows.{cut, rows, flat}
+use Rattle.lists.proofs.Flat.{flat-cut}
 use Rattle.lists.proofs.Rows.{cut-length}
 use Rattle.lists.proofs.Words.{tail-part}
 use Rattle.complex.specs.Room.{keyRoom}
@@ -20,10 +21,10 @@ use Rattle.cells.specs.Made.{Making, Made}
 use Rattle.signs.proofs.Linking.{not-crowded}
 use Rattle.orientation.specs.Work.{Working}
 use Rattle.orientation.proofs.Steps.{meeting}
-use Rattle.ordering.specs.Order.{byCell, Orders, flat}
+use Rattle.ordering.specs.Order.{byCell, Orders}
 use Rattle.ordering.specs.Arrange.{Arranging, Arranged}
 use Rattle.ordering.specs.Promise.{wordsBy, Preparing, Ready, Prepared, crowded, unordered, ready}
-use Rattle.ordering.proofs.Lists.{flat-cut, cut-front, front-at}
+use Rattle.ordering.proofs.Lists.{cut-front, front-at}
 
 -- cells that stay in the front are made again
 made-again : (d : ℕ) (ws : List ℕ) (m : ℕ) (l k : List ℕ) → Made d ws m l → take (m * suc d) k ≡ take (m * suc d) l → Made d ws m k

@@ -4,11 +4,11 @@ use mathlib.Core.List.{List, []}
 use mathlib.Core.Path.{_≡_}
 use Prim.Native.Nat.{ℕ, suc, _+_, _*_, _<_, _≤_, _^_}
 use lib.ListN.{length, getD, take, drop}
-use Rattle.lists.specs.Rows.{cut, rows}
+use Rattle.lists.specs.Rows.{cut, rows, flat}
 use Rattle.sorting.specs.Gather.{row}
 use Rattle.complex.specs.Cells.{inOrder}
 use Rattle.cells.specs.Made.{Made}
-use Rattle.ordering.specs.Order.{wordOf, byCell, Orders, flat}
+use Rattle.ordering.specs.Order.{wordOf, byCell, Orders}
 
 -- m order words of n numbers below b, as many cells in `cells`, and room
 pub record Matching (n m b : ℕ) (order keys cells spare counts : List ℕ) : Type 0 where

@@ -1,7 +1,7 @@
 -- Document 01: an order gives each cell one word. It agrees on a facet if its cells list the facet's vertices in one sequence. 16: order words not one for each cell,
 -- no more. Assumes nothing.
 use mathlib.Core.Bool.{Bool, true, false, _&&_}
-use mathlib.Core.List.{List, [], _∷_, _++_}
+use mathlib.Core.List.{List, [], _∷_}
 use mathlib.Core.Path.{_≡_}
 use Prim.Native.Nat.{ℕ, zero, suc, _%_, _<_}
 use lib.Dec.{eqb}
@@ -55,8 +55,3 @@ without v (x ∷ w) = keepUnless (eqb x v) x (without v w)
 -- the words ks, one for each cell, agree on every facet of two cells: without the vertex that each cell has not on the facet, they are one sequence
 pub record AgreeOnFacets (d : ℕ) (cs ks : List (List ℕ)) : Type 0 where
   pub one : (c i c′ i′ : ℕ) → Mates d cs c i c′ i′ → without (getD (cellAt cs c) i 0) (cellAt ks c) ≡ without (getD (cellAt cs c′) i′ 0) (cellAt ks c′)
-
--- words one after the other
-unfoldable pub flat : List (List ℕ) → List ℕ
-flat [] = []
-flat (w ∷ ws) = w ++ flat ws

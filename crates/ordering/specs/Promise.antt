@@ -11,7 +11,7 @@ use Rattle.refusal.specs.declared.Room.{Room}
 use Rattle.refusal.specs.Table.{crowdedFacet, badOrder, tooShort}
 use Rattle.refusal.specs.Lent.{onto, lengths, Cleared}
 use Rattle.refusal.specs.Call.{Comes}
-use Rattle.lists.specs.Rows.{rows}
+use Rattle.lists.specs.Rows.{rows, flat}
 use Rattle.multiindex.specs.Sort.{inversions}
 use Rattle.multiindex.specs.Sign.{Sign, induced}
 use Rattle.complex.specs.Check.{answerOf, Passed}
@@ -22,7 +22,7 @@ use Rattle.facets.specs.Table.{MateTable}
 use Rattle.signs.specs.Signs.{Coherent}
 use Rattle.ordering.specs.declared.Ordered.{Ordered}
 use Rattle.ordering.specs.declared.Ordered.the-variants.{Agree, Differ, Refused}
-use Rattle.ordering.specs.Order.{byCell, Orders, AgreeOnFacets, flat}
+use Rattle.ordering.specs.Order.{byCell, Orders, AgreeOnFacets}
 
 -- what a call on an order needs of its working lists, where n is the number of corners of the words
 abbrev pub orderNeed : ℕ → ℕ → Room

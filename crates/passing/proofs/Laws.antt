@@ -18,7 +18,11 @@ use Rattle.quotient.specs.declared.Made.{Made}
 use Rattle.quotient.specs.declared.Made.the-variants.{Taken, Refused}
 use Rattle.gridlengths.specs.declared.EdgeLength.{EdgeLength}
 use Rattle.gridlengths.specs.declared.EdgeLength.the-variants as EdgeLength
-use Rattle.passing.specs.Said.{refusedCode, madeCode, madeAxes, lengthCode, lengthSquares}
+use Rattle.refusal.specs.declared.Answer.{Answer}
+use Rattle.refusal.specs.declared.Answer.the-variants as Answer
+use Rattle.refined.specs.declared.Refinement.{Refinement}
+use Rattle.refined.specs.declared.Refinement.the-variants as Refinement
+use Rattle.passing.specs.Said.{refusedCode, madeCode, madeAxes, lengthCode, lengthSquares, refinedCode, refinedVertices, answerCode, answerList}
 use Rattle.passing.specs.Given.{glueOf, axisGiven, sidesGiven, gridGiven, entry, sideGiven, gluesGiven, glueCode, axesOf}
 
 -- a list's element does not turn on what stands past its end
@@ -109,3 +113,26 @@ pub length-two : (s : EdgeLength) {x y : Float} (squares : List Float) → s ≡
     → (_≡_ {A = ℕ} 2 (lengthCode s)) × (set (set squares 0 x) 1 y ≡ lengthSquares s squares)
 unfolding lengthCode lengthSquares
 length-two s squares e = (sym (ap lengthCode e), sym (ap (λ (t : EdgeLength). lengthSquares t squares) e))
+
+pub refined-refused : (s : Refinement) {n p r : ℕ} (vertices : List ℕ) → s ≡ Refinement.Refused n p → r ≡ refusedCode n p → (r ≡ refinedCode s) × (vertices ≡ refinedVertices s vertices)
+unfolding refinedCode refinedVertices
+refined-refused s vertices e h = (h ∙ sym (ap refinedCode e), sym (ap (λ (x : Refinement). refinedVertices x vertices) e))
+
+pub refined-made : (s : Refinement) {children total : ℕ} (vertices : List ℕ) → s ≡ Refinement.Made children total
+    → (children ≡ refinedCode s) × (set vertices 0 total ≡ refinedVertices s vertices)
+unfolding refinedCode refinedVertices
+refined-made s vertices e = (sym (ap refinedCode e), sym (ap (λ (x : Refinement). refinedVertices x vertices) e))
+
+-- a refusal beside a value: its code, and the lists stay
+pub code-refused : (a : Answer) (n p x r : ℕ) → a ≡ Answer.Refused n p → r ≡ refusedCode n p → r ≡ answerCode a x
+code-refused a n p x r e f = f ∙ ap (λ (b : Answer). answerCode b x) (sym e)
+
+pub list-refused : {A : Type 0} (a : Answer) (n p : ℕ) (list old : List A) → a ≡ Answer.Refused n p → old ≡ answerList a list old
+list-refused a n p list old e = ap (λ (b : Answer). answerList b list old) (sym e)
+
+-- no refusal: the number, and the lists are handed out
+pub code-fine : (a : Answer) (x : ℕ) → a ≡ Answer.Fine → x ≡ answerCode a x
+code-fine a x e = ap (λ (b : Answer). answerCode b x) (sym e)
+
+pub list-fine : {A : Type 0} (a : Answer) (list old : List A) → a ≡ Answer.Fine → list ≡ answerList a list old
+list-fine a list old e = ap (λ (b : Answer). answerList b list old) (sym e)

@@ -21,6 +21,10 @@ use Rattle.gridorder.specs.declared.Triangulated.{Triangulated}
 use Rattle.gridorder.specs.declared.Triangulated.the-variants as Triangulated
 use Rattle.gridlengths.specs.declared.EdgeLength.{EdgeLength}
 use Rattle.gridlengths.specs.declared.EdgeLength.the-variants as EdgeLength
+use Rattle.refusal.specs.declared.Answer.{Answer}
+use Rattle.refusal.specs.declared.Answer.the-variants as Answer
+use Rattle.refined.specs.declared.Refinement.{Refinement}
+use Rattle.refined.specs.declared.Refinement.the-variants as Refinement
 use Rattle.passing.specs.Given.{axesOf}
 
 -- 2 ^ 32 times the number, and the place
@@ -85,8 +89,28 @@ lengthSquares (EdgeLength.Clash x y) squares = set (set squares 0 x) 1 y
 lengthSquares EdgeLength.NoEdge squares = squares
 lengthSquares (EdgeLength.Refused number place) squares = squares
 
+-- how many children a refinement has
+unfoldable pub refinedCode : Refinement → ℕ
+refinedCode (Refinement.Made children total) = children
+refinedCode (Refinement.Refused number place) = refusedCode number place
+
+-- the number of vertices that is handed out; on a refusal what stood there
+unfoldable pub refinedVertices : Refinement → List ℕ → List ℕ
+refinedVertices (Refinement.Made children total) vertices = set vertices 0 total
+refinedVertices (Refinement.Refused number place) vertices = vertices
+
 -- r returns an answer that meets the call's promise
 pub record Said {S : Type 0} (code : S → ℕ) (Meets : S → Type 0) (r : ℕ) : Type 0 where
   pub answer : S
   pub coded : r ≡ code answer
   pub meets : Meets answer
+
+-- a number, where there is no refusal
+abbrev pub answerCode : Answer → ℕ → ℕ
+answerCode Answer.Fine n = n
+answerCode (Answer.Refused number place) n = refusedCode number place
+
+-- the list that is handed out, and on a refusal what stood there
+abbrev pub answerList : {A : Type 0} → Answer → List A → List A → List A
+answerList Answer.Fine list old = list
+answerList (Answer.Refused number place) list old = old

@@ -1,16 +1,20 @@
 // How an answer is returned: the refusal's number and place, or 0 and the answer, in one number.
 use crate::given;
+use child::OneBirth;
+use child::OneChild;
 use gridlengths::EdgeLength;
 use gridorder::Triangulated;
 use ordering::Ordered;
 use quotient::Made;
 use quotient::Parity;
 use quotient::Reduced;
+use refined::Refinement;
+use refusal::Answer;
 use refusal::Counted;
 use refusal::Verdict;
 ghost use mathlib.Core.Path.{_≡_};
 ghost use Prim.Native.Nat.{_+_, _*_};
-ghost use Rattle.passing.specs.Said.{refusedCode, countedCode, verdictCode, parityCode, reducedCode, madeCode, madeAxes, orderedCode, triangulatedCode, lengthCode, lengthSquares};
+ghost use Rattle.passing.specs.Said.{refusedCode, countedCode, verdictCode, parityCode, reducedCode, madeCode, madeAxes, orderedCode, triangulatedCode, lengthCode, lengthSquares, refinedCode, refinedVertices, answerCode, answerList};
 
 // A refusal.
 pub fn refused(number: u32, place: u32) -> u64
@@ -115,4 +119,62 @@ pub fn edge_length(said: EdgeLength, squares: &mut [f64; 2]) -> u64
             2
         }
     }
+}
+
+// A refinement: how many children there are, and the number of vertices goes to the list. A refusal leaves the list as it was.
+pub fn refined(said: Refinement, vertices: &mut [u32; 1]) -> u64
+    ensures { λ r. ⌜ r ≡ refinedCode said ⌝ }
+    ensures { λ _. ⌜ now (vertices .exit) ≡ refinedVertices said (now (vertices .entry)) ⌝ }
+{
+    match said {
+        Refinement::Refused(number, place) => refused(number, place),
+        Refinement::Made(children, total) => {
+            vertices[0] = total;
+            children as u64
+        }
+    }
+}
+
+// One child: its parent, and its Jacobian in floats and in whole numbers goes to the lists. A refusal leaves the lists as they were.
+pub fn child(said: OneChild, jacobian: &mut [f64; 9], whole: &mut [i32; 9]) -> u64
+    ensures { λ r. ⌜ r ≡ answerCode (said .answer) (said .child .parent) ⌝ }
+    ensures { λ _. ⌜ now (jacobian .exit) ≡ answerList (said .answer) (said .child .jacobian) (now (jacobian .entry)) ⌝ }
+    ensures { λ _. ⌜ now (whole .exit) ≡ answerList (said .answer) (said .child .whole) (now (whole .entry)) ⌝ }
+{
+    let answer = said.answer;
+    let child = said.child;
+    if let Answer::Refused(number, place) = answer {
+        return refused(number, place);
+    }
+    let floats = child.jacobian;
+    let wholes = child.whole;
+    *jacobian = floats;
+    *whole = wholes;
+    child.parent as u64
+}
+
+// One birth: how many vertices support it, and these, their weights and their shares go to the lists. A refusal leaves the lists as they were.
+pub fn birth(
+    said: OneBirth,
+    vertices: &mut [u32; 4],
+    weights: &mut [u32; 4],
+    shares: &mut [f64; 4],
+) -> u64
+    ensures { λ r. ⌜ r ≡ answerCode (said .answer) (said .birth .count) ⌝ }
+    ensures { λ _. ⌜ now (vertices .exit) ≡ answerList (said .answer) (said .birth .vertices) (now (vertices .entry)) ⌝ }
+    ensures { λ _. ⌜ now (weights .exit) ≡ answerList (said .answer) (said .birth .weights) (now (weights .entry)) ⌝ }
+    ensures { λ _. ⌜ now (shares .exit) ≡ answerList (said .answer) (said .birth .shares) (now (shares .entry)) ⌝ }
+{
+    let answer = said.answer;
+    let birth = said.birth;
+    if let Answer::Refused(number, place) = answer {
+        return refused(number, place);
+    }
+    let named = birth.vertices;
+    let weighed = birth.weights;
+    let shared = birth.shares;
+    *vertices = named;
+    *weights = weighed;
+    *shares = shared;
+    birth.count as u64
 }

@@ -3,10 +3,12 @@
 // One convention for all of them:
 //   - what is returned: one 64-bit number, the refusal's number in its upper half and its place in the lower; upper half 0 is no refusal, and the lower half is the
 //     answer: a count, a vertex, or 1 and 0 for yes and no; a count with a yes beside it has 2^31 added;
-//   - the order of parameters: numbers, lists that are read, result lists, the four working lists, arrays of fixed length;
+//   - the order of parameters: numbers, lists that are read, result lists, the working lists (four; ten for a refinement), arrays of fixed length;
 //   - how a grid is given: d, a list with a count and a gluing for each axis, and a list of sides where the call reads them. A gluing is 0 (open), 256 (periodic) or
 //     512 plus the mask of the reflected axes. An axis that is not in the list has no cells, a side that is not there is 0: both are refused as such.
 pub mod complexes;
 pub mod grids;
 pub mod lengths;
 pub mod orders;
+pub mod refinements;
+pub mod values;

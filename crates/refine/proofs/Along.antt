@@ -1,15 +1,16 @@
 -- The coarse cells and the words refined by, over plain lists: a word that sorts to a cell has the cell's vertices, none twice, all below the number of vertices. Assumes nothing.
 use mathlib.Core.Bool.{Bool, true, false}
-use mathlib.Core.List.{List, [], _∷_, _++_}
+use mathlib.Core.List.{List, [], _∷_}
 use mathlib.Core.Path.{_≡_, refl, sym, ap, _∙_, subst}
 use Prim.Native.Nat.{ℕ, suc, _+_, _*_, _/_, _%_, _<_, _≤_}
-use native.Mathlib.Nat.{suc-mul, mul-zero, mul-comm, div-add-mod', mod-lt, div-lt-iff-lt-mul}
+use native.Mathlib.Nat.{div-add-mod', mod-lt, div-lt-iff-lt-mul}
 use native.Mathlib.Omega.{arith}
 use lib.Dec.{ltb}
 use borrow.Author.Tests.{le-ltb}
-use lib.ListN.{length, getD, take, drop, length-append}
-use lib.Seq.{take-at, drop-at, take-all}
-use Rattle.lists.specs.Rows.{cut, rows}
+use lib.ListN.{length, getD, take}
+use lib.Seq.{take-all}
+use Rattle.lists.specs.Rows.{cut, rows, flat}
+use Rattle.lists.proofs.Flat.{each-long, flat-length, cut-flat}
 use Rattle.lists.proofs.Rows.{cut-length, cut-at}
 use Rattle.lists.proofs.Words.{below-largest, word-within}
 use Rattle.lists.proofs.Members.{All, All-of, All-at}
@@ -27,7 +28,7 @@ use Rattle.cells.proofs.Strict.{sort-all}
 use Rattle.cells.proofs.Making.{whole-words}
 use Rattle.lattice.specs.Complex.{times, same}
 use Rattle.lattice.proofs.Enumerate.{once-of-apart}
-use Rattle.ordering.specs.Order.{wordOf, byCell, IsOrder, flat}
+use Rattle.ordering.specs.Order.{wordOf, byCell, IsOrder}
 use Rattle.ordering.proofs.Lists.{cut-front, sort-back}
 use Rattle.ordering.proofs.Orders.{by-cell-at, by-cell-length}
 use Rattle.refined.specs.Refined.{coarse}
@@ -60,28 +61,11 @@ unfolding sortWord
 sort-stays [] s = refl
 sort-stays (x ∷ w) s = ap (insert x) (sort-stays w (s .1)) ∙ insert-low x w (s .0)
 
--- ---- words one after the other, cut again
-cut-flat : (n : ℕ) (ks : List (List ℕ)) → ((c : ℕ) → c < length ks → length (getD ks c []) ≡ n) → cut n (length ks) (flat ks) ≡ ks
-unfolding cut flat
-cut-flat n [] h = refl
-cut-flat n (k ∷ ks) h =
-    let l : length k ≡ n = h 0 (omega arith) in
-    let e : take n (k ++ flat ks) ≡ k = take-at k (flat ks) n l in
-    let f : drop n (k ++ flat ks) ≡ flat ks = drop-at k (flat ks) n l in
-    let r : cut n (length ks) (flat ks) ≡ ks = cut-flat n ks (λ c q. h (suc c) (omega arith)) in
-    cc
-
-flat-length : (n : ℕ) (ks : List (List ℕ)) → ((c : ℕ) → c < length ks → length (getD ks c []) ≡ n) → length (flat ks) ≡ length ks * n
-unfolding flat
-flat-length n [] h = omega (arith, mul-comm 0 n, mul-zero n)
-flat-length n (k ∷ ks) h =
-    omega (arith, length-append k (flat ks), h 0 (omega arith), flat-length n ks (λ c q. h (suc c) (omega arith)), suc-mul (length ks) n)
-
 -- a flat list that begins with the words
 cut-words : (n m : ℕ) (l : List ℕ) (ks : List (List ℕ)) → length ks ≡ m → ((c : ℕ) → c < length ks → length (getD ks c []) ≡ n) → take (m * n) l ≡ flat ks → cut n m l ≡ ks
 cut-words n m l ks many long e =
-    let s : take (m * n) (flat ks) ≡ flat ks = take-all (m * n) (flat ks) (omega (arith, flat-length n ks long, ap (λ (i : ℕ). i * n) many)) in
-    cut-front n m l (flat ks) (e ∙ sym s) ∙ ap (λ (i : ℕ). cut n i (flat ks)) (sym many) ∙ cut-flat n ks long
+    let s : take (m * n) (flat ks) ≡ flat ks = take-all (m * n) (flat ks) (omega (arith, flat-length n ks (each-long n ks long), ap (λ (i : ℕ). i * n) many)) in
+    cut-front n m l (flat ks) (e ∙ sym s) ∙ ap (λ (i : ℕ). cut n i (flat ks)) (sym many) ∙ cut-flat n ks (each-long n ks long)
 
 -- ---- m cells that are made of the words
 module _ (d : ℕ) (ws : List ℕ) (m : ℕ) (cells : List ℕ) (p : Passed d ws) (a : Made d ws m cells) where

@@ -4,14 +4,17 @@ use mathlib.Core.Path.{_≡_, refl, sym, ap, _∙_}
 use Prim.Native.Nat.{ℕ}
 use lib.IntN.{ℤ}
 use lib.Ieee.{Float}
+use lib.ListN.{length}
 use Rattle.refusal.specs.Lent.{zeroed}
-use Rattle.refusal.proofs.Chain.{fine-refused, refused-number, refused-place}
+use Rattle.refusal.proofs.Determined.{call-one}
+use Rattle.complex.specs.Check.{answerOf}
 use Rattle.refined.specs.declared.Refinement.{Refinement}
-use Rattle.refined.specs.Results.{Results, Lengths, lengthsOf}
+use Rattle.refined.specs.declared.Refinement.the-variants.{Refused}
+use Rattle.refined.specs.Results.{Results, nothing, Lengths, lengthsOf}
 use Rattle.refined.proofs.Determined.{finishes-one, Same, stored-one}
 use Rattle.refine.specs.declared.Space.{Space}
-use Rattle.refine.specs.Space.{lent}
-use Rattle.refine.specs.Promise.{Ends, crowded, unordered, finished, Comes, refused, cramped, ended, Refining}
+use Rattle.refine.specs.Space.{spaceOf, unused, lent, Enough}
+use Rattle.refine.specs.Promise.{Ends, crowded, unordered, finished, Refining}
 
 module _ (d R : ℕ) (ws : List ℕ) (Ordered : Type 0) (ks : List (List ℕ)) (given : Lengths) where
   ends-one : (r r′ : Refinement) (h h′ : Results) → Ends d R ws Ordered ks given r h → Ends d R ws Ordered ks given r′ h′ → (r ≡ r′) × (h ≡ h′)
@@ -25,24 +28,15 @@ module _ (d R : ℕ) (ws : List ℕ) (Ordered : Type 0) (ks : List (List ℕ)) (
   ends-one r r′ h h′ (finished f o e) (unordered f′ o′) = absurd (o′ o)
   ends-one r r′ h h′ (finished f o e) (finished f′ o′ e′) = finishes-one d R _ _ ks given r r′ h h′ e e′
 
-  comes-one : (have : Space) {r r′ : Refinement} {h h′ : Results} {u u′ : Space} → Comes d R ws Ordered ks given have r h u → Comes d R ws Ordered ks given have r′ h′ u′ → (r ≡ r′) × (h ≡ h′) × (u ≡ u′)
-  comes-one have (refused {n = n} {p = p} e) (refused {n = m} {p = q} f) =
-      let a = refused-number n p m q (sym e ∙ f) in let b = refused-place n p m q (sym e ∙ f) in (cc, refl, refl)
-  comes-one have (refused {n = n} {p = p} e) (cramped f _) = absurd (fine-refused n p (sym e ∙ f))
-  comes-one have (refused {n = n} {p = p} e) (ended f _ _) = absurd (fine-refused n p (sym e ∙ f))
-  comes-one have (cramped e _) (refused {n = n} {p = p} f) = absurd (fine-refused n p (sym f ∙ e))
-  comes-one have (cramped e g) (cramped f g′) = (refl, refl, refl)
-  comes-one have (cramped e g) (ended f m _) = absurd (g m)
-  comes-one have (ended e _ _) (refused {n = n} {p = p} f) = absurd (fine-refused n p (sym f ∙ e))
-  comes-one have (ended e m _) (cramped f g) = absurd (g m)
-  comes-one have (ended {r = r} {h = h} e _ x) (ended {r = r′} {h = h′} f _ y) = let w = ends-one r r′ h h′ x y in (w .0, w .1, refl)
-
 -- two exits of one call: what is said, the result lists and the working lists are equal
 module _ (d : ℕ) (ws : List ℕ) (R : ℕ) (Ordered : Type 0) (ks : List (List ℕ)) (out-cells out-words parents : List ℕ) (jacobians : List Float) (wholes : List ℤ) (vertices weights : List ℕ) (shares : List Float) (cells along pattern keys rows spare counts sorted firsts buckets : List ℕ) (out-cells′ out-words′ parents′ : List ℕ) (jacobians′ : List Float) (wholes′ : List ℤ) (vertices′ weights′ : List ℕ) (shares′ : List Float) (cells′ along′ pattern′ keys′ rows′ spare′ counts′ sorted′ firsts′ buckets′ : List ℕ) (out-cells″ out-words″ parents″ : List ℕ) (jacobians″ : List Float) (wholes″ : List ℤ) (vertices″ weights″ : List ℕ) (shares″ : List Float) (cells″ along″ pattern″ keys″ rows″ spare″ counts″ sorted″ firsts″ buckets″ : List ℕ) (r r′ : Refinement) where
   pub refining-one : Refining d ws R Ordered ks r out-cells out-cells′ out-words out-words′ parents parents′ jacobians jacobians′ wholes wholes′ vertices vertices′ weights weights′ shares shares′ cells cells′ along along′ pattern pattern′ keys keys′ rows rows′ spare spare′ counts counts′ sorted sorted′ firsts firsts′ buckets buckets′ → Refining d ws R Ordered ks r′ out-cells out-cells″ out-words out-words″ parents parents″ jacobians jacobians″ wholes wholes″ vertices vertices″ weights weights″ shares shares″ cells cells″ along along″ pattern pattern″ keys keys″ rows rows″ spare spare″ counts counts″ sorted sorted″ firsts firsts″ buckets buckets″ →
       (r ≡ r′) × Same out-cells′ out-cells″ out-words′ out-words″ parents′ parents″ jacobians′ jacobians″ wholes′ wholes″ vertices′ vertices″ weights′ weights″ shares′ shares″ × ((cells′ ≡ cells″) × (along′ ≡ along″) × (pattern′ ≡ pattern″) × (keys′ ≡ keys″) × (rows′ ≡ rows″) × (spare′ ≡ spare″) × (counts′ ≡ counts″) × (sorted′ ≡ sorted″) × (firsts′ ≡ firsts″) × (buckets′ ≡ buckets″))
   refining-one a b =
-      let w = comes-one d R ws Ordered ks (lengthsOf out-cells out-words parents jacobians wholes vertices weights shares) (lent cells along pattern keys rows spare counts sorted firsts buckets) (a .comes) (b .comes) in (
+      let given = lengthsOf out-cells out-words parents jacobians wholes vertices weights shares in
+      let have = lent cells along pattern keys rows spare counts sorted firsts buckets in
+      let need = spaceOf d (length ws) R in
+      let w = call-one Refused nothing unused (answerOf d ws) need (Enough need have) (Ends d R ws Ordered ks given) (ends-one d R ws Ordered ks given) (a .comes) (b .comes) in (
         w .0,
         stored-one (a .handed) (b .handed) (w .1) out-cells out-cells′ out-cells″ out-words out-words′ out-words″ parents parents′ parents″ jacobians jacobians′ jacobians″ wholes wholes′ wholes″ vertices vertices′ vertices″ weights weights′ weights″ shares shares′ shares″ (a .stored) (b .stored),
         (

@@ -8,6 +8,7 @@ use lib.ListN.{length, take, drop, replicate}
 use lib.Seq.{length-take-le}
 use Rattle.refusal.specs.declared.Answer.the-variants as Answer
 use Rattle.refusal.specs.Table.{tooShort}
+use Rattle.refusal.specs.Call.{refused, cramped, ended}
 use Rattle.lists.proofs.Laws.{part-zeroed}
 use Rattle.complex.specs.Check.{answerOf}
 use Rattle.complex.proofs.Fine.{fine-passed}
@@ -16,7 +17,7 @@ use Rattle.refined.specs.declared.Refinement.the-variants.{Refused}
 use Rattle.refined.specs.Results.{nothing, Stored}
 use Rattle.refine.specs.declared.Space.{Space}
 use Rattle.refine.specs.Space.{spaceOf, unused, lent, Enough, Emptied}
-use Rattle.refine.specs.Promise.{refused, cramped, ended, Refining}
+use Rattle.refine.specs.Promise.{Refining}
 use Rattle.refine.specs.Work.{Working, Worked, AllTen}
 
 -- where nothing is handed out the result lists are as they were

@@ -11,7 +11,7 @@ use lib.Seq.{length-take-le, take-at}
 use Rattle.refusal.specs.declared.Counted.{Counted}
 use Rattle.refusal.specs.declared.Counted.the-variants.{Count, Refused}
 use Rattle.refusal.specs.Table.{crowdedFacet, badOrder}
-use Rattle.lists.specs.Rows.{cut, rows}
+use Rattle.lists.specs.Rows.{cut, rows, flat}
 use Rattle.lists.proofs.Rows.{cut-length}
 use Rattle.complex.specs.Cells.{cellsOf}
 use Rattle.complex.specs.Facets.{Cells, Crowded, slots}
@@ -19,7 +19,7 @@ use Rattle.cells.specs.Made.{Made}
 use Rattle.facets.specs.Table.{MateTable, Meeting}
 use Rattle.facets.proofs.Meeting.{slots-most}
 use Rattle.signs.proofs.Linking.{not-crowded}
-use Rattle.ordering.specs.Order.{byCell, Orders, flat}
+use Rattle.ordering.specs.Order.{byCell, Orders}
 use Rattle.ordering.specs.Arrange.{Arranging, Arranged}
 use Rattle.ordering.proofs.Lists.{cut-front, front-at}
 use Rattle.refined.specs.Refined.{coarse, orderWords}

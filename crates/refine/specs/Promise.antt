@@ -1,12 +1,11 @@
 -- What the calls `refine` and `refine_with` come to, on every input. `Ordered` says that 16 does not apply, and ks are the words refined by. Assumes nothing.
 use mathlib.Core.List.{List}
-use mathlib.Core.Path.{_≡_}
 use Prim.Native.Nat.{ℕ}
 use lib.IntN.{ℤ}
 use lib.Ieee.{Float}
 use lib.ListN.{length}
-use Rattle.refusal.specs.declared.Answer as answers
-use Rattle.refusal.specs.Table.{crowdedFacet, badOrder, tooShort}
+use Rattle.refusal.specs.Table.{crowdedFacet, badOrder}
+use Rattle.refusal.specs.Call.{Call}
 use Rattle.complex.specs.Check.{answerOf}
 use Rattle.complex.specs.Cells.{cellsOf}
 use Rattle.complex.specs.Facets.{Crowded}
@@ -27,14 +26,9 @@ pub data Ends (d R : ℕ) (ws : List ℕ) (Ordered : Type 0) (ks : List (List �
   finished : {r : Refinement} {h : Results} → (Crowded d (cellsOf d ws) → ⊥) → Ordered → Finishes d R (coarse ws) (cellsOf d ws) ks given r h → Ends d R ws Ordered ks given r h
 
 -- what a call comes to: what it says, what it hands out, and how much of the working lists is made zero
-pub data Comes (d R : ℕ) (ws : List ℕ) (Ordered : Type 0) (ks : List (List ℕ)) (given : Lengths) (have : Space) : Refinement → Results → Space → Type 0 where
-  -- refused by the checks: nothing is touched
-  refused : {n p : ℕ} → answerOf d ws ≡ answers.the-variants.Refused n p → Comes d R ws Ordered ks given have (Refused n p) nothing unused
-  -- too little room: nothing is touched
-  cramped : answerOf d ws ≡ answers.the-variants.Fine → (Enough (spaceOf d (length ws) R) have → ⊥) → Comes d R ws Ordered ks given have (Refused tooShort 0) nothing unused
-  -- from there on what is needed of the working lists is made zero
-  ended : {r : Refinement} {h : Results} → answerOf d ws ≡ answers.the-variants.Fine → Enough (spaceOf d (length ws) R) have → Ends d R ws Ordered ks given r h
-      → Comes d R ws Ordered ks given have r h (spaceOf d (length ws) R)
+abbrev pub Comes : (d R : ℕ) (ws : List ℕ) (Ordered : Type 0) (ks : List (List ℕ)) (given : Lengths) (have : Space) → Refinement → Results → Space → Type 0
+Comes d R ws Ordered ks given have =
+    Call Refused nothing unused (answerOf d ws) (spaceOf d (length ws) R) (Enough (spaceOf d (length ws) R) have) (Ends d R ws Ordered ks given)
 
 -- the promise: r is what the call says, and a list with ′ is what it holds at exit
 pub record Refining (d : ℕ) (ws : List ℕ) (R : ℕ) (Ordered : Type 0) (ks : List (List ℕ)) (r : Refinement) (out-cells out-cells′ out-words out-words′ parents parents′ : List ℕ) (jacobians jacobians′ : List Float) (wholes wholes′ : List ℤ) (vertices vertices′ weights weights′ : List ℕ) (shares shares′ : List Float) (cells cells′ along along′ pattern pattern′ keys keys′ rows rows′ spare spare′ counts counts′ sorted sorted′ firsts firsts′ buckets buckets′ : List ℕ) : Type 0 where

@@ -7,7 +7,7 @@ use native.Mathlib.Nat.{le-refl, suc-mul, mul-le-mul-right}
 use native.Mathlib.Omega.{arith}
 use lib.ListN.{length, getD, take, drop, length-append}
 use lib.Seq.{length-take-le, getD-take}
-use Rattle.lists.specs.Rows.{cut}
+use Rattle.lists.specs.Rows.{cut, flat}
 use Rattle.lists.specs.Words.{foundAt}
 use Rattle.lists.proofs.Rows.{cut-length, cut-at}
 use Rattle.sorting.specs.Bucket.{cell}
@@ -18,7 +18,7 @@ use Rattle.sorting.proofs.Rows.{rowsOf-pos}
 use Rattle.multiindex.specs.Sort.{sortWord, sortWords}
 use Rattle.complex.specs.Cells.{inOrder}
 use Rattle.cells.proofs.Making.{key-length, key-row, made-same, made-cell}
-use Rattle.ordering.specs.Order.{sameWord, wordOf, byCell, flat}
+use Rattle.ordering.specs.Order.{sameWord, wordOf, byCell}
 use Rattle.ordering.proofs.Orders.{true-same, same-false, word-first, by-cell-rows}
 use Rattle.children.specs.Colex.{Arranged}
 use Rattle.refined.specs.Refined.{visitOf}
@@ -34,7 +34,7 @@ visit-first (w ∷ ows) c (suc r) h e f =
 
 -- cells that are rows of a flat list
 pub flat-rows : (cs : List (List ℕ)) (keys : List ℕ) (n : ℕ) (reps : List ℕ) → length reps ≡ length cs → ((c : ℕ) → c < length cs → getD cs c [] ≡ row keys n (getD reps c 0)) → flat cs ≡ rowsOf keys n reps
-unfolding flat rowsOf
+unfolding rowsOf
 flat-rows [] keys n [] h f = refl
 flat-rows [] keys n (x ∷ reps) h f = absurd (omega arith)
 flat-rows (c ∷ cs) keys n [] h f = absurd (omega arith)

@@ -9,12 +9,12 @@ use lib.ListN.{length, getD, take, drop}
 use lib.Seq.{take-at, take-take, length-take-le}
 use Rattle.refusal.specs.Limits.{mostDimension, mostCells, mostVertices}
 use Rattle.refusal.specs.Lent.{onto}
-use Rattle.lists.specs.Rows.{cut}
+use Rattle.lists.specs.Rows.{cut, flat}
 use Rattle.lists.proofs.Rows.{cut-length, cut-at}
 use Rattle.multiindex.proofs.Digits.{power-most}
 use Rattle.sorting.specs.Gather.{row}
 use Rattle.sorting.proofs.Colex.{row-cell, row-length}
-use Rattle.lattice.specs.Pattern.{flat, patternOf}
+use Rattle.lattice.specs.Pattern.{patternOf}
 use Rattle.lattice.specs.Refine.{births, vertices, words}
 use Rattle.lattice.proofs.Enumerate.{times-at}
 use Rattle.lattice.proofs.Pattern.{flat-count}

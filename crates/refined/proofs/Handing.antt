@@ -10,7 +10,8 @@ use lib.ListN.{length, getD, take, length-map}
 use Rattle.refusal.specs.Limits.{mostVertices}
 use Rattle.refusal.specs.Table.{tooShort}
 use Rattle.refusal.specs.Lent.{onto}
-use Rattle.lists.specs.Rows.{cut}
+use Rattle.lists.specs.Rows.{cut, flat}
+use Rattle.lists.proofs.Laws.{map-at}
 use Rattle.lists.proofs.Rows.{cut-length, cut-at}
 use Rattle.sorting.specs.Gather.{row, rowsOf}
 use Rattle.multiindex.specs.Permutation.{tab}
@@ -18,7 +19,7 @@ use Rattle.multiindex.specs.Sort.{sortWord}
 use Rattle.multiindex.proofs.WordsLaws.{words-length}
 use Rattle.complex.specs.Cells.{inOrder}
 use Rattle.complex.specs.Facets.{cellAt}
-use Rattle.ordering.specs.Order.{byCell, flat}
+use Rattle.ordering.specs.Order.{byCell}
 use Rattle.lattice.specs.Children.{gather}
 use Rattle.lattice.specs.Refine.{births, words, share}
 use Rattle.lattice.proofs.Tab.{list-tab}
@@ -39,7 +40,7 @@ use Rattle.refined.proofs.Writing as writing
 
 -- a function on the cells of a list, by their numbers
 map-tab : (f : List ℕ → ℕ) (cs : List (List ℕ)) (k : ℕ) (g : ℕ → ℕ) → length cs ≡ k → ((i : ℕ) → i < k → f (getD cs i []) ≡ g i) → map f cs ≡ tab k g
-map-tab f cs k g e h = list-tab k (map f cs) g 0 (length-map cs f ∙ e) (λ i l. seats.map-at f cs i [] 0 (omega arith) ∙ h i l)
+map-tab f cs k g e h = list-tab k (map f cs) g 0 (length-map cs f ∙ e) (λ i l. map-at f cs i [] 0 (omega arith) ∙ h i l)
 
 module _ {A : Type 0} where
   joined-front : (k : ℕ) (g : ℕ → List A) → joined (suc k) g ≡ g 0 ++ joined k (λ i. g (suc i))

@@ -14,7 +14,8 @@ use lib.ListN.{length, getD, take, drop, length-take, length-append, List·getD-
 use lib.Seq.{getD-take, getD-drop, getD-append-add}
 use borrow.Author.Tests.{eqb-true, eqb-false}
 use Rattle.refusal.specs.Limits.{mostRefinement}
-use Rattle.lists.specs.Rows.{cut}
+use Rattle.lists.specs.Rows.{cut, flat}
+use Rattle.lists.proofs.Laws.{map-at}
 use Rattle.lists.specs.Words.{foundAt}
 use Rattle.lists.proofs.Rows.{cut-length, cut-at}
 use Rattle.lists.proofs.Members.{All, All-of, All-at}
@@ -26,7 +27,7 @@ use Rattle.cells.proofs.Strict.{sort-all}
 use Rattle.lattice.specs.Lattice.{weights, Child}
 use Rattle.lattice.specs.Complex.{times, weigh, Names}
 use Rattle.lattice.specs.Children.{gather, children}
-use Rattle.lattice.specs.Pattern.{flat, patternOf}
+use Rattle.lattice.specs.Pattern.{patternOf}
 use Rattle.lattice.specs.Refine.{point, births, number, words, share}
 use Rattle.lattice.proofs.Count.{count}
 use Rattle.lattice.proofs.Enumerate.{child-of-mem, times-at, place-of}
@@ -79,11 +80,6 @@ gather-at f size h (k ∷ ks) (suc a) q l b =
     ap (λ (i : ℕ). getD (f k ++ gather f ks) i []) {x = suc a * size + q} {y = length (f k) + (a * size + q)} (omega (arith, suc-mul a size, h k))
     ∙ getD-append-add (f k) (gather f ks) (a * size + q) []
     ∙ gather-at f size h ks a q (omega arith) b
-
-pub map-at : {A B : Type 0} (f : A → B) (l : List A) (i : ℕ) (x : A) (y : B) → i < length l → getD (map f l) i y ≡ f (getD l i x)
-map-at f [] i x y h = absurd (omega arith)
-map-at f (z ∷ l) zero x y h = refl
-map-at f (z ∷ l) (suc i) x y h = map-at f l i x y (omega arith)
 
 le-added : (r : List ℕ) (i : ℕ) → getD r i 0 ≤ added r
 le-added [] i = omega arith

@@ -9,10 +9,10 @@ use lib.Ieee.{Float}
 use lib.ListN.{length, getD, take, drop, length-append, length-map}
 use lib.Seq.{length-take-le, take-at}
 use Rattle.refusal.specs.Lent.{onto}
+use Rattle.lists.specs.Rows.{flat}
 use Rattle.sorting.specs.Gather.{rowsOf}
 use Rattle.sorting.proofs.Rows.{rowsOf-pos}
 use Rattle.multiindex.specs.Permutation.{tab}
-use Rattle.lattice.specs.Pattern.{flat}
 use Rattle.lattice.proofs.Tab.{length-tab}
 use Rattle.jacobian.specs.Entries.{shareOf}
 use Rattle.children.specs.Family.{joined, wholeAt, floatAt, Families}

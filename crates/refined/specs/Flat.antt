@@ -4,11 +4,11 @@ use mathlib.Core.Path.{_≡_}
 use Prim.Native.Nat.{ℕ, suc, _*_, _^_, _≤_, _<_}
 use lib.ListN.{length, getD, take}
 use Rattle.refusal.specs.Limits.{mostDimension, mostRefinement}
-use Rattle.lists.specs.Rows.{cut}
+use Rattle.lists.specs.Rows.{cut, flat}
 use Rattle.sorting.specs.Gather.{row}
 use Rattle.multiindex.specs.Sort.{sortWord}
 use Rattle.lattice.specs.Complex.{times}
-use Rattle.lattice.specs.Pattern.{flat, patternOf}
+use Rattle.lattice.specs.Pattern.{patternOf}
 use Rattle.lattice.specs.Refine.{words}
 
 -- m cells and the words refined by: each word has its cell's vertices, none twice, all below n

@@ -8,7 +8,7 @@ use lib.ListN.{length}
 use Rattle.refusal.specs.Limits.{mostCells, mostVertices, mostRefinement}
 use Rattle.refusal.specs.Table.{tooManyCells, tooManyVertices, badRefinement, tooShort}
 use Rattle.refusal.specs.Lent.{onto}
-use Rattle.ordering.specs.Order.{flat}
+use Rattle.lists.specs.Rows.{flat}
 use Rattle.lattice.specs.Refine.{births, vertices}
 use Rattle.births.specs.Promise.{birthVertices, birthWeights}
 use Rattle.jacobian.specs.Entries.{shareOf}

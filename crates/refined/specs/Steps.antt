@@ -9,10 +9,10 @@ use lib.ListN.{length, getD, take}
 use Rattle.refusal.specs.Limits.{mostDimension, mostCells, mostVertices}
 use Rattle.refusal.specs.Table.{tooManyCells, tooManyVertices, badRefinement}
 use Rattle.refusal.specs.Lent.{onto}
-use Rattle.lists.specs.Rows.{cut}
+use Rattle.lists.specs.Rows.{cut, flat}
 use Rattle.sorting.specs.Gather.{rowsOf}
 use Rattle.multiindex.specs.Permutation.{tab}
-use Rattle.lattice.specs.Pattern.{flat, patternOf}
+use Rattle.lattice.specs.Pattern.{patternOf}
 use Rattle.lattice.specs.Refine.{births, vertices}
 use Rattle.jacobian.specs.Entries.{shareOf}
 use Rattle.children.specs.Family.{joined, wholeAt, floatAt, Families}

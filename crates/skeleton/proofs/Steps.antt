@@ -3,17 +3,18 @@ use mathlib.Core.Bool.{Bool, true, false}
 use mathlib.Core.List.{List, [], _∷_, _++_}
 use mathlib.Core.Path.{_≡_, refl, sym, ap, _∙_, subst}
 use Prim.Native.Nat.{ℕ, zero, suc, _+_, _*_, _<_, _≤_}
-use native.Mathlib.Nat.{mul-comm, mul-zero, zero-mul, suc-mul, mul-suc, mul-le-mul-left, mul-le-mul-right, le-trans}
+use native.Mathlib.Nat.{mul-comm, mul-zero, suc-mul, mul-suc, mul-le-mul-left, mul-le-mul-right, le-trans}
 use native.Mathlib.Numerals.{add-one}
 use native.Mathlib.Omega.{arith}
 use lib.ListN.{length, getD, take, drop}
-use lib.Seq.{length-take-le, take-add}
+use lib.Seq.{length-take-le}
 use Rattle.refusal.specs.declared.Counted.{Counted}
 use Rattle.refusal.specs.declared.Counted.the-variants.{Count, Refused}
 use Rattle.refusal.specs.declared.Room.{Room}
 use Rattle.refusal.specs.Table.{crowdedFacet, tooShort}
 use Rattle.refusal.specs.Lent.{onto, lengths, Roomy}
-use Rattle.lists.specs.Rows.{cut}
+use Rattle.lists.specs.Rows.{cut, flat}
+use Rattle.lists.proofs.Flat.{flat-cut}
 use Rattle.lists.proofs.Rows.{cut-length}
 use Rattle.sorting.specs.Gather.{rowsOf}
 use Rattle.sorting.proofs.Rows.{rowsOf-pos}
@@ -21,7 +22,7 @@ use Rattle.complex.specs.Check.{Passed}
 use Rattle.complex.specs.Room.{keyRoom, needOf}
 use Rattle.complex.specs.Cells.{cellsOf}
 use Rattle.complex.specs.Facets.{Crowded, Cells, slots}
-use Rattle.complex.specs.Skeleton.{flat, edgesOf, facetsOf, borderOf}
+use Rattle.complex.specs.Skeleton.{edgesOf, facetsOf, borderOf}
 use Rattle.cells.specs.Made.{Making, Made}
 use Rattle.cells.specs.Named.{Naming, Named}
 use Rattle.facets.specs.Table.{none, MateTable, Meeting}
@@ -83,14 +84,6 @@ still need d ws keys rows spare counts keys′ rows′ spare′ counts′ lk lr 
             in-counts = omega (arith, w .room .in-counts);
           };
     }
-
--- ---- words one after the other
-pub flat-cut : (n m : ℕ) (l : List ℕ) → flat (cut n m l) ≡ take (m * n) l
-unfolding cut
-flat-cut n zero l = ap (λ (k : ℕ). take k l) (sym (zero-mul n))
-flat-cut n (suc m) l =
-    let e : suc m * n ≡ n + m * n = omega (arith, suc-mul m n) in
-    ap (λ (t : List ℕ). take n l ++ t) (flat-cut n m (drop n l)) ∙ sym (take-add n (m * n) l) ∙ ap (λ (k : ℕ). take k l) (sym e)
 
 -- ---- handing out
 pub handed-short : (ws : List (List ℕ)) (out : List ℕ) → length out < length (flat ws) → Handed ws (Refused tooShort 0) out out

@@ -9,11 +9,12 @@ use Rattle.refusal.specs.declared.Room.{Room}
 use Rattle.refusal.specs.Table.{crowdedFacet, tooShort}
 use Rattle.refusal.specs.Lent.{onto, lengths, Cleared}
 use Rattle.refusal.specs.Call.{Comes}
+use Rattle.lists.specs.Rows.{flat}
 use Rattle.complex.specs.Check.{answerOf}
 use Rattle.complex.specs.Cells.{cellsOf}
 use Rattle.complex.specs.Facets.{Crowded}
 use Rattle.complex.specs.Room.{needOf}
-use Rattle.complex.specs.Skeleton.{flat, facetsOf}
+use Rattle.complex.specs.Skeleton.{facetsOf}
 use Rattle.table.specs.Sides.{tableOf}
 
 -- the words are handed out one after the other, or 12. `given` is the length of the result list.

@@ -10,7 +10,7 @@ use lib.ListN.{length, getD}
 use Rattle.refusal.specs.declared.Answer.the-variants.{Fine}
 use Rattle.refusal.specs.declared.Counted.the-variants as Counted
 use Rattle.refusal.specs.Table.{noSigns}
-use Rattle.lists.specs.Rows.{cut}
+use Rattle.lists.specs.Rows.{cut, flat}
 use Rattle.multiindex.specs.Sort.{insertBy, insert, sortWord}
 use Rattle.multiindex.specs.Sign.{Sign, plus, minus, opposite, times}
 use Rattle.complex.specs.Cells.{decides, comesBefore, placed, place, inOrder, cellsOf}
@@ -26,7 +26,7 @@ use Rattle.quotient.specs.Reduce.{restAt, reflectedBy, numberTo}
 use Rattle.quotient.specs.Points.{numberOf}
 use Rattle.gridwords.specs.Cells.{met, gridCells}
 use Rattle.gridmesh.specs.Words.{gluedCells}
-use Rattle.ordering.specs.Order.{sameWord, wordIf, wordOf, byCell, keepUnless, without, IsOrder, AgreeOnFacets, flat}
+use Rattle.ordering.specs.Order.{sameWord, wordIf, wordOf, byCell, keepUnless, without, IsOrder, AgreeOnFacets}
 use Rattle.gridorder.specs.declared.Triangulated.the-variants as Triangulated
 use Rattle.gridorder.specs.Promise.{ownWords, wordsByCell, HandsOut, sizeOf}
 use Rattle.gridorder.specs.Promise as Order
@@ -190,7 +190,6 @@ band-no-order h =
     band-differ (subst (λ (ks : Words). AgreeOnFacets 2 bandCells ks) (by-words band bandCells bandWords bandOrder band-cells band-words band-by) (subst (λ (cs : Words). AgreeOnFacets 2 cs (wordsByCell band)) band-cells (h .agree)))
 
 pub band-ordered : Order.Ends band (sizeOf band) (sizeOf band) (Triangulated.Unordered 6) (record { cells = flat (gluedCells band); order = flat [] })
-unfolding flat
 band-ordered =
     subst (λ (n : ℕ). Order.Ends band (sizeOf band) (sizeOf band) (Triangulated.Unordered n) (record { cells = flat (gluedCells band); order = [] })) (ap length band-cells)
     (Order.unordered (subst (λ (cs : Words). Crowded 2 cs → ⊥) (sym band-cells) band-free) band-no-order (le-refl _))

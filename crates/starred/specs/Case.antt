@@ -6,6 +6,7 @@ use lib.IntN.{ℤ}
 use lib.ListN.{length, replicate}
 use Rattle.refusal.specs.declared.Answer.{Answer}
 use Rattle.refusal.specs.declared.Counted.{Counted}
+use Rattle.lists.specs.Rows.{flat}
 use Rattle.multiindex.specs.Permutation.{upto}
 use Rattle.orientation.specs.Promise as Orientation
 use Rattle.quotient.specs.declared.Grid.{Grid}
@@ -13,7 +14,6 @@ use Rattle.quotient.specs.Shape.{checkOf}
 use Rattle.quotient.specs.Reduce.{vertexOf}
 use Rattle.gridwords.specs.Cells.{wordsOf}
 use Rattle.gridmesh.specs.Words.{gluedCells}
-use Rattle.ordering.specs.Order.{flat}
 use Rattle.gridorder.specs.declared.Triangulated.{Triangulated}
 use Rattle.gridorder.specs.Promise as Order
 use Rattle.lattice.specs.Refine as Refine

@@ -9,13 +9,13 @@ use native.Mathlib.Omega.{arith}
 use lib.Dec.{eqb}
 use lib.ListN.{length, take, drop, length-append, length-take, length-drop}
 use Rattle.refusal.specs.declared.Answer.the-variants.{Fine}
-use Rattle.lists.specs.Rows.{rows}
+use Rattle.lists.specs.Rows.{rows, flat}
 use Rattle.lists.proofs.Rows.{cut-length, cut-at}
 use Rattle.multiindex.proofs.SortLaws.{sort-length}
 use Rattle.complex.specs.Cells as Complex
 use Rattle.complex.specs.Cells.{comesBefore, placed, place}
 use Rattle.complex.specs.Facets.{cellAt, facetAt, slots}
-use Rattle.complex.specs.Skeleton.{flat, inColex, pairsOf, allPairs, edgesOf, tab, facetRowOf, facetsOf, rowsWith, keepIf, keep, borderOf}
+use Rattle.complex.specs.Skeleton.{inColex, pairsOf, allPairs, edgesOf, tab, facetRowOf, facetsOf, rowsWith, keepIf, keep, borderOf}
 use Rattle.cells.proofs.Words.{Word, Each, In, each-in, each-of, in-at, at-in}
 use Rattle.facets.proofs.Meeting.{slots-most}
 use Rattle.ordering.proofs.Orders.{order-length}

@@ -15,11 +15,12 @@ use Rattle.refusal.specs.Lent.{onto, lengths, Roomy}
 use Rattle.refusal.specs.Table.{crowdedFacet}
 use Rattle.refusal.specs.Call.{Comes, refused, cramped, ended}
 use Rattle.refusal.proofs.Chain.{fine-refused}
+use Rattle.lists.specs.Rows.{flat}
 use Rattle.complex.specs.Cells as Complex
 use Rattle.complex.specs.Check.{answerOf}
 use Rattle.complex.specs.Facets.{Crowded}
 use Rattle.complex.specs.Room.{keyRoom, needOf}
-use Rattle.complex.specs.Skeleton.{flat, edgesOf, borderOf}
+use Rattle.complex.specs.Skeleton.{edgesOf, borderOf}
 use Rattle.complex.proofs.Fine.{passed-fine}
 use Rattle.skeleton.specs.Promise.{Gives, Listed}
 use Rattle.skeleton.specs.Promise.Gives.{short, listed}

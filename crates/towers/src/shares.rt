@@ -1,14 +1,16 @@
 // Shares of the coarse vertices, whole numbers over the refinement number. A table has a row of 32 shares for each vertex: share v of row x is how much of x is the coarse vertex v.
 use crate::wide;
 ghost use mathlib.Core.Path.{_≡_};
-ghost use Prim.Native.Nat.{_≤_, _<_};
+ghost use Prim.Native.Nat.{_+_, _*_, _≤_, _<_};
 ghost use lib.ListN.{length};
 
 // No share: what a sum comes to that is larger than any share can be.
 const NONE: u32 = 4294967295;
 
-// have + weight * share.
-fn plus(have: u32, weight: u32, share: u32) -> u32 {
+// have + weight * share, exactly; NONE where one of the three is larger than any share can be.
+fn plus(have: u32, weight: u32, share: u32) -> u32
+    ensures { λ r. ⌜ (have ≤ 4096 → weight ≤ 64 → share ≤ 4096 → r ≡ have + weight * share) ⌝ }
+{
     if 4096 < have {
         return NONE;
     }

@@ -1,0 +1,144 @@
+"""bench.py OURS RUST [count]: the same calls on the same inputs timed in both programs, at the limits and at a quarter of their size. One line a call: the median of each, the
+ratio, and how our time grows from the quarter to the whole, set to four times the cells (linear: about 4). With `count` instructions are counted instead, by valgrind: the same
+whatever else the machine does."""
+import re
+import subprocess
+import sys
+
+sys.path.insert(0, sys.path[0] + "/../compare")
+import model as m
+
+P, O, T = m.PERIODIC, 0, m.TWISTED
+
+
+def grid(*axes):
+    return ("grid", len(axes) // 2, list(axes))
+
+
+def listed(d, words):
+    return ("words", d, [v for w in words for v in w])
+
+
+def words_of(*axes):
+    d = len(axes) // 2
+    return listed(d, m.words_of(d, list(axes)))
+
+
+def fan(n):
+    return listed(2, [(0, k, k + 1) for k in range(1, n + 1)])
+
+
+GRIDS = [("2-D torus 64 x 32", grid(64, P, 32, P), grid(32, P, 16, P)), ("3-D torus 5 x 8 x 17", grid(5, P, 8, P, 17, P), grid(4, P, 6, P, 7, P))]
+LISTS = [("2-D torus 64 x 32", words_of(64, P, 32, P), words_of(32, P, 16, P)), ("3-D torus 5 x 8 x 17", words_of(5, P, 8, P, 17, P), words_of(4, P, 6, P, 7, P)),
+         ("fan of 4,094 triangles", fan(4094), fan(1023))]
+# name, words and R at the limit, words and R at a quarter
+REFINED = [("1-D, 2,047 edges, R 2", words_of(2047, O), 2, words_of(511, O), 2), ("1-D, 63 edges, R 64", words_of(63, O), 64, words_of(63, O), 16),
+           ("2-D torus 32 x 16, R 2", words_of(32, P, 16, P), 2, words_of(16, P, 8, P), 2), ("one triangle, R 64", listed(2, [(0, 1, 2)]), 64, listed(2, [(0, 1, 2)]), 32),
+           ("3-D torus 3 x 4 x 7, R 2", words_of(3, P, 4, P, 7, P), 2, words_of(3, P, 7, P, 1, O), 2), ("one tetrahedron, R 16", listed(3, [(0, 1, 2, 3)]), 16, listed(3, [(0, 1, 2, 3)]), 10)]
+GRID_CALLS = ["reduce", "nvertices", "is_orientation_preserving", "cell_words", "triangulate_ordered", "edge_lengths_sq", "edge_length_sq"]
+LIST_CALLS = ["cells", "edges", "facets", "border", "orientation", "orient_by", "ordering", "induced_orientation"]
+REFINE_CALLS = ["refine", "refine_with"]
+NOT_IN_RUST = {"edge_length_sq"}
+CONSTANT = {"nvertices", "is_orientation_preserving"}          # made a thousand times in one run: they do not grow
+
+
+def coherent(d, ws):
+    """the coherent signs, for the call that tests a caller's"""
+    cells = m.cells_of(d, ws)
+    rows, signs = m.facet_rows(cells), {0: 1}
+    near = {}
+    for row in rows.values():
+        if len(row) == 2:
+            (a, i), (b, k) = row[0][:2], row[1][:2]
+            near.setdefault(a, []).append((b, i, k))
+            near.setdefault(b, []).append((a, k, i))
+    for start in range(len(cells)):
+        signs.setdefault(start, 1)
+        stack = [start]
+        while stack:
+            a = stack.pop()
+            for b, i, k in near.get(a, []):
+                if b not in signs:
+                    signs[b] = -signs[a] * (-1) ** (i + k)
+                    stack.append(b)
+    return [signs[c] for c in range(len(cells))]
+
+
+class Case:
+    """a call on an input: the line for our program and the one for the Rust, and how many cells there are"""
+
+    def __init__(self, call, value, r=0):
+        kind, d, data = value
+        signs = coherent(d, data) if call == "orient_by" else []
+        grid_, words = (data, []) if kind == "grid" else ([], data)
+        lists = [grid_, [1, 2, 3][:d] if kind == "grid" else [], words, words, [int(s > 0) for s in signs]]
+        self.ours = " ".join([call, str(d), str(r)] + [" ".join(map(str, [len(x)] + x)) for x in lists])
+        if kind == "grid":
+            self.rust = "grid %s %s" % (call, m.grid_text(d, data, [m.bits(float(x)) for x in lists[1]]))
+            self.cells = len(m.words_of(d, data))
+        else:
+            self.rust = "words %s %s" % (call, ";".join(",".join(map(str, w)) for w in m.chunks(words, d + 1)))
+            self.rust += (" " + "".join("+" if s > 0 else "-" for s in signs) if signs else "") + (" %d" % r if r else "")
+            self.cells = len(words) // (d + 1) * max(r, 1) ** d
+
+
+def cases():
+    for name, whole, quarter in GRIDS:
+        for call in GRID_CALLS:
+            yield call, name, Case(call, whole), Case(call, quarter)
+    for name, whole, quarter in LISTS:
+        for call in LIST_CALLS:
+            yield call, name, Case(call, whole), Case(call, quarter)
+    for name, whole, r, quarter, s in REFINED:
+        for call in REFINE_CALLS:
+            yield call, name, Case(call, whole, r), Case(call, quarter, s)
+
+
+def run(program, lines):
+    p = subprocess.run([program], input="\n".join(lines) + "\n", capture_output=True, text=True)
+    if p.returncode:
+        sys.exit(program + ": " + p.stderr)
+    return [[float(x) for x in line.split()] for line in p.stdout.splitlines()]
+
+
+def counted(program, function, lines):
+    """the instructions of one run of each line, in the function alone"""
+    out = []
+    for line in lines:
+        tool = ["valgrind", "--tool=callgrind", "--callgrind-out-file=/dev/null", "--toggle-collect=" + function, program, "1"]
+        p = subprocess.run(tool, input=line + "\n", capture_output=True, text=True)
+        found = re.search(r"Collected : (\d+)", p.stderr)
+        if p.returncode or not found:
+            sys.exit(program + ": " + p.stderr)
+        out.append([float(found[1]) / (1000 if CONSTANT & set(line.split()[:2]) else 1), 0])
+    return out
+
+
+def shown(ns):
+    if "count" in sys.argv:
+        return "%12d" % ns
+    return "%9.3f us" % (ns / 1e3) if ns < 1e6 else "%9.3f ms" % (ns / 1e6)
+
+
+def main():
+    table = list(cases())
+    asked = [row for row in table if row[0] not in NOT_IN_RUST]
+    if "count" in sys.argv:
+        ours = counted(sys.argv[1], "once", [c.ours for row in table for c in row[2:]])
+        rust = iter(counted(sys.argv[2], "bench::timed*", [row[2].rust for row in asked]))
+    else:
+        ours = run(sys.argv[1], [c.ours for row in table for c in row[2:]])
+        rust = iter(run(sys.argv[2], [row[2].rust for row in asked]))
+    print("%-26s %-26s %12s %12s %8s %12s %7s" % ("call", "input", "ours", "Rust", "ratio", "Rust alone", "growth"))
+    for i, (call, name, whole, quarter) in enumerate(table):
+        a, b = ours[2 * i][0], ours[2 * i + 1][0]
+        growth = "%7.1f" % (a / b * 4 * quarter.cells / whole.cells) if call not in CONSTANT else "      -"
+        if call in NOT_IN_RUST:
+            print("%-26s %-26s %12s %12s %8s %12s %s" % (call, name, shown(a), "-", "-", "-", growth))
+            continue
+        all_, alone = next(rust)
+        print("%-26s %-26s %12s %12s %8.1f %12s %s" % (call, name, shown(a), shown(all_), all_ / a, shown(alone) if alone else "-", growth))
+
+
+if __name__ == "__main__":
+    main()

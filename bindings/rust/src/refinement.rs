@@ -1,0 +1,124 @@
+//! Refinement: every cell is cut into R^d children.
+use crate::answer::said;
+use crate::complex::corners;
+use crate::{raw, Refusal};
+
+/// A child of a coarse cell.
+#[derive(Clone, Debug, PartialEq)]
+pub struct Child {
+    /// Its vertices, rising.
+    pub cell: Vec<u32>,
+    /// Its word: the corners in the order they are met.
+    pub word: Vec<u32>,
+    /// The coarse cell that it lies in, by its place in the list of [`cells`](crate::cells).
+    pub parent: u32,
+    /// d·d numbers by column: column j is sorted corner j+1 less corner 0, in the parent's local coordinates.
+    pub jacobian: Vec<f64>,
+    /// The same times R, whole numbers.
+    pub whole: Vec<i32>,
+}
+
+/// A new vertex: the coarse vertices with a positive weight, rising.
+#[derive(Clone, Debug, PartialEq)]
+pub struct Birth {
+    /// The coarse vertices.
+    pub vertices: Vec<u32>,
+    /// Their weights, over R.
+    pub weights: Vec<u32>,
+    /// Their shares: weight times (1/R).
+    pub shares: Vec<f64>,
+}
+
+/// A refined complex.
+#[derive(Clone, Debug, PartialEq)]
+pub struct Refined {
+    /// The children in the colex order of the refined cells.
+    pub children: Vec<Child>,
+    /// The new vertices in the order of their numbers.
+    pub births: Vec<Birth>,
+    /// How many vertices there are, coarse and new together: the first birth has the number `vertices - births.len()`.
+    pub vertices: u32,
+}
+
+/// Refines every cell by r along its sorted vertices.
+///
+/// ```
+/// let refined = planner::refine(2, &[0, 1, 2], 2).unwrap();
+/// let words: Vec<&[u32]> = refined.children.iter().map(|child| child.word.as_slice()).collect();
+/// assert_eq!(words, [[0, 3, 4], [3, 1, 5], [4, 5, 2], [3, 4, 5]]);
+/// assert_eq!(refined.births[0].vertices, [0, 1]);
+/// assert_eq!(refined.births[0].shares, [0.5, 0.5]);
+/// assert_eq!(refined.vertices, 6);
+/// assert_eq!(planner::refine(2, &[0, 1, 2], 0).unwrap_err().number, 11);
+/// ```
+pub fn refine(d: u32, words: &[u32], r: u32) -> Result<Refined, Refusal> {
+    refined(d, words, None, r)
+}
+
+/// Refines every cell by r along the word that the order has for it. Refused with 16 where the order words are not one for each cell.
+///
+/// ```
+/// let refined = planner::refine_with(1, &[0, 1], &[1, 0], 2).unwrap();
+/// assert_eq!(refined.children[0].word, [2, 0]);
+/// assert_eq!(refined.children[1].word, [1, 2]);
+/// ```
+pub fn refine_with(d: u32, words: &[u32], order: &[u32], r: u32) -> Result<Refined, Refusal> {
+    refined(d, words, Some(order), r)
+}
+
+/// How many children there may be, at most the limit; r counts as 1 where it is refused.
+fn most_children(d: u32, n: usize, r: u32) -> usize {
+    let r = if (1..=64).contains(&r) { r as usize } else { 1 };
+    (n / (d as usize + 1) * r.pow(d.min(3))).min(4096)
+}
+
+fn refined(d: u32, words: &[u32], order: Option<&[u32]>, r: u32) -> Result<Refined, Refusal> {
+    let n = corners(d, words);
+    let size = d as usize + 1;
+    let c = most_children(d, n, r);
+    let k = c * size;
+    let births = 4096 * size.min(4);
+    let (mut out_cells, mut out_words, mut parents) = (vec![0u32; k], vec![0u32; k], vec![0u32; c]);
+    let (mut jacobians, mut wholes) = (vec![0.0f64; 9 * c], vec![0i32; 9 * c]);
+    let (mut vertices, mut weights, mut shares) = (vec![0u32; births], vec![0u32; births], vec![0.0f64; births]);
+    let mut room = [n, n, size * k, 4 * n + 8 * k, n + k, n + k, n + k + 65, k, c, 4096].map(|n| vec![0u32; n]);
+    let [a, b, p, e, o, s, t, u, f, v] = &mut room;
+    let mut total = [0u32];
+    macro_rules! call {
+        ($call:expr, $($argument:expr),*) => {
+            unsafe {
+                $call(
+                    d, r, words.as_ptr(), words.len(), $($argument,)* out_cells.as_mut_ptr(), out_cells.len(), out_words.as_mut_ptr(), out_words.len(), parents.as_mut_ptr(), parents.len(),
+                    jacobians.as_mut_ptr(), jacobians.len(), wholes.as_mut_ptr(), wholes.len(), vertices.as_mut_ptr(), vertices.len(), weights.as_mut_ptr(), weights.len(),
+                    shares.as_mut_ptr(), shares.len(), a.as_mut_ptr(), a.len(), b.as_mut_ptr(), b.len(), p.as_mut_ptr(), p.len(), e.as_mut_ptr(), e.len(), o.as_mut_ptr(), o.len(),
+                    s.as_mut_ptr(), s.len(), t.as_mut_ptr(), t.len(), u.as_mut_ptr(), u.len(), f.as_mut_ptr(), f.len(), v.as_mut_ptr(), v.len(), total.as_mut_ptr(),
+                )
+            }
+        };
+    }
+    let answer = match order {
+        None => call!(raw::planner_refine,),
+        Some(order) => call!(raw::planner_refine_with, order.as_ptr(), order.len()),
+    };
+    let count = said(answer)? as usize;
+    let coarse = words.iter().max().map_or(0, |v| v + 1);
+    let square = d as usize * d as usize;
+    let children = (0..count)
+        .map(|i| Child {
+            cell: out_cells[size * i..size * (i + 1)].to_vec(),
+            word: out_words[size * i..size * (i + 1)].to_vec(),
+            parent: parents[i],
+            jacobian: jacobians[9 * i..9 * i + square].to_vec(),
+            whole: wholes[9 * i..9 * i + square].to_vec(),
+        })
+        .collect();
+    let births = (0..(total[0] - coarse) as usize)
+        .map(|i| {
+            let row = size * i..size * (i + 1);
+            let many = weights[row.clone()].iter().filter(|w| **w > 0).count();
+            let row = row.start..row.start + many;
+            Birth { vertices: vertices[row.clone()].to_vec(), weights: weights[row.clone()].to_vec(), shares: shares[row].to_vec() }
+        })
+        .collect();
+    Ok(Refined { children, births, vertices: total[0] })
+}
