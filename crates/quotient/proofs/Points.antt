@@ -34,11 +34,23 @@ module _ (g : Grid) (v : ℕ) where
   pub wrapped-no : (a : ℕ) (x : Axis) → x ≡ axisOf g a → closedOf (x .glue) ≡ false → false ≡ wrappedAt g v a
   wrapped-no a x hx hc = let h : closedAt g a ≡ false = rw hx at hc in rw h
 
-  pub flips-yes : (a k m : ℕ) (r : Bool) (x : Axis) → wrappedAt g v a ≡ true → x ≡ axisOf g a → m ≡ maskOf (x .glue) → r ≡ member m k → r ≡ flipsAt g v a k
-  flips-yes a k m r x hw hx hm hr = rw (hw, hr, hm, hx)
+  both-yes : (b : Bool) → b ≡ b && true
+  both-yes true = refl
+  both-yes false = refl
 
-  pub flips-no : (a k : ℕ) → wrappedAt g v a ≡ false → false ≡ flipsAt g v a k
-  flips-no a k hw = rw hw
+  both-no : (b : Bool) → false ≡ b && false
+  both-no true = refl
+  both-no false = refl
+
+  pub flips-yes : (a k m : ℕ) (r : Bool) (x : Axis) → x ≡ axisOf g a → m ≡ maskOf (x .glue) → member m k ≡ true → r ≡ wrappedAt g v a → r ≡ flipsAt g v a k
+  flips-yes a k m r x hx hm hk hr =
+      let e : member (maskAt g a) k ≡ true = ap (λ (y : Axis). member (maskOf (y .glue)) k) (sym hx) ∙ ap (λ (z : ℕ). member z k) (sym hm) ∙ hk in
+      hr ∙ both-yes (wrappedAt g v a) ∙ ap (λ (b : Bool). wrappedAt g v a && b) (sym e)
+
+  pub flips-no : (a k m : ℕ) (x : Axis) → x ≡ axisOf g a → m ≡ maskOf (x .glue) → member m k ≡ false → false ≡ flipsAt g v a k
+  flips-no a k m x hx hm hk =
+      let e : member (maskAt g a) k ≡ false = ap (λ (y : Axis). member (maskOf (y .glue)) k) (sym hx) ∙ ap (λ (z : ℕ). member z k) (sym hm) ∙ hk in
+      both-no (wrappedAt g v a) ∙ ap (λ (b : Bool). wrappedAt g v a && b) (sym e)
 
   -- one axis more has reflected
   pub reflect-more : (k a n c r : ℕ) → n ≡ cellsOn g k → c ≡ reflectedBy g v k a → r ≡ cond (flipsAt g v a k) (n - c) c → r ≡ reflectedBy g v k (a + 1)

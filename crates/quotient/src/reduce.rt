@@ -51,14 +51,14 @@ impl Grid {
         }
     }
 
-    // Whether point v has axis k reflected by axis a.
+    // Whether point v has axis k reflected by axis a. The set is asked first: most axes reflect nothing, and the point's coordinate takes divisions.
     fn flips(self, v: u32, a: u32, k: u32) -> bool
         ensures { λ r. ⌜ r ≡ flipsAt self v a k ⌝ }
     {
-        if self.wrapped(v, a) {
-            let x = self.axis(a);
-            let g = x.glue;
-            mask::member_of(g.mask(), k)
+        let x = self.axis(a);
+        let g = x.glue;
+        if mask::member_of(g.mask(), k) {
+            self.wrapped(v, a)
         } else {
             false
         }

@@ -18,10 +18,12 @@ member-of-requires : tie.Need-member-of-requires
 member-of-requires c κs = search needs
 
 returns : tie.Need-returns
-returns c = flips-yes _ _ _ _ _ _ _ (sym (c .before .before .before .before .wrapped .ensures) ∙ c .before .before .before .if1 .taken) (c .before .before .axis .ensures) (c .before .mask .ensures) (c .member-of .ensures)
+returns c =
+    flips-yes _ _ _ _ _ _ _ (c .before .before .before .before .axis .ensures) (c .before .before .before .mask .ensures)
+    (sym (c .before .before .member-of .ensures) ∙ c .before .if1 .taken) (c .wrapped .ensures)
 
 returns-2 : tie.Need-returns-2
-returns-2 c = flips-no _ _ _ _ (sym (c .before .wrapped .ensures) ∙ c .if1 .left)
+returns-2 c = flips-no _ _ _ _ _ _ (c .before .before .before .axis .ensures) (c .before .before .mask .ensures) (sym (c .before .member-of .ensures) ∙ c .if1 .left)
 
 pub flips-spec : {M : Type 1} → statement M
-flips-spec = tie.close (tie.spec wrapped-requires axis-requires mask-requires member-of-requires returns returns-2)
+flips-spec = tie.close (tie.spec axis-requires mask-requires member-of-requires wrapped-requires returns returns-2)
