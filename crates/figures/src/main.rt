@@ -1,10 +1,10 @@
 // Document 01's figures that are run: the refusal's number, 00 for none, and for signs the first six. The starred figures are proved in `starred`; their signs are run too.
+use grid_sides::Sides;
 use quotient::Axis;
 use quotient::Glue;
 use quotient::Grid;
 use refusal::Answer;
 use refusal::Counted;
-use sides::Sides;
 
 fn number(a: Counted) -> u32 {
     match a {
@@ -116,7 +116,7 @@ fn two_lengths() {
     let mut rows = [0u32; 648];
     let mut spare = [0u32; 648];
     let mut counts = [0u32; 648];
-    line(number(gridlengths::edge_lengths_sq(
+    line(number(grid_lengths::edge_lengths_sq(
         grid,
         &mut lengths,
         &mut keys,

@@ -17,12 +17,12 @@ use Rattle.multiindex.specs.Sort.{inversions}
 use Rattle.multiindex.specs.Sign.{Sign, plus, minus, opposite, induced}
 use Rattle.multiindex.proofs.SortLaws.{sort-length}
 use Rattle.complex.specs.Facets.{cellAt, slots, Mates}
-use Rattle.facets.specs.Table.{none, MateTable}
-use Rattle.facets.proofs.Laws.{row-cell-below, row-slot-below}
-use Rattle.facets.proofs.Meeting.{slots-most}
-use Rattle.walk.specs.Signs as walk
-use Rattle.signs.specs.Found.{signOf}
-use Rattle.signs.proofs.Linking.{facet-row, mates-row, mate-below, rows-few}
+use Rattle.complex_mates.specs.Table.{none, MateTable}
+use Rattle.complex_mates.proofs.Laws.{row-cell-below, row-slot-below}
+use Rattle.complex_mates.proofs.Meeting.{slots-most}
+use Rattle.orientation_walk.specs.Signs as walk
+use Rattle.orientation_signs.specs.Found.{signOf}
+use Rattle.orientation_signs.proofs.Linking.{facet-row, mates-row, mate-below, rows-few}
 use Rattle.ordering.specs.Order.{wordOf, without, AgreeOnFacets}
 use Rattle.ordering.specs.Agree.{rowWord, AgreesAt, Clash, markAt}
 use Rattle.ordering.specs.Promise.{wordsBy, wordSign, Ready}

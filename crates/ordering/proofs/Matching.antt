@@ -17,8 +17,8 @@ use Rattle.sorting.specs.Gather.{row, rowsOf}
 use Rattle.sorting.proofs.Colex.{row-same}
 use Rattle.sorting.proofs.Rows.{pos-room}
 use Rattle.complex.specs.Cells.{inOrder}
-use Rattle.cells.proofs.Words.{Word}
-use Rattle.cells.proofs.Making.{key-table, key-length, key-row, made-cell, made-same}
+use Rattle.complex_cells.proofs.Words.{Word}
+use Rattle.complex_cells.proofs.Making.{key-table, key-length, key-row, made-cell, made-same}
 use Rattle.ordering.specs.Order.{wordOf}
 use Rattle.ordering.specs.Arrange.{Matching, Fits, Matched}
 use Rattle.ordering.proofs.Orders.{word-first}

@@ -12,8 +12,8 @@ use Rattle.lists.specs.Rows.{flat}
 use Rattle.multiindex.specs.Sort.{sortWord}
 use Rattle.complex.specs.Cells.{comesBefore, placed, place, inOrder}
 use Rattle.complex.specs.Facets.{cellAt}
-use Rattle.cells.proofs.Words.{Word, Each, Rising, In, each-in, each-of, in-at, at-in}
-use Rattle.cells.proofs.Order.{Colex, colex-irr, colex-trans, order-rising, order-from, order-has}
+use Rattle.complex_cells.proofs.Words.{Word, Each, Rising, In, each-in, each-of, in-at, at-in}
+use Rattle.complex_cells.proofs.Order.{Colex, colex-irr, colex-trans, order-rising, order-from, order-has}
 use Rattle.sorting.specs.Gather.{row, rowsOf}
 use Rattle.ordering.specs.Order.{sameWord, wordIf, wordOf, byCell, IsOrder}
 

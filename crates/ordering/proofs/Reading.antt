@@ -11,9 +11,9 @@ use lib.ListN.{length, getD, take, drop, set}
 use lib.Seq.{getD-set-same, getD-set-other}
 use Rattle.sorting.proofs.Rows.{pos-room}
 use Rattle.complex.specs.Facets.{slots}
-use Rattle.facets.specs.Table.{none}
-use Rattle.facets.proofs.Laws.{slots-some, row-cell-below}
-use Rattle.facets.proofs.Meeting.{slots-most}
+use Rattle.complex_mates.specs.Table.{none}
+use Rattle.complex_mates.proofs.Laws.{slots-some, row-cell-below}
+use Rattle.complex_mates.proofs.Meeting.{slots-most}
 use Rattle.ordering.specs.Order.{sameWord, without}
 use Rattle.ordering.specs.Agree.{rowWord, Reading, Agreeing, AgreesAt, Clash}
 

@@ -17,14 +17,14 @@ use Rattle.sorting.specs.Gather.{row}
 use Rattle.multiindex.specs.Sort.{inversions}
 use Rattle.complex.specs.Cells.{cellsOf}
 use Rattle.complex.specs.Facets.{cellAt, slots}
-use Rattle.facets.specs.Table.{none, MateTable}
-use Rattle.facets.proofs.Meeting.{slots-most}
-use Rattle.walk.specs.Signs as walk
-use Rattle.signs.specs.Signs.{Coherent}
-use Rattle.signs.specs.Found.{signOf, Finding}
+use Rattle.complex_mates.specs.Table.{none, MateTable}
+use Rattle.complex_mates.proofs.Meeting.{slots-most}
+use Rattle.orientation_walk.specs.Signs as walk
+use Rattle.orientation_signs.specs.Signs.{Coherent}
+use Rattle.orientation_signs.specs.Found.{signOf, Finding}
 use Rattle.orientation.proofs.Steps.{room-least}
-use Rattle.oriented.specs.Test.{Testing, Tested}
-use Rattle.oriented.proofs.Determined.{coherent-same}
+use Rattle.orientation_by.specs.Test.{Testing, Tested}
+use Rattle.orientation_by.proofs.Determined.{coherent-same}
 use Rattle.ordering.specs.Agree.{markAt, Marking}
 use Rattle.ordering.specs.Promise.{wordsBy, wordSign, Preparing, Ready, Prepared, Wound}
 use Rattle.ordering.specs.Promise.Prepared.{crowded as prepared-crowded, unordered as prepared-unordered, ready as prepared-ready}

@@ -6,7 +6,7 @@ use lib.ListN.{length, getD}
 use Rattle.sorting.specs.Gather.{row}
 use Rattle.multiindex.specs.Sort.{inversions}
 use Rattle.complex.specs.Facets.{slots}
-use Rattle.facets.specs.Table.{none}
+use Rattle.complex_mates.specs.Table.{none}
 use Rattle.ordering.specs.Order.{without}
 
 -- the word of facet row x's cell, without the vertex that is dropped

@@ -18,8 +18,8 @@ use Rattle.complex.specs.Check.{answerOf, Passed}
 use Rattle.complex.specs.Room.{keyRoom}
 use Rattle.complex.specs.Cells.{cellsOf}
 use Rattle.complex.specs.Facets.{cellAt, Crowded}
-use Rattle.facets.specs.Table.{MateTable}
-use Rattle.signs.specs.Signs.{Coherent}
+use Rattle.complex_mates.specs.Table.{MateTable}
+use Rattle.orientation_signs.specs.Signs.{Coherent}
 use Rattle.ordering.specs.declared.Ordered.{Ordered}
 use Rattle.ordering.specs.declared.Ordered.the-variants.{Agree, Differ, Refused}
 use Rattle.ordering.specs.Order.{byCell, Orders, AgreeOnFacets}

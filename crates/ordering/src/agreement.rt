@@ -79,12 +79,12 @@ pub fn agree(d: usize, m: usize, mates: &[u32], list: &[u32]) -> bool
     ensures all { λ r. ⌜ (r ≡ true → (x : ℕ) → x < m * slots d → AgreesAt d m (now (mates .entry)) (now (list .entry)) x) ⌝ }
     ensures clash { λ r. ⌜ (r ≡ false → Clash d m (now (mates .entry)) (now (list .entry))) ⌝ }
 {
-    let k = facets::slots(d);
+    let k = complex_mates::slots(d);
     let total = m * k;
     let mut x = 0;
     while x < total {
         let y = mates[x];
-        if y == facets::NONE {
+        if y == complex_mates::NONE {
             x += 1;
             continue;
         }

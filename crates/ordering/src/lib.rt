@@ -52,9 +52,9 @@ fn prepare(
     ensures { λ r. ⌜ Prepared d at (length (now (words .entry))) (cellsOf d (now (words .entry))) (now (order .entry)) (now (keys .exit)) (now (rows .exit)) r ⌝ }
 {
     let len = words.len();
-    let m = cells::cells(d, words, keys, rows, spare, counts);
+    let m = complex_cells::cells(d, words, keys, rows, spare, counts);
     let fits = arranged::arrange(d, m, len, order, &mut keys[at..], rows, spare, counts);
-    if !facets::mates(d, m, len, &mut keys[..at], rows, spare, counts) {
+    if !complex_mates::mates(d, m, len, &mut keys[..at], rows, spare, counts) {
         return Counted::Refused(CROWDED_FACET, 0);
     }
     if !fits {
@@ -206,7 +206,7 @@ fn wound_work(
         Counted::Count(m) => {
             let count = wide(m);
             agreement::word_marks(d + 1, count, &keys[at..], counts);
-            if !oriented::coherent_as(d, count, rows, &mut keys[..at], spare, counts) {
+            if !orientation_by::coherent_as(d, count, rows, &mut keys[..at], spare, counts) {
                 return Verdict::No;
             }
             Verdict::Yes

@@ -12,7 +12,7 @@ use Rattle.refusal.proofs.Determined.{comes-one, cleared-one}
 use Rattle.complex.specs.Check.{answerOf}
 use Rattle.complex.specs.Room.{needOf}
 use Rattle.complex.specs.Cells.{cellsOf}
-use Rattle.signs.proofs.Unique.{one-list}
+use Rattle.orientation_signs.proofs.Unique.{one-list}
 use Rattle.orientation.specs.Promise.{Ends, crowded, one-sided, short, signed, Orientation}
 
 pub ends-one : (d : ℕ) (cs : List (List ℕ)) (g : ℕ) (r r′ : Counted) (l l′ : List ℤ) → Ends d cs g r l → Ends d cs g r′ l′ → (r ≡ r′) × (l ≡ l′)

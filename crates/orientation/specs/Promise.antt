@@ -15,7 +15,7 @@ use Rattle.complex.specs.Check.{answerOf}
 use Rattle.complex.specs.Room.{needOf}
 use Rattle.complex.specs.Cells.{cellsOf}
 use Rattle.complex.specs.Facets.{Crowded}
-use Rattle.signs.specs.Signs.{Coherent, Oriented, signList}
+use Rattle.orientation_signs.specs.Signs.{Coherent, Oriented, signList}
 
 -- how a call on a list of cells ends, once its words are checked and there is room: 7, 13, 12, or one sign a cell. `given` is the length of the sign list.
 pub data Ends (d : ℕ) (cs : List (List ℕ)) (given : ℕ) : Counted → List ℤ → Type 0 where

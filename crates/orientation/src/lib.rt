@@ -32,17 +32,17 @@ fn work(
     requires { ⌜ Working d (now words) (now keys) (now rows) (now spare) (now counts) ⌝ }
     ensures { λ r. ⌜ Worked d (now (words .entry)) r (now (signs .entry)) (now (signs .exit)) ⌝ }
 {
-    let m = cells::cells(d, words, keys, rows, spare, counts);
-    if !facets::mates(d, m, words.len(), keys, rows, spare, counts) {
+    let m = complex_cells::cells(d, words, keys, rows, spare, counts);
+    if !complex_mates::mates(d, m, words.len(), keys, rows, spare, counts) {
         return Counted::Refused(CROWDED_FACET, 0);
     }
-    if !signs::coherent(d, m, rows, keys, spare, counts) {
+    if !orientation_signs::coherent(d, m, rows, keys, spare, counts) {
         return Counted::Refused(NO_SIGNS, 0);
     }
     if signs.len() < m {
         return Counted::Refused(TOO_SHORT, 0);
     }
-    signs::hand_out(counts, &mut signs[..m]);
+    orientation_signs::hand_out(counts, &mut signs[..m]);
     Counted::Count(m as u32)
 }
 

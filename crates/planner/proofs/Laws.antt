@@ -6,12 +6,12 @@ use lib.Ieee.{Float}
 use Rattle.quotient.specs.declared.Grid.{Grid}
 use Rattle.quotient.specs.declared.Made.{Made}
 use Rattle.refusal.specs.declared.Counted.{Counted}
-use Rattle.gridmesh.specs.Words.{CellWords}
-use Rattle.gridorder.specs.declared.Triangulated.{Triangulated}
-use Rattle.gridorder.specs.Promise.{TriangulateOrdered}
-use Rattle.gridlengths.specs.declared.EdgeLength.{EdgeLength}
-use Rattle.gridlengths.specs.Lengths.{EdgeLengths}
-use Rattle.passing.specs.Said.{Said, countedCode, madeCode, madeAxes, triangulatedCode, lengthCode, lengthSquares}
+use Rattle.grid_mesh.specs.Words.{CellWords}
+use Rattle.grid_order.specs.declared.Triangulated.{Triangulated}
+use Rattle.grid_order.specs.Promise.{TriangulateOrdered}
+use Rattle.grid_lengths.specs.declared.EdgeLength.{EdgeLength}
+use Rattle.grid_lengths.specs.Lengths.{EdgeLengths}
+use Rattle.planner_passing.specs.Said.{Said, countedCode, madeCode, madeAxes, triangulatedCode, lengthCode, lengthSquares}
 
 -- an answer that is the call's, on a value that is the one given
 pub called : {A B : Type 0} (code : B → ℕ) (f : A → B) {r : ℕ} {b : B} {a given : A} → r ≡ code b → b ≡ f a → a ≡ given → r ≡ code (f given)

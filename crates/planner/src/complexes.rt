@@ -1,5 +1,5 @@
 // The calls on cell lists.
-use passing::said;
+use planner_passing::said;
 ghost use lib.ListN.{length};
 ghost use Rattle.complex.specs.Room.{needOf};
 ghost use Rattle.complex.specs.Cells.{cellsOf};
@@ -7,8 +7,8 @@ ghost use Rattle.complex.specs.Skeleton.{edgesOf, borderOf};
 ghost use Rattle.skeleton.specs.Promise.{Listed, FacetsListed};
 ghost use Rattle.skeleton.specs.Parts.{edgeNeed};
 ghost use Rattle.orientation.specs.Promise.{Orientation};
-ghost use Rattle.oriented.specs.Promise.{OrientBy};
-ghost use Rattle.passing.specs.Said.{Said, countedCode, verdictCode};
+ghost use Rattle.orientation_by.specs.Promise.{OrientBy};
+ghost use Rattle.planner_passing.specs.Said.{Said, countedCode, verdictCode};
 
 // The cells, d+1 vertices each, in colex order without repeats: how many. Refused: 1, 2, 3, 4, 6, 5, then 12 where a working list is too short, then 7, 12 where the
 // cell list is too short.
@@ -123,5 +123,5 @@ pub extern "C" fn planner_orient_by(
         ⌜ Said verdictCode (λ a. OrientBy d (now (words .entry)) (now (signs .entry)) a (now (keys .entry)) (now (keys .exit)) (now (rows .entry)) (now (rows .exit)) (now (spare .entry))
         (now (spare .exit)) (now (counts .entry)) (now (counts .exit))) r ⌝ }
 {
-    said::verdict(oriented::orient_by(d, words, signs, keys, rows, spare, counts))
+    said::verdict(orientation_by::orient_by(d, words, signs, keys, rows, spare, counts))
 }

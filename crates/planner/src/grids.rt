@@ -1,16 +1,16 @@
 // The calls on grids.
-use passing::given;
-use passing::said;
+use planner_passing::given;
+use planner_passing::said;
 use quotient::Grid;
 use quotient::GridVertex;
 ghost use mathlib.Core.Path.{_≡_};
 ghost use Rattle.quotient.specs.Reduce.{reduceOf};
 ghost use Rattle.quotient.specs.Shape.{parityOf, nverticesOf};
 ghost use Rattle.quotient.specs.Makers.{torusOf, kleinOf, quasiOf, bandOf};
-ghost use Rattle.gridmesh.specs.Words.{CellWords};
-ghost use Rattle.gridorder.specs.Promise.{TriangulateOrdered};
-ghost use Rattle.passing.specs.Said.{Said, reducedCode, parityCode, countedCode, madeCode, madeAxes, triangulatedCode};
-ghost use Rattle.passing.specs.Given.{plainGiven, vertexGiven, sidesGiven, gluesGiven};
+ghost use Rattle.grid_mesh.specs.Words.{CellWords};
+ghost use Rattle.grid_order.specs.Promise.{TriangulateOrdered};
+ghost use Rattle.planner_passing.specs.Said.{Said, reducedCode, parityCode, countedCode, madeCode, madeAxes, triangulatedCode};
+ghost use Rattle.planner_passing.specs.Given.{plainGiven, vertexGiven, sidesGiven, gluesGiven};
 
 // The glued number of grid point v, 4294967295 where v is past the last point. Refused: 1, 9, 8, 3, 6.
 #[no_mangle]
@@ -107,7 +107,7 @@ pub extern "C" fn planner_cell_words(
         (now (rows .exit)) (now (spare .entry)) (now (spare .exit)) (now (counts .entry)) (now (counts .exit))) r ⌝ }
 {
     let g = given::plain(d, axes);
-    said::counted(gridmesh::cell_words(g, words, keys, rows, spare, counts))
+    said::counted(grid_mesh::cell_words(g, words, keys, rows, spare, counts))
 }
 
 // The cells of the grid, d+1 vertices each, in colex order, and an order of them where there is one: how many, with 2^31 more where the order is handed out. Refused: 1,
@@ -128,5 +128,5 @@ pub extern "C" fn planner_triangulate_ordered(
         (now (keys .entry)) (now (keys .exit)) (now (rows .entry)) (now (rows .exit)) (now (spare .entry)) (now (spare .exit)) (now (counts .entry)) (now (counts .exit))) r ⌝ }
 {
     let g = given::plain(d, axes);
-    said::triangulated(gridorder::triangulate_ordered(g, cells, order, keys, rows, spare, counts))
+    said::triangulated(grid_order::triangulate_ordered(g, cells, order, keys, rows, spare, counts))
 }

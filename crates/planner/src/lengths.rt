@@ -1,12 +1,12 @@
 // The calls on flat grids: lengths of edges.
-use passing::given;
-use passing::said;
+use planner_passing::given;
+use planner_passing::said;
 use quotient::GluedVertex;
 ghost use mathlib.Core.Path.{_≡_};
-ghost use Rattle.gridlengths.specs.Lengths.{EdgeLengths};
-ghost use Rattle.gridlengths.specs.Settled.{edgeLengthOf};
-ghost use Rattle.passing.specs.Said.{Said, countedCode, lengthCode, lengthSquares};
-ghost use Rattle.passing.specs.Given.{gridGiven, gluedGiven};
+ghost use Rattle.grid_lengths.specs.Lengths.{EdgeLengths};
+ghost use Rattle.grid_lengths.specs.Settled.{edgeLengthOf};
+ghost use Rattle.planner_passing.specs.Said.{Said, countedCode, lengthCode, lengthSquares};
+ghost use Rattle.planner_passing.specs.Given.{gridGiven, gluedGiven};
 
 // The squared length of each edge, in colex order of the edges: how many. Refused: 1, 10, 9, 8, 3, 6, then 12 where a working list is too short, then 15 where an edge gets two
 // lengths, 12 where the length list is too short.
@@ -26,7 +26,7 @@ pub extern "C" fn planner_edge_lengths_sq(
         (now (rows .entry)) (now (rows .exit)) (now (spare .entry)) (now (spare .exit)) (now (counts .entry)) (now (counts .exit))) r ⌝ }
 {
     let g = given::grid(d, axes, sides);
-    said::counted(gridlengths::edge_lengths_sq(g, lengths, keys, rows, spare, counts))
+    said::counted(grid_lengths::edge_lengths_sq(g, lengths, keys, rows, spare, counts))
 }
 
 // The edge between two glued vertices: how many squared lengths it has, and these. 0 is no such edge, 1 its squared length, 2 the two that clash first. Refused: 1, 10, 9,
@@ -46,7 +46,7 @@ pub extern "C" fn planner_edge_length_sq(
 {
     let g = given::grid(d, axes, sides);
     said::edge_length(
-        gridlengths::edge_length_sq(g, GluedVertex(from), GluedVertex(to)),
+        grid_lengths::edge_length_sq(g, GluedVertex(from), GluedVertex(to)),
         squares,
     )
 }

@@ -1,7 +1,7 @@
 // The calls on orders of the cells.
-use passing::said;
+use planner_passing::said;
 ghost use Rattle.ordering.specs.Promise.{Ordering, Induced};
-ghost use Rattle.passing.specs.Said.{Said, orderedCode, verdictCode};
+ghost use Rattle.planner_passing.specs.Said.{Said, orderedCode, verdictCode};
 
 // The order's words by cell: how many cells, with 2^31 more where they agree on every facet of two cells. Refused: 1, 2, 3, 4, 6, 5, then 12 where a working list is too
 // short, then 7, 16 where the order's words are not one for each cell, 12 where the result list is too short.

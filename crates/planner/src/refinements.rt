@@ -1,11 +1,11 @@
 // The calls of refinement.
-use passing::said;
+use planner_passing::said;
 ghost use mathlib.Core.Path.{_≡_};
 ghost use Rattle.complex.specs.Cells.{cellsOf};
 ghost use Rattle.ordering.specs.Order.{Orders};
-ghost use Rattle.refined.specs.Refined.{orderWords};
+ghost use Rattle.refine_results.specs.Refined.{orderWords};
 ghost use Rattle.refine.specs.Promise.{Refining};
-ghost use Rattle.passing.specs.Said.{Said, refinedCode, refinedVertices};
+ghost use Rattle.planner_passing.specs.Said.{Said, refinedCode, refinedVertices};
 
 // The refinement by r along the cells' sorted vertices: how many children; the number of vertices goes to `vertices`. Refused: 1, 2, 3, 4, 6, 5, then 12 where a working list
 // is too short, then 7, 11, 3 and 6 by the refined complex, 12 where a result list is too short.

@@ -1,9 +1,9 @@
 // One child, one birth and one word by number, read from the lists that a refinement or an order handed out.
-use passing::said;
+use planner_passing::said;
 ghost use mathlib.Core.Path.{_≡_};
 ghost use Prim.Native.Nat.{ℕ};
-ghost use Rattle.child.specs.Reading.{childOf, birthOf};
-ghost use Rattle.passing.specs.Said.{answerCode, answerList};
+ghost use Rattle.refine_values.specs.Reading.{childOf, birthOf};
+ghost use Rattle.planner_passing.specs.Said.{answerCode, answerList};
 
 // The child of that number: its parent; its Jacobian goes to `jacobian`, and as whole numbers over R to `whole`. Refused: 12 where a list has none of that number.
 #[no_mangle]
@@ -22,7 +22,7 @@ pub extern "C" fn planner_child_of(
     ensures { λ _.
         ⌜ now (whole .exit) ≡ answerList (childOf number (now (parents .entry)) (now (jacobians .entry)) (now (wholes .entry)) .answer) (childOf number (now (parents .entry)) (now (jacobians .entry)) (now (wholes .entry)) .child .whole) (now (whole .entry)) ⌝ }
 {
-    let one = child::child_of(number, parents, jacobians, wholes);
+    let one = refine_values::child_of(number, parents, jacobians, wholes);
     said::child(one, jacobian, whole)
 }
 
@@ -48,6 +48,6 @@ pub extern "C" fn planner_birth_of(
     ensures { λ _.
         ⌜ now (shares .exit) ≡ answerList (birthOf d number (now («birth_vertices» .entry)) (now («birth_weights» .entry)) (now («birth_shares» .entry)) .answer) (birthOf d number (now («birth_vertices» .entry)) (now («birth_weights» .entry)) (now («birth_shares» .entry)) .birth .shares) (now (shares .entry)) ⌝ }
 {
-    let one = child::birth_of(d, number, birth_vertices, birth_weights, birth_shares);
+    let one = refine_values::birth_of(d, number, birth_vertices, birth_weights, birth_shares);
     said::birth(one, vertices, weights, shares)
 }

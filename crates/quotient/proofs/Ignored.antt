@@ -2,8 +2,8 @@
 use mathlib.Core.Path.{_≡_, refl}
 use Prim.Native.Nat.{ℕ}
 use lib.Ieee.{Float}
-use Rattle.sides.specs.declared.Sides.{Sides}
-use Rattle.sides.specs.Counts.{sideOf, badFrom}
+use Rattle.grid_sides.specs.declared.Sides.{Sides}
+use Rattle.grid_sides.specs.Counts.{sideOf, badFrom}
 use Rattle.quotient.specs.declared.Axis.{Axis}
 use Rattle.quotient.specs.declared.Grid.{Grid}
 use Rattle.quotient.specs.declared.GridVertex.{GridVertex}

@@ -16,7 +16,7 @@ use Rattle.refusal.specs.Refuse.{refuse}
 use Rattle.refusal.specs.Table.{badDimension, tooManyCells, tooManyVertices, shortAxisNumber, badReflectionNumber, badSide}
 use Rattle.refusal.specs.Limits.{mostDimension, mostCells, mostVertices}
 use Rattle.refusal.proofs.Chain.{refuse-fine}
-use Rattle.sides.specs.Counts.{firstBad}
+use Rattle.grid_sides.specs.Counts.{firstBad}
 use Rattle.quotient.specs.Fold.{product, firstFrom}
 use Rattle.quotient.specs.Shape.{axisOf, closedOf, closedFloor, openFloor, tooFew, fallsShort, closedAt, cellsOn, gluedOn, pointsOn, badReflection, shortAxis, cellsOf, verticesOf, shapeCheck, checkOf, sidesCheckOf}
 use Rattle.quotient.specs.declared.GridVertex.{GridVertex}

@@ -17,7 +17,7 @@ pub mod mask;
 pub mod preserving;
 pub mod reduce;
 
-use sides::Sides;
+use grid_sides::Sides;
 
 // How an axis's two ends are glued: not at all, by a shift, or by a shift that reflects a set of axes, given as a mask.
 pub enum Glue {

@@ -21,18 +21,18 @@ use Rattle.multiindex.proofs.SortLaws.{AtLeast, Sorted, sort-sorted, sort-lengt
 use Rattle.complex.specs.Check.{Passed}
 use Rattle.complex.specs.Cells.{cellsOf}
 use Rattle.complex.specs.Facets.{cellAt}
-use Rattle.cells.specs.Made.{Made}
-use Rattle.cells.proofs.Words.{Word, In, in-at, at-in}
-use Rattle.cells.proofs.Order.{order-from}
-use Rattle.cells.proofs.Strict.{sort-all}
-use Rattle.cells.proofs.Making.{whole-words}
-use Rattle.lattice.specs.Complex.{times, same}
-use Rattle.lattice.proofs.Enumerate.{once-of-apart}
+use Rattle.complex_cells.specs.Made.{Made}
+use Rattle.complex_cells.proofs.Words.{Word, In, in-at, at-in}
+use Rattle.complex_cells.proofs.Order.{order-from}
+use Rattle.complex_cells.proofs.Strict.{sort-all}
+use Rattle.complex_cells.proofs.Making.{whole-words}
+use Rattle.refine_lattice.specs.Complex.{times, same}
+use Rattle.refine_lattice.proofs.Enumerate.{once-of-apart}
 use Rattle.ordering.specs.Order.{wordOf, byCell, IsOrder}
 use Rattle.ordering.proofs.Lists.{cut-front, sort-back}
 use Rattle.ordering.proofs.Orders.{by-cell-at, by-cell-length}
-use Rattle.refined.specs.Refined.{coarse}
-use Rattle.refined.specs.Flat.{Along}
+use Rattle.refine_results.specs.Refined.{coarse}
+use Rattle.refine_results.specs.Flat.{Along}
 
 -- ---- a word and the word sorted
 -- as often in one as in the other

@@ -8,10 +8,10 @@ use lib.ListN.{length}
 use Rattle.refusal.specs.Lent.{zeroed}
 use Rattle.refusal.proofs.Determined.{call-one}
 use Rattle.complex.specs.Check.{answerOf}
-use Rattle.refined.specs.declared.Refinement.{Refinement}
-use Rattle.refined.specs.declared.Refinement.the-variants.{Refused}
-use Rattle.refined.specs.Results.{Results, nothing, Lengths, lengthsOf}
-use Rattle.refined.proofs.Determined.{finishes-one, Same, stored-one}
+use Rattle.refine_results.specs.declared.Refinement.{Refinement}
+use Rattle.refine_results.specs.declared.Refinement.the-variants.{Refused}
+use Rattle.refine_results.specs.Results.{Results, nothing, Lengths, lengthsOf}
+use Rattle.refine_results.proofs.Determined.{finishes-one, Same, stored-one}
 use Rattle.refine.specs.declared.Space.{Space}
 use Rattle.refine.specs.Space.{spaceOf, unused, lent, Enough}
 use Rattle.refine.specs.Promise.{Ends, crowded, unordered, finished, Refining}

@@ -12,9 +12,9 @@ use Rattle.refusal.specs.Call.{refused, cramped, ended}
 use Rattle.lists.proofs.Laws.{part-zeroed}
 use Rattle.complex.specs.Check.{answerOf}
 use Rattle.complex.proofs.Fine.{fine-passed}
-use Rattle.refined.specs.declared.Refinement.{Refinement}
-use Rattle.refined.specs.declared.Refinement.the-variants.{Refused}
-use Rattle.refined.specs.Results.{nothing, Stored}
+use Rattle.refine_results.specs.declared.Refinement.{Refinement}
+use Rattle.refine_results.specs.declared.Refinement.the-variants.{Refused}
+use Rattle.refine_results.specs.Results.{nothing, Stored}
 use Rattle.refine.specs.declared.Space.{Space}
 use Rattle.refine.specs.Space.{spaceOf, unused, lent, Enough, Emptied}
 use Rattle.refine.specs.Promise.{Refining}

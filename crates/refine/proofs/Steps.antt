@@ -18,14 +18,14 @@ use Rattle.lists.proofs.Rows.{cut-length}
 use Rattle.complex.specs.Check.{Passed}
 use Rattle.complex.specs.Cells.{place, placed, inOrder, cellsOf, comesBefore}
 use Rattle.complex.specs.Facets.{Crowded}
-use Rattle.cells.proofs.Making.{whole-words}
-use Rattle.cells.proofs.Pigeon.{largest-low}
-use Rattle.refined.specs.declared.Refinement.{Refinement}
-use Rattle.refined.specs.declared.Refinement.the-variants.{Refused}
-use Rattle.refined.specs.Refined.{coarse}
-use Rattle.refined.specs.Flat.{Along}
-use Rattle.refined.specs.Results.{nothing, Lengths, lengthsOf, Inside, Finishes}
-use Rattle.refined.specs.Stage.{Spacious, Ready, Handed}
+use Rattle.complex_cells.proofs.Making.{whole-words}
+use Rattle.complex_cells.proofs.Pigeon.{largest-low}
+use Rattle.refine_results.specs.declared.Refinement.{Refinement}
+use Rattle.refine_results.specs.declared.Refinement.the-variants.{Refused}
+use Rattle.refine_results.specs.Refined.{coarse}
+use Rattle.refine_results.specs.Flat.{Along}
+use Rattle.refine_results.specs.Results.{nothing, Lengths, lengthsOf, Inside, Finishes}
+use Rattle.refine_results.specs.Stage.{Spacious, Ready, Handed}
 use Rattle.refine.specs.Space.{childrenRoom}
 use Rattle.refine.specs.Reading.{Making, Reads, crowded, unordered, read}
 use Rattle.refine.specs.Promise as promise

@@ -9,10 +9,10 @@ use Rattle.refusal.specs.Call.{Call}
 use Rattle.complex.specs.Check.{answerOf}
 use Rattle.complex.specs.Cells.{cellsOf}
 use Rattle.complex.specs.Facets.{Crowded}
-use Rattle.refined.specs.declared.Refinement.{Refinement}
-use Rattle.refined.specs.declared.Refinement.the-variants.{Made, Refused}
-use Rattle.refined.specs.Refined.{coarse}
-use Rattle.refined.specs.Results.{Results, nothing, Lengths, lengthsOf, Finishes, Stored}
+use Rattle.refine_results.specs.declared.Refinement.{Refinement}
+use Rattle.refine_results.specs.declared.Refinement.the-variants.{Made, Refused}
+use Rattle.refine_results.specs.Refined.{coarse}
+use Rattle.refine_results.specs.Results.{Results, nothing, Lengths, lengthsOf, Finishes, Stored}
 use Rattle.refine.specs.declared.Space.{Space}
 use Rattle.refine.specs.Space.{spaceOf, unused, lent, Enough, Emptied}
 

@@ -7,7 +7,7 @@ use lib.Dec.{ltb}
 use lib.ListN.{length}
 use Rattle.refusal.specs.Limits.{mostCells, mostVertices, mostRefinement}
 use Rattle.refusal.specs.Lent.{zeroed}
-use Rattle.lattice.specs.Children.{pick}
+use Rattle.refine_lattice.specs.Children.{pick}
 use Rattle.refine.specs.declared.Space.{Space}
 
 -- R as the need counts it: 1 where 11 follows

@@ -6,8 +6,8 @@ use lib.IntN.{ℤ}
 use lib.Ieee.{Float}
 use lib.ListN.{length, replicate}
 use Rattle.complex.specs.Check.{Passed}
-use Rattle.refined.specs.declared.Refinement.{Refinement}
-use Rattle.refined.specs.Results.{Results, lengthsOf, Stored}
+use Rattle.refine_results.specs.declared.Refinement.{Refinement}
+use Rattle.refine_results.specs.Results.{Results, lengthsOf, Stored}
 use Rattle.refine.specs.Space.{spaceOf}
 use Rattle.refine.specs.Promise.{Ends}
 

@@ -9,7 +9,7 @@ ghost use Rattle.refusal.specs.Limits.{mostVertices};
 ghost use Rattle.lists.specs.Words.{largestOf};
 ghost use Rattle.complex.specs.Cells.{cellsOf};
 ghost use Rattle.ordering.specs.Order.{Orders};
-ghost use Rattle.refined.specs.Refined.{coarse, orderWords};
+ghost use Rattle.refine_results.specs.Refined.{coarse, orderWords};
 ghost use Rattle.refine.specs.Reading.{wordsBy, OrderedBy, Making, Reads};
 ghost use Rattle.refine.specs.Coarse.{Listing, Listed, Naming, Named};
 
@@ -49,10 +49,10 @@ fn list(
     requires { ⌜ Listing d (now words) (now cells) (now keys) (now rows) (now spare) (now counts) ⌝ }
     ensures { λ r. ⌜ Listed d (now (words .entry)) (now (cells .exit)) r ⌝ }
 {
-    let m = cells::cells(d, words, keys, rows, spare, counts);
+    let m = complex_cells::cells(d, words, keys, rows, spare, counts);
     let len = m * (d + 1);
     lists::copy(&rows[..len], &mut cells[..len]);
-    if !facets::mates(d, m, words.len(), keys, rows, spare, counts) {
+    if !complex_mates::mates(d, m, words.len(), keys, rows, spare, counts) {
         return Counted::Refused(CROWDED_FACET, 0);
     }
     Counted::Count(m as u32)

@@ -15,13 +15,13 @@
 mod coarse;
 mod room;
 
-use refined::Refinement;
+use refine_results::Refinement;
 use refusal::Answer;
 use refusal::Counted;
 use refusal::TOO_SHORT;
 ghost use Rattle.complex.specs.Cells.{cellsOf};
 ghost use Rattle.ordering.specs.Order.{Orders};
-ghost use Rattle.refined.specs.Refined.{orderWords};
+ghost use Rattle.refine_results.specs.Refined.{orderWords};
 ghost use Rattle.refine.specs.Reading.{OrderedBy, wordsBy};
 ghost use Rattle.refine.specs.Promise.{Refining};
 ghost use Rattle.refine.specs.Work.{Working, Worked, AllTen};
@@ -86,7 +86,7 @@ fn work(
         Counted::Count(count) => {
             let m = count as usize;
             let n = coarse::vertices(given);
-            refined::refined(
+            refine_results::refined(
                 d,
                 r,
                 n,

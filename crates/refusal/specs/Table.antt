@@ -1,4 +1,4 @@
--- The numbers of document 01's table: `src/lib.rt` has the same as constants. Assumes nothing.
+-- The numbers of document 01's table, and document 02's from 18 on, which all have place 0: `src/lib.rt` has the same as constants. Assumes nothing.
 use Prim.Native.Nat.{ℕ}
 
 -- d outside its range
@@ -68,3 +68,31 @@ badOrder = 16
 -- the program's line cannot be read
 abbrev pub unreadable : ℕ
 unreadable = 17
+
+-- the grid is not of two dimensions with axis 0 periodic and axis 1 open
+abbrev pub otherGrid : ℕ
+otherGrid = 18
+
+-- south not below north, or either beyond 90 degrees
+abbrev pub badLatitudes : ℕ
+badLatitudes = 19
+
+-- a mesh file ends inside a record, or before the record that ends it
+abbrev pub fileEnds : ℕ
+fileEnds = 20
+
+-- a mesh file has a record of an unknown kind
+abbrev pub unknownKind : ℕ
+unknownKind = 21
+
+-- a mesh file has a wrong length, order, count, field or birth, or bytes after its end
+abbrev pub badFile : ℕ
+badFile = 22
+
+-- the set of cells to remove names a cell that is not there
+abbrev pub noSuchCell : ℕ
+noSuchCell = 23
+
+-- a dimension of faces that the mesh does not have
+abbrev pub badFaces : ℕ
+badFaces = 24

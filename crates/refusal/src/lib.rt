@@ -11,7 +11,7 @@ pub const MOST_VERTICES: usize = 4096;
 
 pub const MOST_REFINEMENT: u32 = 64;
 
-// The numbers of document 01's table: specs/Table.antt has the same.
+// The numbers of document 01's table: specs/Table.antt has the same, and document 02's.
 pub const BAD_DIMENSION: u32 = 1;
 
 pub const RAGGED_WORDS: u32 = 2;
@@ -45,6 +45,21 @@ pub const TWO_LENGTHS: u32 = 15;
 pub const BAD_ORDER: u32 = 16;
 
 pub const UNREADABLE: u32 = 17;
+
+// The numbers of document 02, each with place 0.
+pub const OTHER_GRID: u32 = 18;
+
+pub const BAD_LATITUDES: u32 = 19;
+
+pub const FILE_ENDS: u32 = 20;
+
+pub const UNKNOWN_KIND: u32 = 21;
+
+pub const BAD_FILE: u32 = 22;
+
+pub const NO_SUCH_CELL: u32 = 23;
+
+pub const BAD_FACES: u32 = 24;
 
 // What a check says. A refusal has its number and its place.
 pub enum Answer {

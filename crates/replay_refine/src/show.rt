@@ -1,5 +1,5 @@
 // What a call said and handed out, on standard output.
-use refined::Refinement;
+use refine_results::Refinement;
 
 // How many children and births were handed out, and how many numbers a word has.
 pub(crate) struct Sizes {

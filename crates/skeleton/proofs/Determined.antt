@@ -14,7 +14,7 @@ use Rattle.complex.specs.Cells.{cellsOf}
 use Rattle.skeleton.specs.Promise.{Gives, short, listed, GivesBoth, words-short, table-short, both-listed, Ends, crowded, rest, Call, Listed, FacetsListed}
 use Rattle.complex.specs.Room.{needOf}
 use Rattle.complex.specs.Skeleton.{facetsOf}
-use Rattle.table.specs.Sides.{tableOf}
+use Rattle.complex_facets.specs.Sides.{tableOf}
 
 gives-one : (words : List (List ℕ)) (g : ℕ) (r r′ : Counted) (l l′ : List ℕ) → Gives words g r l → Gives words g r′ l′ → (r ≡ r′) × (l ≡ l′)
 gives-one words g r r′ l l′ (short h) (short k) = (refl, refl)

@@ -5,7 +5,7 @@ use Prim.Native.Nat.{ℕ}
 use lib.ListN.{length}
 use Rattle.complex.specs.Cells.{decides, comesBefore, placed, place}
 use Rattle.complex.specs.Skeleton.{inColex, edgesOf, tab, facetsOf, numbers, keep, borderOf}
-use Rattle.table.specs.Sides.{eachSides, tableOf}
+use Rattle.complex_facets.specs.Sides.{eachSides, tableOf}
 
 abbrev band : List (List ℕ)
 band = (0 ∷ 2 ∷ 3 ∷ []) ∷ (0 ∷ 1 ∷ 4 ∷ []) ∷ (0 ∷ 3 ∷ 4 ∷ []) ∷ (1 ∷ 2 ∷ 5 ∷ []) ∷ (2 ∷ 3 ∷ 5 ∷ []) ∷ (1 ∷ 4 ∷ 5 ∷ []) ∷ []

@@ -13,21 +13,21 @@ use Rattle.refusal.specs.declared.Room.{Room}
 use Rattle.lists.specs.Rows.{cut, rows}
 use Rattle.lists.proofs.Rows.{cut-length, cut-at}
 use Rattle.sorting.proofs.Colex.{row-length}
-use Rattle.cells.proofs.Making.{whole-words}
+use Rattle.complex_cells.proofs.Making.{whole-words}
 use Rattle.multiindex.specs.Sort.{sortWord}
 use Rattle.complex.specs.Check.{Passed}
 use Rattle.complex.specs.Room.{keyRoom, needOf}
 use Rattle.complex.specs.Cells.{inOrder, cellsOf}
 use Rattle.complex.specs.Facets.{cellAt, facetAt, FacetOf, Mates, Crowded, Cells, slots}
 use Rattle.complex.specs.Skeleton.{inColex, allPairs, edgesOf, tab, facetRowOf, facetsOf, sameWord, onlyIf, numbers, rowsWith}
-use Rattle.cells.proofs.Words.{Word, Each, Rising, In, each-of, at-in}
-use Rattle.cells.proofs.Order.{Colex, order-rising, order-from, order-has, order-same}
-use Rattle.cells.proofs.Named.{inColex-rising, inColex-from, inColex-has}
-use Rattle.facets.proofs.Laws.{facet-length, facets-differ, row-fits, row-cell-below, row-slot-below, row-is, slots-some}
-use Rattle.facets.proofs.Places.{facet-row}
-use Rattle.facets.proofs.Meeting.{slots-most, slots-dim}
-use Rattle.table.proofs.Numbers.{same-word, word-true, tab-in, in-tab}
-use Rattle.edges.proofs.Members.{pair-in, in-pair, all-in, in-all}
+use Rattle.complex_cells.proofs.Words.{Word, Each, Rising, In, each-of, at-in}
+use Rattle.complex_cells.proofs.Order.{Colex, order-rising, order-from, order-has, order-same}
+use Rattle.complex_cells.proofs.Named.{inColex-rising, inColex-from, inColex-has}
+use Rattle.complex_mates.proofs.Laws.{facet-length, facets-differ, row-fits, row-cell-below, row-slot-below, row-is, slots-some}
+use Rattle.complex_mates.proofs.Places.{facet-row}
+use Rattle.complex_mates.proofs.Meeting.{slots-most, slots-dim}
+use Rattle.complex_facets.proofs.Numbers.{same-word, word-true, tab-in, in-tab}
+use Rattle.complex_edges.proofs.Members.{pair-in, in-pair, all-in, in-all}
 use Rattle.skeleton.specs.Parts.{edgeNeed}
 use Rattle.skeleton.proofs.Steps.{room-most}
 

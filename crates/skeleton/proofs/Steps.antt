@@ -23,17 +23,17 @@ use Rattle.complex.specs.Room.{keyRoom, needOf}
 use Rattle.complex.specs.Cells.{cellsOf}
 use Rattle.complex.specs.Facets.{Crowded, Cells, slots}
 use Rattle.complex.specs.Skeleton.{edgesOf, facetsOf, borderOf}
-use Rattle.cells.specs.Made.{Making, Made}
-use Rattle.cells.specs.Named.{Naming, Named}
-use Rattle.facets.specs.Table.{none, MateTable, Meeting}
-use Rattle.signs.proofs.Linking.{not-crowded}
-use Rattle.facets.proofs.Meeting.{slots-most}
-use Rattle.cells.proofs.Named.{named-flat, named-many}
-use Rattle.edges.specs.Pairs.{Edging}
-use Rattle.table.specs.Classes.{Classes, loneRows}
-use Rattle.table.specs.Sides.{tableOf, fours, Tabling}
-use Rattle.table.proofs.Border.{border-named}
-use Rattle.table.proofs.Tabling.{fours-length, table-is}
+use Rattle.complex_cells.specs.Made.{Making, Made}
+use Rattle.complex_cells.specs.Named.{Naming, Named}
+use Rattle.complex_mates.specs.Table.{none, MateTable, Meeting}
+use Rattle.orientation_signs.proofs.Linking.{not-crowded}
+use Rattle.complex_mates.proofs.Meeting.{slots-most}
+use Rattle.complex_cells.proofs.Named.{named-flat, named-many}
+use Rattle.complex_edges.specs.Pairs.{Edging}
+use Rattle.complex_facets.specs.Classes.{Classes, loneRows}
+use Rattle.complex_facets.specs.Sides.{tableOf, fours, Tabling}
+use Rattle.complex_facets.proofs.Border.{border-named}
+use Rattle.complex_facets.proofs.Tabling.{fours-length, table-is}
 use Rattle.skeleton.specs.Promise.{Gives, short, listed, GivesBoth, words-short, table-short, both-listed, Ends, crowded, rest}
 use Rattle.skeleton.specs.declared.Part.{Part}
 use Rattle.skeleton.specs.declared.Part.the-variants.{Edges}

@@ -15,7 +15,7 @@ use Rattle.complex.specs.Cells.{cellsOf}
 use Rattle.complex.specs.Facets.{Crowded}
 use Rattle.complex.specs.Room.{needOf}
 use Rattle.complex.specs.Skeleton.{facetsOf}
-use Rattle.table.specs.Sides.{tableOf}
+use Rattle.complex_facets.specs.Sides.{tableOf}
 
 -- the words are handed out one after the other, or 12. `given` is the length of the result list.
 pub data Gives (words : List (List ℕ)) (given : ℕ) : Counted → List ℕ → Type 0 where

@@ -12,7 +12,7 @@ use Rattle.complex.specs.Cells.{cellsOf}
 use Rattle.complex.specs.Facets.{Crowded}
 use Rattle.complex.specs.Room.{needOf}
 use Rattle.complex.specs.Skeleton.{facetsOf}
-use Rattle.table.specs.Sides.{tableOf}
+use Rattle.complex_facets.specs.Sides.{tableOf}
 use Rattle.skeleton.specs.Promise.{Gives, GivesBoth, Ends}
 
 -- a checked word list, and that room

@@ -21,7 +21,7 @@ ghost use Rattle.sorting.specs.Gather.{rowsOf};
 ghost use Rattle.complex.specs.Room.{needOf};
 ghost use Rattle.complex.specs.Cells.{cellsOf};
 ghost use Rattle.complex.specs.Skeleton.{edgesOf, facetsOf, borderOf};
-ghost use Rattle.cells.specs.Named.{Naming};
+ghost use Rattle.complex_cells.specs.Named.{Naming};
 ghost use Rattle.skeleton.specs.Promise.{Listed, FacetsListed};
 ghost use Rattle.skeleton.specs.Parts.{edgeNeed, needFor, wordsFor};
 ghost use Rattle.skeleton.specs.Work.{Working, Uncrowded, Sound, Handed, Worked, HandedBoth, WorkedBoth};
@@ -45,8 +45,8 @@ fn sound(
     requires { ⌜ Working (needOf d (length (now words))) d (now words) (now keys) (now rows) (now spare) (now counts) ⌝ }
     ensures { λ r. ⌜ Sound d (now (words .entry)) r ⌝ }
 {
-    let m = cells::cells(d, words, keys, rows, spare, counts);
-    facets::mates(d, m, words.len(), keys, rows, spare, counts)
+    let m = complex_cells::cells(d, words, keys, rows, spare, counts);
+    complex_mates::mates(d, m, words.len(), keys, rows, spare, counts)
 }
 
 // Hands out a flat list of m words.
@@ -88,7 +88,7 @@ fn list_cells(
     requires { ⌜ Working (needOf d (length (now words))) d (now words) (now keys) (now rows) (now spare) (now counts) ⌝ }
     ensures { λ r. ⌜ Handed (cellsOf d (now (words .entry))) r (now (out .entry)) (now (out .exit)) ⌝ }
 {
-    let m = cells::cells(d, words, keys, rows, spare, counts);
+    let m = complex_cells::cells(d, words, keys, rows, spare, counts);
     let long = m * (d + 1);
     hand_out(m, &rows[..long], out)
 }
@@ -106,8 +106,8 @@ fn list_edges(
     requires { ⌜ Working (edgeNeed d (length (now words))) d (now words) (now keys) (now rows) (now spare) (now counts) ⌝ }
     ensures { λ r. ⌜ Handed (edgesOf (cellsOf d (now (words .entry)))) r (now (out .entry)) (now (out .exit)) ⌝ }
 {
-    let m = cells::cells(d, words, keys, rows, spare, counts);
-    let e = edges::edges(d, m, words.len(), keys, rows, spare, counts);
+    let m = complex_cells::cells(d, words, keys, rows, spare, counts);
+    let e = complex_edges::edges(d, m, words.len(), keys, rows, spare, counts);
     hand_rows(2, e, keys, spare, out)
 }
 
@@ -124,9 +124,9 @@ fn list_border(
     requires { ⌜ Uncrowded d (now words) (now keys) (now rows) (now spare) (now counts) ⌝ }
     ensures { λ r. ⌜ Handed (borderOf d (cellsOf d (now (words .entry)))) r (now (out .entry)) (now (out .exit)) ⌝ }
 {
-    let m = cells::cells(d, words, keys, rows, spare, counts);
-    let f = table::classes(d, m, words.len(), keys, rows, spare, counts);
-    let j = table::lone(f, spare, rows, counts);
+    let m = complex_cells::cells(d, words, keys, rows, spare, counts);
+    let f = complex_facets::classes(d, m, words.len(), keys, rows, spare, counts);
+    let j = complex_facets::lone(f, spare, rows, counts);
     hand_rows(d, j, keys, counts, out)
 }
 
@@ -144,8 +144,8 @@ fn list_facets(
     requires { ⌜ Uncrowded d (now words) (now keys) (now rows) (now spare) (now counts) ⌝ }
     ensures { λ r. ⌜ HandedBoth d (cellsOf d (now (words .entry))) r (now (out .entry)) (now (out .exit)) (now (table .entry)) (now (table .exit)) ⌝ }
 {
-    let m = cells::cells(d, words, keys, rows, spare, counts);
-    let f = table::classes(d, m, words.len(), keys, rows, spare, counts);
+    let m = complex_cells::cells(d, words, keys, rows, spare, counts);
+    let f = complex_facets::classes(d, m, words.len(), keys, rows, spare, counts);
     if out.len() < f * d {
         return Counted::Refused(TOO_SHORT, 0);
     }
@@ -153,7 +153,7 @@ fn list_facets(
         return Counted::Refused(TOO_SHORT, 0);
     }
     sorting::gather(keys, d, spare, f, out);
-    table::write_table(d, facets::slots(d), f, spare, rows, table);
+    complex_facets::write_table(d, complex_mates::slots(d), f, spare, rows, table);
     Counted::Count(f as u32)
 }
 

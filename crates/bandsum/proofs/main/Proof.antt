@@ -1,7 +1,7 @@
 -- `bandsum::main` is safe and ends: what is printed has as many bytes as it says. Assumes nothing.
 use mathlib.Core.Path.{sym}
 use lib.Seq.{length-take-le}
-use Rattle.sums.proofs.Fits.{printed-fits}
+use Rattle.bandsum_sums.proofs.Fits.{printed-fits}
 use borrow.Author.Needs.{needs}
 use Rattle.bandsum.proofs.main.Statement.{statement}
 use Rattle.bandsum.proofs.main.Tie as tie

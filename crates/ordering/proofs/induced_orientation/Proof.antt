@@ -6,7 +6,7 @@ use borrow.Author.Tests.{not-true, not-false}
 use borrow.Author.Needs.{needs}
 use Rattle.refusal.specs.declared.Room.{Room}
 use Rattle.complex.proofs.Fine.{fine-passed}
-use Rattle.cells.proofs.Making.{few-corners}
+use Rattle.complex_cells.proofs.Making.{few-corners}
 use Rattle.ordering.proofs.Entry.{preparing}
 use Rattle.ordering.proofs.InducedEntry.{wound-out-refused, wound-out-cramped, wound-out-ended}
 use Rattle.ordering.proofs.induced_orientation.Statement.{statement}

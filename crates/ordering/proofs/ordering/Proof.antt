@@ -6,7 +6,7 @@ use borrow.Author.Tests.{not-true, not-false}
 use borrow.Author.Needs.{needs}
 use Rattle.refusal.specs.declared.Room.{Room}
 use Rattle.complex.proofs.Fine.{fine-passed}
-use Rattle.cells.proofs.Making.{few-corners}
+use Rattle.complex_cells.proofs.Making.{few-corners}
 use Rattle.ordering.proofs.Entry.{preparing, out-refused, out-cramped, out-ended}
 use Rattle.ordering.proofs.ordering.Statement.{statement}
 use Rattle.ordering.proofs.ordering.Tie as tie

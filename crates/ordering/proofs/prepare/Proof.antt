@@ -13,8 +13,8 @@ use Rattle.ordering.proofs.prepare.Statement.{statement}
 use Rattle.ordering.proofs.prepare.Tie as tie
 use Rattle.ordering.proofs.prepare.Reads as reads
 use Rattle.ordering.proofs.prepare.Lts as lts
-use Rattle.cells.proofs.cells.Reads as cells-reads
-use Rattle.facets.proofs.mates.Reads as mates-reads
+use Rattle.complex_cells.proofs.cells.Reads as cells-reads
+use Rattle.complex_mates.proofs.mates.Reads as mates-reads
 use Rattle.ordering.proofs.arranged.arrange.Reads as arrange-reads
 
 cells-requires : tie.Need-cells-requires

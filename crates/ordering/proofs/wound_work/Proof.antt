@@ -17,7 +17,7 @@ use Rattle.ordering.proofs.wound_work.Lts as lts
 use Rattle.ordering.proofs.prepare.Reads as prepare-reads
 use Rattle.ordering.proofs.wide.Reads as wide-reads
 use Rattle.ordering.proofs.agreement.word_marks.Reads as word-marks-reads
-use Rattle.oriented.proofs.coherent_as.Reads as coherent-as-reads
+use Rattle.orientation_by.proofs.coherent_as.Reads as coherent-as-reads
 
 prepare-requires : tie.Need-prepare-requires
 prepare-requires c κs = c .before .before .before .before .before .before .before .before .before .before .pre

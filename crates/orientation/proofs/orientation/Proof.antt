@@ -4,7 +4,7 @@ use mathlib.Core.Path.{_≡_, sym, _∙_}
 use lib.Seq.{length-take-le}
 use borrow.Author.Tests.{not-true, not-false}
 use Rattle.complex.proofs.Fine.{fine-passed}
-use Rattle.cells.proofs.Making.{few-corners}
+use Rattle.complex_cells.proofs.Making.{few-corners}
 use Rattle.orientation.proofs.Entry.{out-refused, out-cramped, working, out-ended}
 use borrow.Author.Needs.{needs}
 use Rattle.orientation.proofs.orientation.Statement.{statement}

@@ -12,10 +12,10 @@ use Rattle.orientation.proofs.work.Statement.{statement}
 use Rattle.orientation.proofs.work.Tie as tie
 use Rattle.orientation.proofs.work.Reads as reads
 use Rattle.orientation.proofs.work.Lts as lts
-use Rattle.cells.proofs.cells.Reads as cells-reads
-use Rattle.facets.proofs.mates.Reads as mates-reads
-use Rattle.signs.proofs.coherent.Reads as coherent-reads
-use Rattle.signs.proofs.hand_out.Reads as hand-out-reads
+use Rattle.complex_cells.proofs.cells.Reads as cells-reads
+use Rattle.complex_mates.proofs.mates.Reads as mates-reads
+use Rattle.orientation_signs.proofs.coherent.Reads as coherent-reads
+use Rattle.orientation_signs.proofs.hand_out.Reads as hand-out-reads
 
 cells-requires : tie.Need-cells-requires
 cells-requires c κs =

@@ -12,7 +12,7 @@ use Rattle.refusal.specs.Limits.{mostDimension, mostCells}
 use Rattle.refusal.specs.declared.Answer.the-variants as Answer
 use Rattle.complex.specs.Check.{answerOf}
 use Rattle.complex.proofs.Fine.{fine-passed}
-use Rattle.cells.proofs.Making.{few-corners}
+use Rattle.complex_cells.proofs.Making.{few-corners}
 use Rattle.refine.specs.Reading.{OrderedBy, wordsBy}
 use Rattle.refine.proofs.Entry.{out-refused, out-cramped, working, out-ended}
 use Rattle.refine.proofs.refinement.Statement.{statement}

@@ -9,7 +9,7 @@ use Rattle.refine.proofs.work.Reads as reads
 use Rattle.refine.proofs.work.Lts as lts
 use Rattle.refine.proofs.coarse.read.Reads as read-reads
 use Rattle.refine.proofs.coarse.vertices.Reads as vertices-reads
-use Rattle.refined.proofs.refined.Reads as refined-reads
+use Rattle.refine_results.proofs.refined.Reads as refined-reads
 
 read-requires : tie.Need-read-requires
 read-requires c κs =

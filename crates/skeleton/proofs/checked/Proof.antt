@@ -4,7 +4,7 @@ use lib.Seq.{length-take-le}
 use borrow.Author.Tests.{not-true, not-false}
 use Rattle.complex.specs.Cells.{cellsOf}
 use Rattle.complex.proofs.Fine.{fine-passed}
-use Rattle.cells.proofs.Making.{few-corners}
+use Rattle.complex_cells.proofs.Making.{few-corners}
 use Rattle.skeleton.specs.Promise.{Gives}
 use Rattle.skeleton.specs.Parts.{needFor, wordsFor}
 use Rattle.skeleton.proofs.Entry.{out-refused, out-cramped, working, out-ended}

@@ -5,9 +5,9 @@ use borrow.Author.Tests.{not-true, not-false}
 use Rattle.complex.specs.Cells.{cellsOf}
 use Rattle.complex.specs.Room.{needOf}
 use Rattle.complex.specs.Skeleton.{facetsOf}
-use Rattle.table.specs.Sides.{tableOf}
+use Rattle.complex_facets.specs.Sides.{tableOf}
 use Rattle.complex.proofs.Fine.{fine-passed}
-use Rattle.cells.proofs.Making.{few-corners}
+use Rattle.complex_cells.proofs.Making.{few-corners}
 use Rattle.skeleton.specs.Promise.{GivesBoth}
 use Rattle.skeleton.proofs.Entry.{out-refused, out-cramped, working, out-ended}
 use native.Mathlib.Omega.{arith}

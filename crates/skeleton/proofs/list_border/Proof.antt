@@ -1,5 +1,5 @@
 -- `skeleton::list_border` meets its contract: the classes with one row are the border. Assumes nothing.
-use Rattle.cells.proofs.Named.{named-flat, named-many}
+use Rattle.complex_cells.proofs.Named.{named-flat, named-many}
 use Rattle.skeleton.proofs.Steps.{making, classing, loning, border-of}
 use native.Mathlib.Omega.{arith}
 use mathlib.Core.Path.{_≡_, refl, sym, ap, _∙_, subst}
@@ -11,10 +11,10 @@ use Rattle.skeleton.proofs.list_border.Statement.{statement}
 use Rattle.skeleton.proofs.list_border.Tie as tie
 use Rattle.skeleton.proofs.list_border.Reads as reads
 use Rattle.skeleton.proofs.list_border.Lts as lts
-use Rattle.cells.proofs.cells.Reads as cells-reads
+use Rattle.complex_cells.proofs.cells.Reads as cells-reads
 use Rattle.skeleton.proofs.hand_rows.Reads as hand-rows-reads
-use Rattle.table.proofs.classes.Reads as classes-reads
-use Rattle.table.proofs.lone.Reads as lone-reads
+use Rattle.complex_facets.proofs.classes.Reads as classes-reads
+use Rattle.complex_facets.proofs.lone.Reads as lone-reads
 
 cells-requires : tie.Need-cells-requires
 cells-requires c κs =

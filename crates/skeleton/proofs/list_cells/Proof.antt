@@ -8,7 +8,7 @@ use Rattle.skeleton.proofs.list_cells.Statement.{statement}
 use Rattle.skeleton.proofs.list_cells.Tie as tie
 use Rattle.skeleton.proofs.list_cells.Reads as reads
 use Rattle.skeleton.proofs.list_cells.Lts as lts
-use Rattle.cells.proofs.cells.Reads as cells-reads
+use Rattle.complex_cells.proofs.cells.Reads as cells-reads
 use Rattle.skeleton.proofs.hand_out.Reads as hand-out-reads
 
 cells-requires : tie.Need-cells-requires

@@ -1,5 +1,5 @@
 -- `skeleton::list_edges` meets its contract: the rows that are named are the edges of the cells. Assumes nothing.
-use Rattle.cells.proofs.Named.{named-flat, named-many}
+use Rattle.complex_cells.proofs.Named.{named-flat, named-many}
 use native.Mathlib.Omega.{arith}
 use mathlib.Core.Path.{_≡_, refl, sym, ap, _∙_, subst}
 use Rattle.skeleton.proofs.Steps.{as-cells, making, edging, edges-of}
@@ -8,8 +8,8 @@ use Rattle.skeleton.proofs.list_edges.Statement.{statement}
 use Rattle.skeleton.proofs.list_edges.Tie as tie
 use Rattle.skeleton.proofs.list_edges.Reads as reads
 use Rattle.skeleton.proofs.list_edges.Lts as lts
-use Rattle.cells.proofs.cells.Reads as cells-reads
-use Rattle.edges.proofs.edges.Reads as edges-reads
+use Rattle.complex_cells.proofs.cells.Reads as cells-reads
+use Rattle.complex_edges.proofs.edges.Reads as edges-reads
 use Rattle.skeleton.proofs.hand_rows.Reads as hand-rows-reads
 
 cells-requires : tie.Need-cells-requires

@@ -10,11 +10,11 @@ use Rattle.skeleton.proofs.list_facets.Statement.{statement}
 use Rattle.skeleton.proofs.list_facets.Tie as tie
 use Rattle.skeleton.proofs.list_facets.Reads as reads
 use Rattle.skeleton.proofs.list_facets.Lts as lts
-use Rattle.cells.proofs.cells.Reads as cells-reads
-use Rattle.facets.proofs.slots.Reads as slots-reads
+use Rattle.complex_cells.proofs.cells.Reads as cells-reads
+use Rattle.complex_mates.proofs.slots.Reads as slots-reads
 use Rattle.sorting.proofs.gather.Reads as gather-reads
-use Rattle.table.proofs.classes.Reads as classes-reads
-use Rattle.table.proofs.write_table.Reads as write-table-reads
+use Rattle.complex_facets.proofs.classes.Reads as classes-reads
+use Rattle.complex_facets.proofs.write_table.Reads as write-table-reads
 
 cells-requires : tie.Need-cells-requires
 cells-requires c κs =

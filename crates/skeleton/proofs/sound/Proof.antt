@@ -7,8 +7,8 @@ use Rattle.skeleton.proofs.sound.Statement.{statement}
 use Rattle.skeleton.proofs.sound.Tie as tie
 use Rattle.skeleton.proofs.sound.Reads as reads
 use Rattle.skeleton.proofs.sound.Lts as lts
-use Rattle.cells.proofs.cells.Reads as cells-reads
-use Rattle.facets.proofs.mates.Reads as mates-reads
+use Rattle.complex_cells.proofs.cells.Reads as cells-reads
+use Rattle.complex_mates.proofs.mates.Reads as mates-reads
 
 cells-requires : tie.Need-cells-requires
 cells-requires c κs =

@@ -8,7 +8,7 @@ use lib.ListN.{length, getD, take, drop, set, replicate, length-set}
 use mathlib.Core.Bool.{true, false}
 use borrow.Author.Count.{below-more}
 use borrow.Author.Tests.{not-true, not-false}
-use Rattle.facets.specs.Table.{none}
+use Rattle.complex_mates.specs.Table.{none}
 use Rattle.ordering.specs.Agree.{rowWord}
 use Rattle.ordering.proofs.Orders.{same-true, true-same}
 use Rattle.ordering.proofs.Reading.{total-small, mates-room, mate-row, reading, all-agree, clashes}
@@ -16,7 +16,7 @@ use Rattle.ordering.proofs.agreement.agree.Statement.{statement}
 use Rattle.ordering.proofs.agreement.agree.Tie as tie
 use Rattle.ordering.proofs.agreement.agree.Reads as reads
 use Rattle.ordering.proofs.agreement.agree.Lts as lts
-use Rattle.facets.proofs.slots.Reads as slots-reads
+use Rattle.complex_mates.proofs.slots.Reads as slots-reads
 use Rattle.ordering.proofs.agreement.row_agrees.Reads as row-agrees-reads
 use Rattle.ordering.proofs.agreement.wide.Reads as wide-reads
 

@@ -1,7 +1,7 @@
 -- `planner::grids::planner_is_orientation_preserving` meets its contract: the grid is the one given, and the answer is the call's. Assumes nothing.
 use borrow.Author.Needs.{needs}
 use Rattle.quotient.specs.Shape.{parityOf}
-use Rattle.passing.specs.Said.{parityCode}
+use Rattle.planner_passing.specs.Said.{parityCode}
 use Rattle.planner.proofs.Laws.{called}
 use Rattle.planner.proofs.grids.planner_is_orientation_preserving.Statement.{statement}
 use Rattle.planner.proofs.grids.planner_is_orientation_preserving.Tie as tie

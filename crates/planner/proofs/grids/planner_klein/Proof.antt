@@ -1,7 +1,7 @@
 -- `planner::grids::planner_klein` meets its contract: the sides are those given, and the answer is the call's. Assumes nothing.
 use borrow.Author.Needs.{needs}
 use mathlib.Core.Path.{_≡_, refl, sym, ap, _∙_}
-use Rattle.sides.specs.declared.Sides.{Sides}
+use Rattle.grid_sides.specs.declared.Sides.{Sides}
 use Rattle.quotient.specs.Makers.{kleinOf}
 use Rattle.planner.proofs.Laws.{made-as}
 use Rattle.planner.proofs.grids.planner_klein.Statement.{statement}

@@ -1,7 +1,7 @@
 -- `planner::grids::planner_nvertices` meets its contract: the grid is the one given, and the answer is the call's. Assumes nothing.
 use borrow.Author.Needs.{needs}
 use Rattle.quotient.specs.Shape.{nverticesOf}
-use Rattle.passing.specs.Said.{countedCode}
+use Rattle.planner_passing.specs.Said.{countedCode}
 use Rattle.planner.proofs.Laws.{called}
 use Rattle.planner.proofs.grids.planner_nvertices.Statement.{statement}
 use Rattle.planner.proofs.grids.planner_nvertices.Tie as tie

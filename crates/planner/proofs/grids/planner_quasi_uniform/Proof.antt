@@ -1,10 +1,10 @@
 -- `planner::grids::planner_quasi_uniform` meets its contract: sides and gluings are those given, and the answer is the call's. Assumes nothing.
 use borrow.Author.Needs.{needs}
 use mathlib.Core.Path.{_≡_, refl, sym, ap, _∙_}
-use Rattle.sides.specs.declared.Sides.{Sides}
+use Rattle.grid_sides.specs.declared.Sides.{Sides}
 use Rattle.quotient.specs.declared.Glues.{Glues}
 use Rattle.quotient.specs.Makers.{quasiOf}
-use Rattle.passing.specs.Given.{sidesGiven}
+use Rattle.planner_passing.specs.Given.{sidesGiven}
 use Rattle.planner.proofs.Laws.{made-as}
 use Rattle.planner.proofs.grids.planner_quasi_uniform.Statement.{statement}
 use Rattle.planner.proofs.grids.planner_quasi_uniform.Tie as tie

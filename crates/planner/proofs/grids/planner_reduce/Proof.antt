@@ -2,10 +2,10 @@
 use borrow.Author.Needs.{needs}
 use Rattle.quotient.specs.declared.Grid.{Grid}
 use Rattle.quotient.specs.Reduce.{reduceOf}
-use Rattle.passing.specs.Given.{vertexGiven}
+use Rattle.planner_passing.specs.Given.{vertexGiven}
 use Rattle.planner.proofs.Laws.{called}
 use mathlib.Core.Path.{_≡_, refl, sym, ap, _∙_}
-use Rattle.passing.specs.Said.{reducedCode}
+use Rattle.planner_passing.specs.Said.{reducedCode}
 use Rattle.planner.proofs.grids.planner_reduce.Statement.{statement}
 use Rattle.planner.proofs.grids.planner_reduce.Tie as tie
 

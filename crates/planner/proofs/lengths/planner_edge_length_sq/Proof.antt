@@ -2,8 +2,8 @@
 use borrow.Author.Needs.{needs}
 use mathlib.Core.Path.{_≡_, refl, sym, ap, _∙_}
 use Rattle.quotient.specs.declared.Grid.{Grid}
-use Rattle.gridlengths.specs.Settled.{edgeLengthOf}
-use Rattle.passing.specs.Given.{gluedGiven}
+use Rattle.grid_lengths.specs.Settled.{edgeLengthOf}
+use Rattle.planner_passing.specs.Given.{gluedGiven}
 use Rattle.planner.proofs.Laws.{length-as}
 use Rattle.planner.proofs.lengths.planner_edge_length_sq.Statement.{statement}
 use Rattle.planner.proofs.lengths.planner_edge_length_sq.Tie as tie

@@ -1,8 +1,8 @@
 -- `planner_birth_of` hands out what `birth_of` says. Assumes nothing.
 use mathlib.Core.Path.{_≡_, subst}
 use borrow.Author.Needs.{needs}
-use Rattle.child.specs.declared.OneBirth.{OneBirth}
-use Rattle.passing.specs.Said.{answerCode, answerList}
+use Rattle.refine_values.specs.declared.OneBirth.{OneBirth}
+use Rattle.planner_passing.specs.Said.{answerCode, answerList}
 use Rattle.planner.proofs.values.planner_birth_of.Statement.{statement}
 use Rattle.planner.proofs.values.planner_birth_of.Tie as tie
 

@@ -1,8 +1,8 @@
 -- `planner_child_of` hands out what `child_of` says. Assumes nothing.
 use mathlib.Core.Path.{_≡_, subst}
 use borrow.Author.Needs.{needs}
-use Rattle.child.specs.declared.OneChild.{OneChild}
-use Rattle.passing.specs.Said.{answerCode, answerList}
+use Rattle.refine_values.specs.declared.OneChild.{OneChild}
+use Rattle.planner_passing.specs.Said.{answerCode, answerList}
 use Rattle.planner.proofs.values.planner_child_of.Statement.{statement}
 use Rattle.planner.proofs.values.planner_child_of.Tie as tie
 

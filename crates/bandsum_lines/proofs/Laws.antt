@@ -1,0 +1,28 @@
+-- Lines one after another: how long the text is, and what it holds at the end. Assumes nothing.
+use mathlib.Core.Path.{_≡_, refl, sym, ap, subst, _∙_}
+use mathlib.Core.List.{List, [], _∷_, _++_}
+use Prim.Native.Nat.{ℕ, _+_, _≤_}
+use native.Mathlib.Omega.{arith}
+use lib.ListN.{length, length-append}
+use Rattle.text.specs.declared.Text.{Text}
+use Rattle.text.specs.Decimal.{decimal, lineOf}
+use Rattle.text.specs.Adds.{holding, Adds}
+use Rattle.text.proofs.Adding.{adds-more}
+use Rattle.text.proofs.Decimals.{decimal-long}
+use Rattle.bandsum_lines.specs.declared.Summary.{Summary}
+use Rattle.bandsum_lines.specs.Lines.{cellsWord, verticesWord, edgesWord, borderWord, sidesWord, orderedLine, linesOf}
+
+pub empty-len : {t : Text} → t ≡ holding [] → t .len ≡ 0
+unfolding holding
+empty-len e = ap (λ (t : Text). t .len) e
+
+pub line-len : (w : List ℕ) (n : ℕ) {s t : Text} → Adds (lineOf w n) s t → t .len ≤ s .len + length w + 11
+line-len w n a = omega (arith, a .len, length-append w (decimal n ++ (10 ∷ [])), length-append (decimal n) (10 ∷ []), decimal-long 9 n)
+
+pub lines-told : (s : Summary) (x : List ℕ) {t a b c d e f : Text} → x ≡ orderedLine (s .ordered) → t ≡ holding [] →
+    Adds (lineOf cellsWord (s .cells)) t a → Adds (lineOf verticesWord (s .vertices)) a b → Adds (lineOf edgesWord (s .edges)) b c →
+    Adds (lineOf borderWord (s .border)) c d → Adds (lineOf sidesWord (s .sides)) d e → Adds x e f → f ≡ holding (linesOf s)
+lines-told s x {t} {a} {b} {c} {d} {e} {f} q h l m n o p r =
+    subst (λ (y : List ℕ). f ≡ holding (lineOf cellsWord (s .cells) ++ (lineOf verticesWord (s .vertices) ++ (lineOf edgesWord (s .edges)
+    ++ (lineOf borderWord (s .border) ++ (lineOf sidesWord (s .sides) ++ y)))))) q
+    (adds-more l (adds-more m (adds-more n (adds-more o (adds-more p r)))) .holds [] h)

@@ -1,0 +1,65 @@
+-- What the inner functions ask and give. Assumes nothing.
+use mathlib.Core.List.{List}
+use mathlib.Core.Path.{_≡_}
+use Prim.Native.Nat.{ℕ, _≤_}
+use lib.ListN.{length, take}
+use Rattle.refusal.specs.declared.Answer.the-variants as Answer
+use Rattle.refusal.specs.declared.Counted.{Counted}
+use Rattle.refusal.specs.declared.Counted.the-variants as Counted
+use Rattle.refusal.specs.Table.{crowdedFacet}
+use Rattle.complex.specs.Facets.{Crowded}
+use Rattle.quotient.specs.declared.Grid.{Grid}
+use Rattle.quotient.specs.declared.Parity.{Parity}
+use Rattle.quotient.specs.declared.Parity.the-variants as Parity
+use Rattle.quotient.specs.Shape.{checkOf}
+use Rattle.grid_words.specs.Cells.{flatWords}
+use Rattle.grid_mesh.specs.Words.{gluedCells}
+use Rattle.grid_order.specs.declared.Triangulated.{Triangulated}
+use Rattle.grid_order.specs.declared.Triangulated.the-variants.{Ordered, Unordered, Refused}
+use Rattle.grid_order.specs.Promise.{HandsOut}
+use Rattle.bandsum_sums.specs.Promise.{Sound}
+
+-- the most corners that the words of a grid have
+abbrev pub mostCorners : ℕ
+mostCorners = 16384
+
+-- the most numbers that its edges have, or its border
+abbrev pub mostListed : ℕ
+mostListed = 49152
+
+-- the number that is counted; 0 for a refusal
+abbrev pub countOf : Counted → ℕ
+countOf (Counted.Count n) = n
+countOf (Counted.Refused n p) = 0
+
+abbrev pub sidesAs : Parity → ℕ
+sidesAs Parity.Even = 2
+sidesAs Parity.Odd = 1
+sidesAs (Parity.Refused n p) = 0
+
+-- what `triangulate_ordered` says where every list is long enough
+pub data Triangulates (g : Grid) : Triangulated → Type 0 where
+  refused : {n p : ℕ} → checkOf g ≡ Answer.Refused n p → Triangulates g (Refused n p)
+  crowded : checkOf g ≡ Answer.Fine → Crowded (g .d) (gluedCells g) → Triangulates g (Refused crowdedFacet 0)
+  ordered : Sound g → HandsOut g → Triangulates g (Ordered (length (gluedCells g)))
+  unordered : Sound g → (HandsOut g → ⊥) → Triangulates g (Unordered (length (gluedCells g)))
+
+-- a list that holds the words of any grid
+pub record Fitting (g : Grid) (words : List ℕ) : Type 0 where
+  pub sound : Sound g
+  pub long : mostCorners ≤ length words
+
+-- the list begins with the words of the grid, which have n numbers
+pub record Glued (g : Grid) (n : ℕ) (words : List ℕ) : Type 0 where
+  pub many : n ≤ length words
+  pub begins : take n words ≡ flatWords g
+
+-- the words are those of the grid
+pub record HasWords (g : Grid) (words : List ℕ) : Type 0 where
+  pub sound : Sound g
+  pub same : words ≡ flatWords g
+
+-- the number is that of the grid's cells
+pub record HasCells (g : Grid) (cells : ℕ) : Type 0 where
+  pub sound : Sound g
+  pub same : cells ≡ length (gluedCells g)

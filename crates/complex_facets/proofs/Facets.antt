@@ -1,0 +1,160 @@
+-- From classes of facet rows to the facets with their cells. Assumes nothing.
+use mathlib.Core.Bool.{Bool, true, false}
+use mathlib.Core.List.{List, [], _∷_, _++_}
+use mathlib.Core.Path.{_≡_, refl, sym, ap, _∙_, subst}
+use Prim.Native.Nat.{ℕ, zero, suc, _+_, _-_, _*_, _/_, _%_, _<_, _≤_}
+use native.Mathlib.Nat.{eq-or-lt-of-le, mul-le-mul-left, mul-le-mul-right}
+use native.Mathlib.Decide.{ℕ-discrete, decLt}
+use native.Mathlib.Omega.{arith}
+use lib.ListN.{length, getD, take, drop, replicate, length-replicate, getD-replicate, length-append, List·getD-append}
+use lib.Seq.{length-take-le, getD-take}
+use Rattle.sorting.specs.Bucket.{cell}
+use Rattle.sorting.specs.Order.{SameRow}
+use Rattle.sorting.specs.Gather.{row}
+use Rattle.sorting.specs.Distinct.{Distinct}
+use Rattle.sorting.proofs.Colex.{row-same, same-row}
+use Rattle.sorting.proofs.Firsts.{id-eq, id-row, id-rep}
+use Rattle.lists.specs.Rows.{cut}
+use Rattle.lists.proofs.Rows.{cut-length, cut-at}
+use Rattle.complex.specs.Facets.{cellAt, facetAt, Crowded, Cells, slots}
+use Rattle.complex.specs.Skeleton.{inColex, tab, facetRowOf, facetsOf, sameWord, numbers, rowsWith}
+use Rattle.complex_cells.specs.Named.{rowList, Naming, Named}
+use Rattle.complex_cells.proofs.Words.{Word, In}
+use Rattle.complex_cells.proofs.Named.{named, rowList-at}
+use Rattle.complex_mates.specs.Table.{none, Written, Grouped, Three, Meeting}
+use Rattle.complex_mates.proofs.Laws.{row-fits, row-cell-below}
+use Rattle.complex_mates.proofs.Meeting.{crowd, grouped, slots-most}
+use Rattle.complex_facets.specs.Classes.{Seconds, Seeking, Classes}
+use Rattle.complex_facets.proofs.Numbers.{same-word, word-true, word-false, numbers-one, numbers-two, tab-in, in-tab}
+
+module _ (d m b : ℕ) (keys rows spare counts : List ℕ) (a : Meeting d m b keys rows spare counts) (keys′ : List ℕ) (l : length keys′ ≡ length keys) (w : Written d (slots d) rows keys′ (m * slots d))
+    (f : ℕ) (reps ids others : List ℕ) (q : Distinct (cell keys′ d) d (m * slots d) f reps ids) (lr : m * slots d ≤ length reps) (lo : length others ≡ m * slots d) (s : Seconds (m * slots d) reps ids others) (narrow : m * slots d * d < 4294967296) where
+  room : m * slots d * d ≤ length keys′
+  room = omega (arith, a .keys-long)
+
+  -- the rows are the facets of the cells
+  is-row : (x : ℕ) → x < m * slots d → row keys′ d x ≡ facetRowOf d (cut (suc d) m rows) x
+  is-row x h = w x h ∙ ap (λ (v : Word). facetAt v (d - x % slots d)) (sym (cut-at (suc d) m rows (x / slots d) (row-cell-below x m (slots d) h)))
+
+  total : length (cut (suc d) m rows) * slots d ≡ m * slots d
+  total = ap (λ (n : ℕ). n * slots d) (cut-length (suc d) m rows)
+
+  rows-few : m * slots d < none
+  rows-few = omega (arith, mul-le-mul-left m (slots-most d), a .few)
+
+  facets-named : Named (facetsOf d (cut (suc d) m rows)) d f keys′ reps
+  facets-named =
+      subst (λ (n : ℕ). Named (inColex d (tab n (facetRowOf d (cut (suc d) m rows)))) d f keys′ reps) (sym total)
+      (named d (m * slots d) f keys′ reps ids q (omega (arith, q .few)) room (tab (m * slots d) (facetRowOf d (cut (suc d) m rows)))
+      (λ x h. subst (λ (v : Word). In v (tab (m * slots d) (facetRowOf d (cut (suc d) m rows)))) (sym (is-row x h)) (tab-in (m * slots d) (facetRowOf d (cut (suc d) m rows)) x h))
+      (λ v k. let r = in-tab (m * slots d) (facetRowOf d (cut (suc d) m rows)) v k in (r .0, r .1, is-row (r .0) (r .1) ∙ r .2)) (omega (arith, rows-few)) narrow)
+
+  -- facet i, and the rows that are it
+  module _ (i : ℕ) (h : i < f) where
+    the-facet : getD (facetsOf d (cut (suc d) m rows)) i [] ≡ row keys′ d (getD reps i 0)
+    the-facet =
+        ap (λ (v : List Word). getD v i []) (facets-named .same) ∙ rowList-at keys′ d (take f reps) i (omega (arith, length-take-le f reps (facets-named .rows .long))) ∙ ap (row keys′ d) (getD-take f reps i 0 h)
+
+    rep-below : getD reps i 0 < m * slots d
+    rep-below = q .below i h
+
+    its-id : (z : ℕ) → z < m * slots d → facetRowOf d (cut (suc d) m rows) z ≡ getD (facetsOf d (cut (suc d) m rows)) i [] → getD ids z 0 ≡ i
+    its-id z k e =
+        id-eq (cell keys′ d) d (m * slots d) f reps ids q z (getD reps i 0) k rep-below (row-same keys′ d z (getD reps i 0) (is-row z k ∙ e ∙ the-facet))
+        ∙ id-rep (cell keys′ d) d (m * slots d) f reps ids q i h
+
+    its-row : (z : ℕ) → z < m * slots d → getD ids z 0 ≡ i → facetRowOf d (cut (suc d) m rows) z ≡ getD (facetsOf d (cut (suc d) m rows)) i []
+    its-row z k e =
+        let r = id-row (cell keys′ d) d (m * slots d) f reps ids q z (getD reps i 0) k rep-below (e ∙ sym (id-rep (cell keys′ d) d (m * slots d) f reps ids q i h)) in
+        sym (is-row z k) ∙ same-row keys′ d z (getD reps i 0) (row-fits z (m * slots d) d (length keys′) k room) (row-fits (getD reps i 0) (m * slots d) d (length keys′) rep-below room) r ∙ sym the-facet
+
+    passes : (z : ℕ) → z < m * slots d → getD ids z 0 ≡ i → sameWord (facetRowOf d (cut (suc d) m rows) z) (getD (facetsOf d (cut (suc d) m rows)) i []) ≡ true
+    passes z k e = word-true _ _ (its-row z k e)
+
+    fails : (z : ℕ) → z < m * slots d → (getD ids z 0 ≡ i → ⊥) → sameWord (facetRowOf d (cut (suc d) m rows) z) (getD (facetsOf d (cut (suc d) m rows)) i []) ≡ false
+    fails z k n = word-false _ _ (λ e. n (its-id z k e))
+
+    in-others : i < length others
+    in-others = omega (arith, q .few)
+
+    its-rep : getD ids (getD reps i 0) 0 ≡ i
+    its-rep = id-rep (cell keys′ d) d (m * slots d) f reps ids q i h
+
+    pub one-row : getD others i 0 ≡ none → rowsWith d (cut (suc d) m rows) (getD (facetsOf d (cut (suc d) m rows)) i []) ≡ getD reps i 0 ∷ []
+    one-row e =
+        subst (λ (n : ℕ). numbers (λ x. sameWord (facetRowOf d (cut (suc d) m rows) x) (getD (facetsOf d (cut (suc d) m rows)) i [])) n ≡ getD reps i 0 ∷ []) (sym total)
+        (numbers-one (λ x. sameWord (facetRowOf d (cut (suc d) m rows) x) (getD (facetsOf d (cut (suc d) m rows)) i [])) (m * slots d) (getD reps i 0) rep-below (passes (getD reps i 0) rep-below its-rep)
+        (λ z k n. fails z k (λ t. n (s .alone i z in-others e k t))))
+
+    pub two-rows : (Crowded d (cut (suc d) m rows) → ⊥) → (getD others i 0 ≡ none → ⊥) → rowsWith d (cut (suc d) m rows) (getD (facetsOf d (cut (suc d) m rows)) i []) ≡ getD reps i 0 ∷ getD others i 0 ∷ []
+    two-rows free e =
+        let y = getD others i 0 in
+        let hy : getD others i 0 < m * slots d = s .below i in-others e in
+        let iy : getD ids (getD others i 0) 0 ≡ i = s .same i in-others e in
+        let ny : getD others i 0 ≡ getD reps i 0 → ⊥ = s .apart i in-others e in
+        let le : getD reps i 0 ≤ getD others i 0 = q .least i (getD others i 0) h hy (subst (λ (c : ℕ). SameRow (cell keys′ d) d (getD reps c 0) (getD others i 0)) iy (q .id-same (getD others i 0) hy)) in
+        subst (λ (n : ℕ). numbers (λ x. sameWord (facetRowOf d (cut (suc d) m rows) x) (getD (facetsOf d (cut (suc d) m rows)) i [])) n ≡ getD reps i 0 ∷ getD others i 0 ∷ []) (sym total)
+        (numbers-two (λ x. sameWord (facetRowOf d (cut (suc d) m rows) x) (getD (facetsOf d (cut (suc d) m rows)) i [])) (m * slots d) (getD reps i 0) (getD others i 0) (omega arith) hy (passes (getD reps i 0) rep-below its-rep) (passes (getD others i 0) hy iy)
+        (λ z k n o.
+        fails z k
+        (λ t.
+        free
+        (crowd d m rows keys′ reps ids (a .cells) room w f q
+        (record {
+          x = getD reps i 0;
+          y = getD others i 0;
+          z = z;
+          x-below = rep-below;
+          y-below = hy;
+          z-below = k;
+          xy = λ u. ny (sym u);
+          xz = λ u. n (sym u);
+          yz = λ u. o (sym u);
+          x-y = its-rep ∙ sym iy;
+          x-z = its-rep ∙ sym t;
+        })))))
+
+  pub classes : Classes d (cut (suc d) m rows) f keys′ reps others
+  classes =
+      record {
+        named = facets-named;
+        long = omega (arith, q .few);
+        one = λ i h e. one-row i h e;
+        two = λ free i h e. two-rows i h free e;
+        small = λ i h. omega (arith, q .below i h, rows-few);
+        most = rw total (q .few);
+      }
+
+-- what `seconds` asks, from the classes that `distinct` leaves and a blank list
+pub seeking : (k : ℕ → ℕ → ℕ) (cols n f : ℕ) (reps ids : List ℕ) → Distinct k cols n f reps ids → n < none → n ≤ length reps → n ≤ length ids → (part : List ℕ) → part ≡ replicate n none → Seeking n reps ids part
+seeking k cols n f reps ids q few lr li part e =
+    let l : length part ≡ n = ap length e ∙ length-replicate n none in
+    record {
+      few = few;
+      long = li;
+      in-reps = λ x h. omega (arith, q .id-below x h, q .few);
+      in-others = λ x h. omega (arith, q .id-below x h, q .few);
+      blank = λ i h. ap (λ (v : List ℕ). getD v i 0) e ∙ getD-replicate n i none 0 (omega arith);
+    }
+
+-- the list of other rows may be the front of a longer one
+pub classes-front : (d : ℕ) (cs : List Word) (f : ℕ) (keys reps part tail : List ℕ) → Classes d cs f keys reps part → Classes d cs f keys reps (part ++ tail)
+classes-front d cs f keys reps part tail c =
+    record {
+      named = c .named;
+      long = omega (arith, c .long, length-append part tail);
+      one = λ i h e. c .one i h (sym (at i h) ∙ e);
+      two = λ free i h n. c .two free i h (λ e. n (at i h ∙ e)) ∙ ap (λ (y : ℕ). getD reps i 0 ∷ y ∷ []) (sym (at i h));
+      small = c .small;
+      most = c .most;
+    }
+  where
+    at : (i : ℕ) → i < f → getD (part ++ tail) i 0 ≡ getD part i 0
+    at i h = List·getD-append part tail 0 i (omega (arith, c .long))
+
+-- the same, with the number of rows a cell as the code has it
+pub classes-done : (d m b : ℕ) (keys rows spare counts : List ℕ) → Meeting d m b keys rows spare counts → m * slots d * d < 4294967296 → (k : ℕ) → k ≡ slots d → (keys′ : List ℕ) → length keys′ ≡ length keys → (f : ℕ) (reps ids part tail : List ℕ) →
+    Written d k rows keys′ (m * k) → Distinct (cell keys′ d) d (m * k) f reps ids → m * k ≤ length reps → length part ≡ m * k → Seconds (m * k) reps ids part → Classes d (cut (suc d) m rows) f keys′ reps (part ++ tail)
+classes-done d m b keys rows spare counts a narrow k e keys′ l f reps ids part tail =
+    subst (λ (z : ℕ). Written d z rows keys′ (m * z) → Distinct (cell keys′ d) d (m * z) f reps ids → m * z ≤ length reps → length part ≡ m * z → Seconds (m * z) reps ids part → Classes d (cut (suc d) m rows) f keys′ reps (part ++ tail)) (sym e)
+    (λ w q lr lo s. classes-front d (cut (suc d) m rows) f keys′ reps part tail (classes d m b keys rows spare counts a keys′ l w f reps ids part q lr lo s narrow))

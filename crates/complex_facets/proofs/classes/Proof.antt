@@ -1,0 +1,123 @@
+-- `table::classes` meets its contract: the distinct rows are the facets, and the rows of a class are the cells that a facet lies in (proofs/Facets). Assumes nothing.
+use mathlib.Core.Path.{_≡_, refl, sym, ap, _∙_, subst}
+use Prim.Native.Nat.{ℕ, suc, _*_, _≤_, _<_}
+use native.Mathlib.Omega.{arith}
+use lib.ListN.{length, take, drop, replicate, length-replicate}
+use lib.Seq.{length-take-le}
+use Rattle.complex_mates.specs.Table.{none}
+use Rattle.complex_mates.proofs.Meeting.{meeting-most, meeting-writing, meeting-table}
+use Rattle.complex_facets.proofs.Facets.{seeking, classes-done}
+use borrow.Author.Needs.{needs}
+use Rattle.complex_facets.proofs.classes.Statement.{statement}
+use Rattle.complex_facets.proofs.classes.Tie as tie
+use Rattle.complex_facets.proofs.classes.Reads as reads
+use Rattle.complex_facets.proofs.classes.Lts as lts
+use Rattle.complex_mates.proofs.blank.Reads as blank-reads
+use Rattle.complex_mates.proofs.facet_rows.Reads as facet-rows-reads
+use Rattle.complex_mates.proofs.slots.Reads as slots-reads
+use Rattle.sorting.proofs.distinct.Reads as distinct-reads
+use Rattle.sorting.proofs.sort_rows.Reads as sort-rows-reads
+use Rattle.complex_facets.proofs.seconds.Reads as seconds-reads
+
+slots-requires : tie.Need-slots-requires
+slots-requires c κs = search needs
+
+facet-rows-requires : tie.Need-facet-rows-requires
+facet-rows-requires c κs =
+    let s = c .before .before .before .before .before .before .before in
+    let k = c .before .before .slots in
+    meeting-writing (s .args .d) (s .args .m) (s .args .b) (s .args .keys .now) (s .args .rows .now) (s .args .spare .now) (s .args .counts .now) (s .pre .0) (k .result) (k .ensures)
+
+mul-total : tie.Need-mul-total
+mul-total c =
+    let s = c .before .before .before .before .before .before .before .before .before .before in
+    let k = c .before .before .before .before .before .slots in
+    let z = meeting-most (s .args .d) (s .args .m) (s .args .b) (s .args .keys .now) (s .args .rows .now) (s .args .spare .now) (s .args .counts .now) (s .pre .0) (k .result) (k .ensures) in
+    record { fits = omega (arith, z, s .pre .0 .few) }
+
+sort-rows-requires : tie.Need-sort-rows-requires
+sort-rows-requires c κs =
+    let s = c .before .before .before .before .before .before .before .before .before .before .before .before .before .before in
+    let k = c .before .before .before .before .before .before .before .before .before .slots in
+    let z = meeting-most (s .args .d) (s .args .m) (s .args .b) (s .args .keys .now) (s .args .rows .now) (s .args .spare .now) (s .args .counts .now) (s .pre .0) (k .result) (k .ensures) in
+    let w = c .before .before .before .before .before .before .facet-rows in
+    (meeting-table (s .args .d) (s .args .m) (s .args .b) (s .args .keys .now) (s .args .rows .now) (s .args .spare .now) (s .args .counts .now) (s .pre .0) (k .result) (k .ensures) (w .last .1 .1 .1 .1 .0) (w .kept .1 .1 .1 .1 .0) (w .ensures), (omega (arith, z, s .pre .0 .rows-long), omega (arith, z, s .pre .0 .spare-long), s .pre .0 .buckets))
+
+distinct-requires : tie.Need-distinct-requires
+distinct-requires c κs =
+    let s = c .before .before .before .before .before .before .before .before .before .before .before .before .before .before .before .before .before .before .before .before .before .before .before .before .before in
+    let k = c .before .before .before .before .before .before .before .before .before .before .before .before .before .before .before .before .before .before .before .before .slots in
+    let z = meeting-most (s .args .d) (s .args .m) (s .args .b) (s .args .keys .now) (s .args .rows .now) (s .args .spare .now) (s .args .counts .now) (s .pre .0) (k .result) (k .ensures) in
+    let w = c .before .before .before .before .before .before .before .before .before .before .before .before .before .before .before .before .before .facet-rows in
+    let o = c .before .before .before .before .before .before .before .before .before .before .sort-rows in
+    let r = meeting-writing (s .args .d) (s .args .m) (s .args .b) (s .args .keys .now) (s .args .rows .now) (s .args .spare .now) (s .args .counts .now) (s .pre .0) (k .result) (k .ensures) in
+    (o .ensures .1, (omega (arith, z, s .pre .0 .few), omega (arith, r .room, w .kept), omega (arith, z, s .pre .0 .rows-long, o .kept), omega (arith, z, s .pre .0 .spare-long, o .kept), omega (arith, z, s .pre .0 .counts-long, o .kept)))
+
+slice-relend-prefix-others : tie.Need-slice-relend-prefix-others
+slice-relend-prefix-others c =
+    let s = c .before .before .before .before .before .before .before .before .before .before .before .before .before .before .before .before .before .before .before .before .before .before .before .before .before .before .before .before .before .before in
+    let k = c .before .before .before .before .before .before .before .before .before .before .before .before .before .before .before .before .before .before .before .before .before .before .before .before .before .slots in
+    let z = meeting-most (s .args .d) (s .args .m) (s .args .b) (s .args .keys .now) (s .args .rows .now) (s .args .spare .now) (s .args .counts .now) (s .pre .0) (k .result) (k .ensures) in
+    omega (arith, z, s .pre .0 .rows-long, c .before .before .before .before .before .before .before .before .before .before .before .before .before .before .before .sort-rows .kept)
+
+slice-aggregate-others : tie.Need-slice-aggregate-others
+slice-aggregate-others c = search needs
+
+blank-requires : tie.Need-blank-requires
+blank-requires c κs = search needs
+
+seconds-requires : tie.Need-seconds-requires
+seconds-requires c κs =
+    let s = c .before .before .before .before .before .before .before .before .before .before .before .before .before .before .before .before .before .before .before .before .before .before .before .before .before .before .before .before .before .before .before .before .before .before .before .before .before in
+    let k = c .before .before .before .before .before .before .before .before .before .before .before .before .before .before .before .before .before .before .before .before .before .before .before .before .before .before .before .before .before .before .before .before .slots in
+    let z = meeting-most (s .args .d) (s .args .m) (s .args .b) (s .args .keys .now) (s .args .rows .now) (s .args .spare .now) (s .args .counts .now) (s .pre .0) (k .result) (k .ensures) in
+    let o = c .before .before .before .before .before .before .before .before .before .before .before .before .before .before .before .before .before .before .before .before .before .before .sort-rows in
+    let q = c .before .before .before .before .before .before .before .before .before .before .before .distinct in
+    let l : s .args .m * k .result ≤ length (o .last .1 .1 .1 .1 .0) = omega (arith, z, s .pre .0 .rows-long, o .kept) in
+    seeking _ _ _ _ _ _ (q .ensures .1) (omega (arith, z, s .pre .0 .few)) (omega (arith, z, s .pre .0 .spare-long, o .kept, q .kept)) (omega (arith, z, s .pre .0 .counts-long, o .kept, q .kept)) _
+    (c .before .before .before .before .blank .ensures ∙ ap (λ (n : ℕ). replicate n none) (length-take-le (s .args .m * k .result) (o .last .1 .1 .1 .1 .0) l))
+
+same-length : tie.Need-same-length
+same-length c = search needs
+
+same-length-2 : tie.Need-same-length-2
+same-length-2 c = search needs
+
+same-length-3 : tie.Need-same-length-3
+same-length-3 c = search needs
+
+same-length-4 : tie.Need-same-length-4
+same-length-4 c = search needs
+
+returns : tie.Need-returns
+returns c =
+    let s = c .before .before .before .before .before .before .before .before .before .before .before .before .before .before .before .before .before .before .before .before .before .before .before .before .before .before .before .before .before .before .before .before .before .before .before .before .before .before .before .before in
+    let k = c .before .before .before .before .before .before .before .before .before .before .before .before .before .before .before .before .before .before .before .before .before .before .before .before .before .before .before .before .before .before .before .before .before .before .before .slots in
+    let z = meeting-most (s .args .d) (s .args .m) (s .args .b) (s .args .keys .now) (s .args .rows .now) (s .args .spare .now) (s .args .counts .now) (s .pre .0) (k .result) (k .ensures) in
+    let w = c .before .before .before .before .before .before .before .before .before .before .before .before .before .before .before .before .before .before .before .before .before .before .before .before .before .before .before .before .before .before .before .before .facet-rows in
+    let o = c .before .before .before .before .before .before .before .before .before .before .before .before .before .before .before .before .before .before .before .before .before .before .before .before .before .sort-rows in
+    let q = c .before .before .before .before .before .before .before .before .before .before .before .before .before .before .distinct in
+    let t = c .before .before .seconds in
+    let v = c .before .before .before .before .before .before .before .blank in
+    let l : s .args .m * k .result ≤ length (o .last .1 .1 .1 .1 .0) = omega (arith, z, s .pre .0 .rows-long, o .kept) in
+    classes-done (s .args .d) (s .args .m) (s .args .b) (s .args .keys .now) (s .args .rows .now) (s .args .spare .now) (s .args .counts .now) (s .pre .0) (s .pre .1) (k .result) (k .ensures) (w .last .1 .1 .1 .1 .0) (w .kept .1 .1 .1 .1 .0) (q .result) _ _ (t .last .1 .1 .1 .0) _
+    (w .ensures) (q .ensures .1) (omega (arith, z, s .pre .0 .spare-long, o .kept, q .kept)) (omega (arith, t .kept, v .kept, length-take-le (s .args .m * k .result) (o .last .1 .1 .1 .1 .0) l)) (t .ensures)
+
+pub classes-spec : {M : Type 1} → statement M
+classes-spec =
+    tie.close
+    (tie.spec
+    slots-requires
+    facet-rows-requires
+    mul-total
+    sort-rows-requires
+    distinct-requires
+    slice-relend-prefix-others
+    slice-aggregate-others
+    blank-requires
+    seconds-requires
+    same-length
+    same-length-2
+    same-length-3
+    same-length-4
+    returns)

@@ -1,0 +1,67 @@
+-- `facets::blank` meets its contract. The loop's invariant: the first i entries are `none`, and the others as they were. Assumes nothing.
+use borrow.Author.Fill.{fill-more}
+use mathlib.Core.List.{append-nil}
+use lib.ListN.{drop-of-length-le}
+use native.Mathlib.Nat.{le-refl}
+use Rattle.complex_mates.specs.Table.{none}
+use mathlib.Core.Path.{_≡_, refl, sym, ap, _∙_, subst}
+use mathlib.Core.List.{List, [], _∷_, _++_}
+use Prim.Native.Nat.{ℕ, zero, suc, _+_, _*_, _-_, _/_, _%_, _≤_, _<_}
+use native.Mathlib.Omega.{arith}
+use borrow.Author.Needs.{needs}
+use lib.ListN.{length, getD, take, drop, set, replicate, length-set}
+use Rattle.complex_mates.proofs.blank.Statement.{statement}
+use Rattle.complex_mates.proofs.blank.Tie as tie
+use Rattle.complex_mates.proofs.blank.Reads as reads
+use Rattle.complex_mates.proofs.blank.Lts as lts
+
+abbrev Inv-loop : tie.InvT-loop
+Inv-loop mates₀ i₀ mates i = (i ≤ length mates₀) × (mates ≡ replicate i none ++ drop i mates₀) × (length mates ≡ length mates₀)
+
+abbrev μ-loop : tie.MeasureT-loop
+μ-loop mates₀ i₀ mates i = length mates₀ - i
+
+loop-holds : tie.Need-loop-holds Inv-loop μ-loop
+loop-holds c = (search needs, refl, refl)
+
+mul-mates : tie.Need-mul-mates Inv-loop μ-loop
+mul-mates c = search needs
+
+slice-write-mates : tie.Need-slice-write-mates Inv-loop μ-loop
+slice-write-mates c = search needs
+
+add-i : tie.Need-add-i Inv-loop μ-loop
+add-i c = search needs
+
+loop-less : tie.Need-loop-less Inv-loop μ-loop
+loop-less c = search needs
+
+loop-again : tie.Need-loop-again Inv-loop μ-loop
+loop-again c =
+    let l = c .before in
+    let k : l .loop .i < length (l .before .args .mates .now) = omega arith in
+    (search needs, rw (l .loop .inv .1) (fill-more _ none _ k), simp length-set (l .loop .inv .2))
+
+same-length : tie.Need-same-length Inv-loop μ-loop
+same-length c = search needs
+
+returns : tie.Need-returns Inv-loop μ-loop
+returns c =
+    let l = c .before in
+    let e : l .loop .i ≡ length (l .before .args .mates .now) = omega arith in
+    l .loop .inv .1 ∙ rw (e, drop-of-length-le (l .before .args .mates .now) (le-refl _)) (append-nil _)
+
+pub blank-spec : {M : Type 1} → statement M
+blank-spec =
+    tie.close
+    (tie.spec
+    Inv-loop
+    μ-loop
+    loop-holds
+    mul-mates
+    slice-write-mates
+    add-i
+    loop-less
+    loop-again
+    same-length
+    returns)

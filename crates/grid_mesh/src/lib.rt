@@ -1,0 +1,140 @@
+// From a grid to cells: its words in the order of the sorted grid cells, and its cells with the order that the words give.
+//
+// What the working lists hold, one phase after the other:
+//   keys     sorted words     facet rows
+//   rows     cells            mates
+//   spare    first rows       first rows
+//   counts   buckets          classes
+ghost use mathlib.Core.Path.{_≡_};
+ghost use Rattle.refusal.specs.declared.Answer.the-variants.{Fine};
+ghost use Rattle.lists.specs.Zero.{AllZero};
+ghost use Rattle.complex_cells.specs.Made.{Made};
+ghost use Rattle.quotient.specs.Shape.{checkOf};
+ghost use Rattle.grid_words.specs.Cells.{flatWords};
+ghost use Rattle.grid_mesh.specs.Words.{gridNeed, CellWords};
+ghost use Rattle.grid_mesh.specs.Work.{Working, Worked};
+use quotient::Grid;
+use refusal::Answer;
+use refusal::CROWDED_FACET;
+use refusal::Counted;
+use refusal::Room;
+use refusal::TOO_SHORT;
+
+// Writes the cells of the grid's words, one after the other, to `rows`, and says how many there are.
+fn cells(
+    grid: Grid,
+    keys: &mut [u32],
+    rows: &mut [u32],
+    spare: &mut [u32],
+    counts: &mut [u32],
+) -> usize
+    requires { ⌜ Working grid (now keys) (now rows) (now spare) (now counts) ⌝ }
+    ensures { λ m. ⌜ Made (grid .d) (flatWords grid) m (now (rows .exit)) ⌝ }
+{
+    let n = grid.d as usize + 1;
+    let count = grid_words::cells(grid);
+    let len = count * n;
+    grid_words::grid_words(grid, &mut keys[..len]);
+    multiindex::word::sort_words(keys, n, count);
+    sorting::sort_rows(keys, n, count, len, rows, spare, counts);
+    let m = sorting::distinct(keys, n, count, rows, spare, counts);
+    sorting::gather(keys, n, spare, m, rows);
+    m
+}
+
+// The work of `cell_words`, in working lists of just the sizes that are needed.
+fn work(
+    grid: Grid,
+    words: &mut [u32],
+    keys: &mut [u32],
+    rows: &mut [u32],
+    spare: &mut [u32],
+    counts: &mut [u32],
+) -> Counted
+    requires { ⌜ Working grid (now keys) (now rows) (now spare) (now counts) ⌝ }
+    ensures { λ r. ⌜ Worked grid r (now (words .entry)) (now (words .exit)) ⌝ }
+{
+    let d = grid.d as usize;
+    let m = cells(grid, keys, rows, spare, counts);
+    let count = grid_words::cells(grid);
+    let len = count * (d + 1);
+    if !complex_mates::mates(d, m, len, keys, rows, spare, counts) {
+        return Counted::Refused(CROWDED_FACET, 0);
+    }
+    if words.len() < len {
+        return Counted::Refused(TOO_SHORT, 0);
+    }
+    grid_words::grid_words(grid, &mut words[..len]);
+    Counted::Count(count as u32)
+}
+
+// The work, and then the working lists are all zero.
+fn cleared(
+    grid: Grid,
+    words: &mut [u32],
+    keys: &mut [u32],
+    rows: &mut [u32],
+    spare: &mut [u32],
+    counts: &mut [u32],
+) -> Counted
+    requires { ⌜ Working grid (now keys) (now rows) (now spare) (now counts) ⌝ }
+    ensures work { λ r. ⌜ Worked grid r (now (words .entry)) (now (words .exit)) ⌝ }
+    ensures room { λ _.
+        ⌜ AllZero (now (keys .entry)) (now (keys .exit)) (now (rows .entry)) (now (rows .exit)) (now (spare .entry)) (now (spare .exit)) (now (counts .entry))
+        (now (counts .exit)) ⌝ }
+{
+    let said = work(grid, words, keys, rows, spare, counts);
+    lists::clear_four(keys, rows, spare, counts);
+    said
+}
+
+// What a call on the words of the grid needs of its working lists.
+fn need(grid: Grid) -> Room
+    requires { ⌜ checkOf grid ≡ Fine ⌝ }
+    ensures { λ r. ⌜ r ≡ gridNeed grid ⌝ }
+{
+    let d = grid.d as usize;
+    complex::need(d, grid_words::cells(grid) * (d + 1))
+}
+
+// The words of the grid's cells, in the order of the sorted grid cells. Refused: 1, 9, 8, 3, 6, then 12 where a working list is too short, then 7, 12 where the word
+// list is too short. A refusal changes no word; from the room's test on what is needed of the working lists is zero at the end.
+pub fn cell_words(
+    grid: Grid,
+    words: &mut [u32],
+    keys: &mut [u32],
+    rows: &mut [u32],
+    spare: &mut [u32],
+    counts: &mut [u32],
+) -> Counted
+    ensures { λ r.
+        ⌜ CellWords grid r (now (words .entry)) (now (words .exit)) (now (keys .entry)) (now (keys .exit)) (now (rows .entry)) (now (rows .exit)) (now (spare .entry))
+        (now (spare .exit)) (now (counts .entry)) (now (counts .exit)) ⌝ }
+{
+    let checked = grid.check();
+    if let Answer::Refused(number, place) = checked {
+        return Counted::Refused(number, place);
+    }
+    let need = need(grid);
+    let have = Room {
+        keys: keys.len(),
+        rows: rows.len(),
+        spare: spare.len(),
+        counts: counts.len(),
+    };
+    if !refusal::has_room(need, have) {
+        return Counted::Refused(TOO_SHORT, 0);
+    }
+    let k = need.keys;
+    let r = need.rows;
+    let s = need.spare;
+    let c = need.counts;
+    cleared(
+        grid,
+        words,
+        &mut keys[..k],
+        &mut rows[..r],
+        &mut spare[..s],
+        &mut counts[..c],
+    )
+}

@@ -1,0 +1,108 @@
+// From a grid to words. A box of the grid is cut into d! cells, one for each order of the axes: from the box's origin one step along each axis, in that order.
+// The corners of a cell are grid points; each is reduced to its vertex, and the cell's word is read off in the order in which its corners were met.
+//
+// The cells are numbered in colex order of their grid points. Boxes come in the order of their numbers, axis 0 fastest, and inside a box the orders stand from the
+// last to the first, so a cell's number tells its box and its order, and nothing has to be sorted.
+ghost use mathlib.Core.Path.{_≡_};
+ghost use Prim.Native.Nat.{ℕ, suc, _+_, _*_, _<_, _≤_};
+ghost use lib.ListN.{length};
+ghost use Rattle.refusal.specs.declared.Answer.the-variants.{Fine};
+ghost use Rattle.quotient.specs.Fold.{product};
+ghost use Rattle.quotient.specs.Shape.{cellsOn, pointsOn, checkOf, cellsOf};
+ghost use Rattle.quotient.specs.Points.{pointOf};
+ghost use Rattle.grid_words.specs.Cells.{boxAt, flatWords};
+ghost use Rattle.grid_words.specs.Numbered.{strideOf, cornerOf};
+use multiindex::permutation;
+use quotient::Grid;
+
+// How many boxes a grid has that is taken.
+fn boxes(grid: Grid) -> usize
+    requires { ⌜ checkOf grid ≡ Fine ⌝ }
+    ensures { λ r. ⌜ r ≡ product (cellsOn grid) (grid .d) ⌝ }
+{
+    let d = grid.d;
+    let mut p = 1usize;
+    let mut k = 0u32;
+    while k < d {
+        let a = grid.axis(k);
+        p = p * (a.count as usize);
+        k += 1;
+    }
+    p
+}
+
+// How many cells a grid has that is taken.
+pub fn cells(grid: Grid) -> usize
+    requires { ⌜ checkOf grid ≡ Fine ⌝ }
+    ensures { λ r. ⌜ r ≡ cellsOf grid ⌝ }
+{
+    let d = grid.d as usize;
+    permutation::count(d) * boxes(grid)
+}
+
+// How much a point's number grows with a step along axis a.
+fn stride(grid: Grid, a: u32) -> usize
+    requires { ⌜ (checkOf grid ≡ Fine) × (a ≤ grid .d) ⌝ }
+    ensures { λ r. ⌜ r ≡ strideOf grid a ⌝ }
+{
+    let mut s = 1usize;
+    let mut k = 0u32;
+    while k < a {
+        s = s * grid.points_on(k);
+        k += 1;
+    }
+    s
+}
+
+// The point at which box b begins.
+fn origin(grid: Grid, b: usize) -> usize
+    requires { ⌜ checkOf grid ≡ Fine ⌝ }
+    ensures { λ r. ⌜ r ≡ pointOf grid (boxAt grid b) ⌝ }
+{
+    let d = grid.d;
+    let mut s = 1usize;
+    let mut x = 0usize;
+    let mut rest = b;
+    let mut k = 0u32;
+    while k < d {
+        let a = grid.axis(k);
+        let n = a.count as usize;
+        x = x + s * (rest % n);
+        s = s * grid.points_on(k);
+        rest = rest / n;
+        k += 1;
+    }
+    x
+}
+
+// The grid point of corner j of cell x.
+pub fn corner(grid: Grid, x: usize, j: usize) -> usize
+    requires { ⌜ (checkOf grid ≡ Fine) × (j ≤ grid .d) ⌝ }
+    ensures { λ r. ⌜ r ≡ cornerOf grid x j ⌝ }
+{
+    let d = grid.d as usize;
+    let n = permutation::count(d);
+    let t = n - 1 - x % n;
+    let mut v = origin(grid, x / n);
+    let mut i = 0;
+    while i < j {
+        let a = permutation::axis(d, t, i);
+        v = v + stride(grid, a as u32);
+        i += 1;
+    }
+    v
+}
+
+// Writes the words of all cells, one after the other, over a list of their length.
+pub fn grid_words(grid: Grid, words: &mut [u32])
+    requires { ⌜ (checkOf grid ≡ Fine) × (length (now words) ≡ cellsOf grid * suc (grid .d)) ⌝ }
+    ensures { λ _. ⌜ now (words .exit) ≡ flatWords grid ⌝ }
+{
+    let n = grid.d as usize + 1;
+    let mut i = 0;
+    while i < words.len() {
+        let v = corner(grid, i / n, i % n);
+        words[i] = grid.vertex(v as u32);
+        i += 1;
+    }
+}

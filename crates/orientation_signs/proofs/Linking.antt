@@ -1,0 +1,312 @@
+-- The walk's table of links says what the mates of cells say: a link across slots s and s′ is a facet without positions d - s and d - s′, and the signs are opposed there
+-- exactly if they are as the link's flip has them. Assumes nothing.
+use mathlib.Core.Bool.{Bool, true, false}
+use mathlib.Core.List.{List, [], _∷_}
+use mathlib.Core.Path.{_≡_, refl, sym, ap, _∙_, subst}
+use mathlib.Core.Logic.{_⊎_, inl, inr, ⊎-elim}
+use Prim.Native.Nat.{ℕ, zero, suc, _+_, _-_, _*_, _/_, _%_, _<_, _≤_}
+use native.Mathlib.Nat.{mul-add-div-right, mul-add-mod-self-right, mod-eq-of-lt, div-eq-of-lt, mul-le-mul-left, suc-mod, add-zero, zero-add, suc-add, mul-suc, suc-mul, mul-le-mul-right, add-comm}
+use native.Mathlib.Numerals.{add-one}
+use native.Mathlib.Omega.{arith}
+use lib.ListN.{length, getD}
+use Rattle.complex.specs.Facets.{FacetOf, Mates, Crowded, slots}
+use Rattle.complex_mates.specs.Table.{none, Meet, MateTable, Across, Crossing}
+use Rattle.complex_mates.proofs.Laws.{row-cell-below, row-slot-below, row-is, slots-some}
+use Rattle.complex_mates.proofs.Meeting.{slots-most, slots-dim}
+use Rattle.orientation_walk.specs.Signs as walk
+use Rattle.orientation_walk.specs.Signs.{turned, Link}
+use Rattle.orientation_walk.specs.Signs.Way.{here, on}
+use Rattle.orientation_walk.specs.Steps as steps
+use Rattle.multiindex.specs.Sign.{Sign, plus, minus, opposite, times, induced}
+use Rattle.orientation_signs.specs.Signs.{Coherent, Joined, Lowest, Oriented}
+use Rattle.orientation_signs.specs.Signs.Joined.{here as start, across}
+use Rattle.orientation_signs.specs.Found.{signOf, Finding, Found}
+use Rattle.orientation_signs.proofs.Unique.{double, cancel, forced}
+
+-- ---- signs and the walk's numbers
+abbrev code : Sign → ℕ
+code plus = 1
+code minus = 2
+
+code-sign : (a : Sign) → signOf (code a) ≡ a
+code-sign plus = refl
+code-sign minus = refl
+
+sign-code : (n : ℕ) → walk.Sign n → code (signOf n) ≡ n
+sign-code zero s = absurd (omega (arith, s .some))
+sign-code (suc zero) s = refl
+sign-code (suc (suc zero)) s = refl
+sign-code (suc (suc (suc n))) s = absurd (omega (arith, s .small))
+
+code-is : (a : Sign) → walk.Sign (code a)
+code-is plus = record { some = omega arith; small = omega arith }
+code-is minus = record { some = omega arith; small = omega arith }
+
+-- even or odd
+parity : (p : ℕ) → ((p % 2 ≡ 0) × (induced p ≡ plus)) ⊎ ((p % 2 ≡ 1) × (induced p ≡ minus))
+parity zero = inl (refl, refl)
+parity (suc p) =
+    ⊎-elim (λ w. inr (suc-mod p 2 ∙ ap (λ (x : ℕ). suc x % 2) (w .0), ap opposite (w .1))) (λ w. inl (suc-mod p 2 ∙ ap (λ (x : ℕ). suc x % 2) (w .0), ap opposite (w .1))) (parity p)
+
+times-plus : (a : Sign) → times a plus ≡ a
+times-plus plus = refl
+times-plus minus = refl
+
+times-minus : (a : Sign) → times a minus ≡ opposite a
+times-minus plus = refl
+times-minus minus = refl
+
+code-opposite : (a : Sign) → 3 - code a ≡ code (opposite a)
+code-opposite plus = refl
+code-opposite minus = refl
+
+-- a flip of the walk turns as the induced sign does
+turned-code : (p : ℕ) (a : Sign) → turned (p % 2) (code a) ≡ code (times a (induced p))
+unfolding turned
+turned-code p a = ⊎-elim (λ w. rw (w .0, w .1, times-plus a)) (λ w. rw (w .0, w .1, times-minus a) (code-opposite a)) (parity p)
+
+-- ---- induced signs
+times-assoc : (a b c : Sign) → times (times a b) c ≡ times a (times b c)
+times-assoc plus b c = refl
+times-assoc minus plus c = refl
+times-assoc minus minus c = sym (double c)
+
+times-opposite : (a b : Sign) → times (opposite a) b ≡ opposite (times a b)
+times-opposite plus b = refl
+times-opposite minus b = sym (double b)
+
+induced-sum : (a b : ℕ) → induced (a + b) ≡ times (induced a) (induced b)
+induced-sum zero b = ap induced (zero-add b)
+induced-sum (suc a) b = ap induced (suc-add a b) ∙ ap opposite (induced-sum a b) ∙ sym (times-opposite (induced a) (induced b))
+
+-- both positions counted from the other end: the product of the induced signs is the same
+ends : (a s t : Sign) → times (times a s) (times a t) ≡ times s t
+ends plus s t = refl
+ends minus plus plus = refl
+ends minus plus minus = refl
+ends minus minus plus = refl
+ends minus minus minus = refl
+
+from-end : (d s : ℕ) → s ≤ d → induced (d - s) ≡ times (induced d) (induced s)
+from-end d s h =
+    let e : (d - s) + s ≡ d = omega arith in
+    sym (cancel (induced (d - s)) (induced s)) ∙ ap (λ (x : Sign). times x (induced s)) (sym (induced-sum (d - s) s) ∙ ap induced e)
+
+-- the sign across a facet without positions d - s and d - s′
+across-sign : (d s s′ : ℕ) (a : Sign) → s ≤ d → s′ ≤ d → times (opposite (times a (induced (d - s)))) (induced (d - s′)) ≡ times a (induced (s + s′ + 1))
+across-sign d s s′ a h h′ =
+    let p = induced (d - s) in
+    let q = induced (d - s′) in
+    let e : times p q ≡ induced (s + s′) = rw (from-end d s h, from-end d s′ h′) (ends (induced d) (induced s) (induced s′) ∙ sym (induced-sum s s′)) in
+    let f : induced (s + s′ + 1) ≡ opposite (induced (s + s′)) = ap induced (add-one (s + s′)) in
+    times-opposite (times a p) q ∙ ap opposite (times-assoc a p q ∙ ap (times a) e) ∙ opposite-in a (induced (s + s′)) ∙ ap (times a) (sym f)
+  where
+    opposite-in : (a b : Sign) → opposite (times a b) ≡ times a (opposite b)
+    opposite-in plus b = refl
+    opposite-in minus b = refl
+
+-- opposed, where the sign across is that one
+opposed-by : (d s s′ : ℕ) (a b : Sign) → s ≤ d → s′ ≤ d → b ≡ times a (induced (s + s′ + 1)) → times a (induced (d - s)) ≡ opposite (times b (induced (d - s′)))
+opposed-by d s s′ a b h h′ e =
+    let f : b ≡ times (opposite (times a (induced (d - s)))) (induced (d - s′)) = e ∙ sym (across-sign d s s′ a h h′) in
+    sym (double (times a (induced (d - s)))) ∙ ap opposite (sym (cancel (opposite (times a (induced (d - s)))) (induced (d - s′))) ∙ ap (λ (x : Sign). times x (induced (d - s′))) (sym f))
+
+by-opposed : (d s s′ : ℕ) (a b : Sign) → s ≤ d → s′ ≤ d → times a (induced (d - s)) ≡ opposite (times b (induced (d - s′))) → b ≡ times a (induced (s + s′ + 1))
+by-opposed d s s′ a b h h′ e = forced a b (induced (d - s)) (induced (d - s′)) e ∙ across-sign d s s′ a h h′
+
+-- ---- rows
+pub row-in : (c s m k : ℕ) → c < m → s < k → c * k + s < m * k
+row-in c s m k hc hs = omega (arith, suc-mul c k, mul-le-mul-right k hc)
+
+pub row-div : (c s k : ℕ) → s < k → (c * k + s) / k ≡ c
+row-div c s k h = mul-add-div-right (omega arith) c s ∙ ap (λ (x : ℕ). c + x) (div-eq-of-lt h) ∙ add-zero c
+
+pub row-mod : (c s k : ℕ) → s < k → (c * k + s) % k ≡ s
+row-mod c s k h = mul-add-mod-self-right c k s ∙ mod-eq-of-lt h
+
+-- mates, said of equal numbers
+pub moved : (d : ℕ) (cs : List (List ℕ)) {c i c′ i′ : ℕ} (c₁ i₁ c₂ i₂ : ℕ) → c ≡ c₁ → i ≡ i₁ → c′ ≡ c₂ → i′ ≡ i₂ → Mates d cs c i c′ i′ → Mates d cs c₁ i₁ c₂ i₂
+moved d cs {c} {i} {c′} {i′} c₁ i₁ c₂ i₂ e f g h u =
+    subst (λ (z : ℕ). Mates d cs z i₁ c₂ i₂) e
+    (subst (λ (z : ℕ). Mates d cs c z c₂ i₂) f
+    (subst (λ (z : ℕ). Mates d cs c i z i₂) g
+    (subst (λ (z : ℕ). Mates d cs c i c′ z) h u)))
+
+turned-round : {d : ℕ} {cs : List (List ℕ)} {c i c′ i′ : ℕ} → Mates d cs c i c′ i′ → Mates d cs c′ i′ c i
+turned-round u = record { this = u .that; that = u .this; apart = λ e. u .apart (sym e); one = sym (u .one) }
+
+pub slots-pos : (d : ℕ) → 0 < d → slots d ≡ suc d
+slots-pos zero h = absurd (omega arith)
+slots-pos (suc d) h = refl
+
+module _ (d m : ℕ) (cs : List (List ℕ)) (many : length cs ≡ m) (mates : List ℕ) (t : MateTable d cs mates) (few : m * suc d < none) where
+  in-cs : (x : ℕ) → x < m * slots d → x < length cs * slots d
+  in-cs x h = rw many h
+
+  pub rows-few : m * slots d < none
+  rows-few = omega (arith, mul-le-mul-left m (slots-most d))
+
+  pub mate-below : (x : ℕ) → x < m * slots d → (getD mates x 0 ≡ none → ⊥) → getD mates x 0 < m * slots d
+  mate-below x h s = subst (λ (z : ℕ). getD mates x 0 < z * slots d) many (t .below x (in-cs x h) s)
+
+  -- the row of a facet
+  pub facet-row : {c i : ℕ} → FacetOf d cs c i → (c * slots d + (d - i) < m * slots d) × ((c * slots d + (d - i)) / slots d ≡ c) × ((c * slots d + (d - i)) % slots d ≡ d - i) × (d - (c * slots d + (d - i)) % slots d ≡ i)
+  facet-row {c} {i} u =
+      let z : slots d ≡ suc d = slots-pos d (u .some) in
+      let l : d - i < slots d = omega arith in
+      let g : (c * slots d + (d - i)) % slots d ≡ d - i = row-mod c (d - i) (slots d) l in
+      let p = u .place in
+      (row-in c (d - i) m (slots d) (omega (arith, u .cell)) l, row-div c (d - i) (slots d) l, g, omega arith)
+
+  -- mates are in the table
+  pub mates-row : {c i c′ i′ : ℕ} → Mates d cs c i c′ i′ → getD mates (c * slots d + (d - i)) 0 ≡ c′ * slots d + (d - i′)
+  mates-row {c} {i} {c′} {i′} u =
+      let x = facet-row (u .this) in
+      let y = facet-row (u .that) in
+      t .all (c * slots d + (d - i)) (c′ * slots d + (d - i′)) (in-cs (c * slots d + (d - i)) (x .0)) (in-cs (c′ * slots d + (d - i′)) (y .0)) (moved d cs _ _ _ _ (sym (x .1)) (sym (x .3)) (sym (y .1)) (sym (y .3)) u)
+
+  -- a table of mates leaves no room for three
+  pub not-crowded : Crowded d cs → ⊥
+  not-crowded w =
+      let x = facet-row (w .one .that) in
+      let y = facet-row (w .other .that) in
+      w .apart (sym (x .1) ∙ ap (λ (z : ℕ). z / slots d) (sym (mates-row (w .one)) ∙ mates-row (w .other)) ∙ y .1)
+
+  module _ (o fl : List ℕ) (a : (x : ℕ) → x < m * slots d → Across (slots d) mates o fl x) where
+    -- a link is a pair of mates
+    link-mates : {c j f : ℕ} → (l : Link m (slots d) o fl c j f) → (s′ : ℕ) × (s′ ≤ d) × (l .slot ≤ d) × Mates d cs c (d - l .slot) j (d - s′) × (f ≡ (l .slot + s′ + 1) % 2)
+    link-mates {c} {j} {f} l =
+        let s = l .slot in
+        let x = c * slots d + s in
+        let h : x < m * slots d = row-in c s m (slots d) (l .from) (l .below) in
+        let e : x / slots d ≡ c = row-div c s (slots d) (l .below) in
+        let g : x % slots d ≡ s = row-mod c s (slots d) (l .below) in
+        let w = a x h in
+        let some : getD mates x 0 ≡ none → ⊥ = λ z. omega (arith, w .edge z, l .to, l .cell, few, mul-suc m d) in
+        let u = t .meet x (in-cs x h) some in
+        let y = getD mates x 0 in
+        let p : y / slots d ≡ j = sym (w .to some) ∙ l .to in
+        let q : y % slots d < slots d = row-slot-below y m (slots d) (mate-below x h some) in
+        let o = slots-most d in
+        let b = l .below in (
+          y % slots d,
+          omega arith,
+          omega arith,
+          moved d cs c (d - s) j (d - y % slots d) e (ap (λ (z : ℕ). d - z) g) p refl u,
+          sym (l .by) ∙ w .by some ∙ ap (λ (z : ℕ). (z + y % slots d + 1) % 2) g,
+        )
+
+    -- and back
+    mates-link : {c i c′ i′ : ℕ} → Mates d cs c i c′ i′ → Link m (slots d) o fl c c′ ((d - i + (d - i′) + 1) % 2)
+    mates-link {c} {i} {c′} {i′} u =
+        let x = facet-row (u .this) in
+        let y = facet-row (u .that) in
+        let q = mates-row u in
+        let w = a (c * slots d + (d - i)) (x .0) in
+        let some : getD mates (c * slots d + (d - i)) 0 ≡ none → ⊥ = λ z. omega (arith, q, y .0, rows-few) in
+        let z : slots d ≡ suc d = slots-pos d (u .this .some) in
+        record {
+          slot = d - i;
+          below = omega arith;
+          from = omega (arith, u .this .cell);
+          cell = omega (arith, u .that .cell);
+          to = w .to some ∙ ap (λ (z : ℕ). z / slots d) q ∙ y .1;
+          by =
+              w .by some ∙ ap (λ (z : ℕ). (z + getD mates (c * slots d + (d - i)) 0 % slots d + 1) % 2) (x .2)
+              ∙ ap (λ (z : ℕ). (d - i + z % slots d + 1) % 2) q ∙ ap (λ (z : ℕ). (d - i + z + 1) % 2) (y .2);
+        }
+
+    linked-back : (c j f : ℕ) → Link m (slots d) o fl c j f → Link m (slots d) o fl j c f
+    linked-back c j f l =
+        let v = link-mates l in
+        let r = mates-link (turned-round (v .3)) in
+        let e : d - (d - v .0) + (d - (d - l .slot)) + 1 ≡ l .slot + v .0 + 1 = omega (arith, v .1, v .2) in
+        subst (λ (z : ℕ). Link m (slots d) o fl j c z) (ap (λ (z : ℕ). z % 2) e ∙ sym (v .4)) r
+
+    pub links : m * slots d ≤ length o → m * slots d ≤ length fl → walk.Table m (slots d) o fl
+    links lo lf =
+        record {
+          few = omega (arith, mul-suc m d);
+          others = lo;
+          flips = lf;
+          cells =
+              λ p h s.
+              let w = a p h in
+              let some : getD mates p 0 ≡ none → ⊥ = λ z. s (w .edge z) in
+              rw (w .to some) (row-cell-below (getD mates p 0) m (slots d) (mate-below p h some));
+          back = linked-back;
+        }
+
+    -- coherent signs of cells are coherent to the walk
+    pub coherent-down : (σ : ℕ → Sign) → Coherent d cs σ → walk.Coherent m (slots d) o fl (λ c. code (σ c))
+    coherent-down σ p =
+        record {
+          signs = λ c h. code-is (σ c);
+          agree =
+              λ c j f l.
+              let v = link-mates l in
+              ap code (by-opposed d (l .slot) (v .0) (σ c) (σ j) (v .2) (v .1) (p .opposed c (d - l .slot) j (d - v .0) (v .3)))
+              ∙ sym (turned-code (l .slot + v .0 + 1) (σ c)) ∙ ap (λ (z : ℕ). turned z (code (σ c))) (sym (v .4));
+        }
+
+    code-inj : (x y : Sign) → code x ≡ code y → x ≡ y
+    code-inj x y e = sym (code-sign x) ∙ ap signOf e ∙ code-sign y
+
+    -- and the walk's are coherent
+    pub coherent-up : (τ : ℕ → ℕ) → walk.Coherent m (slots d) o fl τ → Coherent d cs (λ c. signOf (τ c))
+    coherent-up τ p =
+        record {
+          opposed =
+              λ c i c′ i′ u.
+              let hc : c < m = omega (arith, u .this .cell) in
+              let hc′ : c′ < m = omega (arith, u .that .cell) in
+              let r : τ c′ ≡ turned ((d - i + (d - i′) + 1) % 2) (τ c) = p .agree c c′ ((d - i + (d - i′) + 1) % 2) (mates-link u) in
+              let e : code (signOf (τ c′)) ≡ code (times (signOf (τ c)) (induced (d - i + (d - i′) + 1))) =
+              sign-code (τ c′) (p .signs c′ hc′) ∙ r ∙ ap (turned ((d - i + (d - i′) + 1) % 2)) (sym (sign-code (τ c) (p .signs c hc))) ∙ turned-code (d - i + (d - i′) + 1) (signOf (τ c)) in
+              let f = opposed-by d (d - i) (d - i′) (signOf (τ c)) (signOf (τ c′)) (omega arith) (omega arith) (code-inj _ _ e) in
+              let g : d - (d - i) ≡ i = omega (arith, u .this .place) in
+              let g′ : d - (d - i′) ≡ i′ = omega (arith, u .that .place) in
+              ap (λ (z : ℕ). times (signOf (τ c)) (induced z)) (sym g) ∙ f ∙ ap (λ (z : ℕ). opposite (times (signOf (τ c′)) (induced z))) g′;
+        }
+
+    way-joined : {c j s : ℕ} → walk.Way m (slots d) o fl c j s → Joined d cs c j
+    way-joined (here e) = start
+    way-joined (on w l e) = across (way-joined w) (link-mates l .3)
+
+    pub oriented-up : (τ : ℕ → ℕ) → walk.Oriented m (slots d) o fl τ → Oriented d cs (λ c. signOf (τ c))
+    oriented-up τ p =
+        record {
+          coherent = coherent-up τ (p .coherent);
+          lowest = λ c h low. ap signOf (p .lowest c (omega arith) (λ j s w. low j (way-joined w)));
+        }
+
+    pub found : (ok : Bool) (g t g′ t′ : List ℕ) (looks : ℕ) → steps.Answer m (slots d) o fl g t g′ t′ ok looks → Found d cs ok g′
+    found ok g t g′ t′ looks r =
+        record { yes = λ e. oriented-up (λ c. getD g′ c 0) (r .yes e); no = λ e σ p. r .no e (λ c. code (σ c)) (coherent-down σ p) }
+
+-- ---- the call `coherent`, step by step; k is the number of slots as the code has it
+module _ (d m : ℕ) (rows keys spare counts : List ℕ) (w : Finding d m rows keys spare counts) (k : ℕ) (e : k ≡ slots d) where
+  pub finding-few : m * k < none
+  finding-few = rw e (rows-few d m (w .cs) (w .many) rows (w .mates) (w .few))
+
+  pub finding-crossing : Crossing k (m * k) rows keys spare
+  finding-crossing =
+      subst (λ (z : ℕ). Crossing z (m * z) rows keys spare) (sym e)
+      (record {
+        mates-long = w .rows-long;
+        other-long = w .keys-long;
+        flip-long = w .spare-long;
+        few = rows-few d m (w .cs) (w .many) rows (w .mates) (w .few);
+        below = mate-below d m (w .cs) (w .many) rows (w .mates) (w .few);
+        some = λ x h. slots-some x m (slots d) h;
+      })
+
+  pub finding-links : (o fl : List ℕ) → length o ≡ length keys → length fl ≡ length spare → ((x : ℕ) → x < m * k → Across k rows o fl x) → walk.Table m k o fl
+  finding-links o fl lo lf =
+      subst (λ (z : ℕ). ((x : ℕ) → x < m * z → Across z rows o fl x) → walk.Table m z o fl) (sym e)
+      (λ a. links d m (w .cs) (w .many) rows (w .mates) (w .few) o fl a (omega (arith, w .keys-long)) (omega (arith, w .spare-long)))
+
+  pub finding-found : (o fl : List ℕ) → ((x : ℕ) → x < m * k → Across k rows o fl x) → (ok : Bool) (g t g′ t′ : List ℕ) (looks : ℕ) → steps.Answer m k o fl g t g′ t′ ok looks → (cs : List (List ℕ)) → length cs ≡ m → MateTable d cs rows → Found d cs ok g′
+  finding-found o fl a ok g t g′ t′ looks r cs many mt =
+      subst (λ (z : ℕ). ((x : ℕ) → x < m * z → Across z rows o fl x) → steps.Answer m z o fl g t g′ t′ ok looks → Found d cs ok g′) (sym e)
+      (λ a r. found d m cs many rows mt (w .few) o fl a ok g t g′ t′ looks r) a r

@@ -1,0 +1,48 @@
+// Coherent signs over a table of mates.
+ghost use mathlib.Core.Bool.{true, false};
+ghost use mathlib.Core.Path.{_≡_};
+ghost use mathlib.Core.List.{List};
+ghost use Prim.Native.Nat.{ℕ, suc, _+_, _*_, _<_, _≤_};
+ghost use lib.ListN.{length, getD, take};
+ghost use Rattle.complex_mates.specs.Table.{MateTable};
+ghost use Rattle.orientation_signs.specs.Found.{Finding, Found, numberOf, handedOut};
+
+// Finds coherent signs for m cells from their table of mates, which stands in `rows`: 1 for + and 2 for -, in `counts`. False where there are none.
+pub fn coherent(
+    d: usize,
+    m: usize,
+    rows: &mut [u32],
+    keys: &mut [u32],
+    spare: &mut [u32],
+    counts: &mut [u32],
+) -> bool
+    requires { ⌜ Finding d m (now rows) (now keys) (now spare) (now counts) ⌝ }
+    ensures { λ r. ⌜ ((cs : List (List ℕ)) → length cs ≡ m → MateTable d cs (now (rows .entry)) → Found d cs r (now (counts .exit))) ⌝ }
+{
+    let k = complex_mates::slots(d);
+    complex_mates::across(k, m * k, rows, keys, spare);
+    let walked = orientation_walk::walk(m, k, keys, spare, counts, rows);
+    walked.ok
+}
+
+// Hands the signs out: +1 for 1, else -1.
+pub fn hand_out(marks: &[u32], signs: &mut [i32])
+    requires { ⌜ length (now signs) ≤ length (now marks) ⌝ }
+    ensures { λ _. ⌜ now (signs .exit) ≡ handedOut (take (length (now (signs .entry))) (now (marks .entry))) ⌝ }
+{
+    let mut c = 0;
+    while c < signs.len() {
+        signs[c] = sign_of(marks[c]);
+        c += 1;
+    }
+}
+
+// +1 for 1, else -1.
+fn sign_of(mark: u32) -> i32
+    ensures { λ r. ⌜ r ≡ numberOf mark ⌝ }
+{
+    if mark == 1 {
+        return 1;
+    }
+    -1
+}
