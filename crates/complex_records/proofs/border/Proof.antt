@@ -102,6 +102,6 @@ pub border-spec : {M : Type 1} → stated.statement M
 unfolding code.routine tablesOf
 border-spec 𝓤 H 𝓜 𝓖 𝓡 = closes-free 𝓤 H 𝓜 𝓖 𝓡 border-says code.env #border code.function (code.unfolded 𝓤 H 𝓜 𝓡)
     (derived 𝓤 H (𝓖 .A) (givenOf 𝓤 H 𝓜 𝓖) (Over 𝓤 H 𝓜 𝓖 𝓡 code.env)
-    (knows-free 𝓤 H 𝓜 𝓖 𝓡 lesser-says code.env lesser.name lesser.routine code.calls-records·lesser (lesser-thm.met 𝓤 H 𝓜 𝓖 𝓡))
-    (knows 𝓤 H 𝓜 𝓖 𝓡 load-says code.env load.name load.routine code.calls-records·load (load-thm.met 𝓤 H 𝓜 𝓖 𝓡))
-    (knows 𝓤 H 𝓜 𝓖 𝓡 bump-says code.env bump.name bump.routine code.calls-records·bump (bump-thm.met 𝓤 H 𝓜 𝓖 𝓡)))
+    (knows-free 𝓤 H 𝓜 𝓖 𝓡 lesser-says code.env lesser.name lesser.routine code.calls-complex-records·lesser (lesser-thm.met 𝓤 H 𝓜 𝓖 𝓡))
+    (knows 𝓤 H 𝓜 𝓖 𝓡 load-says code.env load.name load.routine code.calls-complex-records·load (load-thm.met 𝓤 H 𝓜 𝓖 𝓡))
+    (knows 𝓤 H 𝓜 𝓖 𝓡 bump-says code.env bump.name bump.routine code.calls-complex-records·bump (bump-thm.met 𝓤 H 𝓜 𝓖 𝓡)))

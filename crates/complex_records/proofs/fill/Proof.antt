@@ -85,6 +85,6 @@ pub fill-spec : {M : Type 1} → stated.statement M
 unfolding code.routine tablesOf
 fill-spec 𝓤 H 𝓜 𝓖 𝓡 = closes-free 𝓤 H 𝓜 𝓖 𝓡 fill-says code.env #fill code.function (code.unfolded 𝓤 H 𝓜 𝓡)
     (derived 𝓤 H (𝓖 .A) (givenOf 𝓤 H 𝓜 𝓖) (Over 𝓤 H 𝓜 𝓖 𝓡 code.env)
-    (knows-free 𝓤 H 𝓜 𝓖 𝓡 answer-says code.env answer.name answer.routine code.calls-records·answer (answer-thm.met 𝓤 H 𝓜 𝓖 𝓡))
-    (knows-free 𝓤 H 𝓜 𝓖 𝓡 count-of-says code.env count-of.name count-of.routine code.calls-records·count-of (count-of-thm.met 𝓤 H 𝓜 𝓖 𝓡))
-    (knows 𝓤 H 𝓜 𝓖 𝓡 fill-first-says code.env fill-first.name fill-first.routine code.calls-records·fill-first (fill-first-thm.met 𝓤 H 𝓜 𝓖 𝓡)))
+    (knows-free 𝓤 H 𝓜 𝓖 𝓡 answer-says code.env answer.name answer.routine code.calls-complex-records·answer (answer-thm.met 𝓤 H 𝓜 𝓖 𝓡))
+    (knows-free 𝓤 H 𝓜 𝓖 𝓡 count-of-says code.env count-of.name count-of.routine code.calls-complex-records·count-of (count-of-thm.met 𝓤 H 𝓜 𝓖 𝓡))
+    (knows 𝓤 H 𝓜 𝓖 𝓡 fill-first-says code.env fill-first.name fill-first.routine code.calls-complex-records·fill-first (fill-first-thm.met 𝓤 H 𝓜 𝓖 𝓡)))

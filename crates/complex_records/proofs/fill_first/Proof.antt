@@ -110,4 +110,4 @@ derived 𝓤 H A W 𝓣 known =
 pub fill-first-spec : {M : Type 1} → stated.statement M
 unfolding code.routine tablesOf
 fill-first-spec 𝓤 H 𝓜 𝓖 𝓡 = closes 𝓤 H 𝓜 𝓖 𝓡 fill-first-says code.env #fill-first code.function (code.unfolded 𝓤 H 𝓜 𝓡)
-    (derived 𝓤 H (𝓖 .A) (givenOf 𝓤 H 𝓜 𝓖) (Over 𝓤 H 𝓜 𝓖 𝓡 code.env) (knows 𝓤 H 𝓜 𝓖 𝓡 store-at-says code.env store-at.name store-at.routine code.calls-records·store-at (store-at-thm.met 𝓤 H 𝓜 𝓖 𝓡)))
+    (derived 𝓤 H (𝓖 .A) (givenOf 𝓤 H 𝓜 𝓖) (Over 𝓤 H 𝓜 𝓖 𝓡 code.env) (knows 𝓤 H 𝓜 𝓖 𝓡 store-at-says code.env store-at.name store-at.routine code.calls-complex-records·store-at (store-at-thm.met 𝓤 H 𝓜 𝓖 𝓡)))

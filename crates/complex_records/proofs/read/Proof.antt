@@ -69,6 +69,6 @@ pub read-spec : {M : Type 1} → stated.statement M
 unfolding code.routine tablesOf
 read-spec 𝓤 H 𝓜 𝓖 𝓡 = closes-free 𝓤 H 𝓜 𝓖 𝓡 read-says code.env #read code.function (code.unfolded 𝓤 H 𝓜 𝓡)
     (derived 𝓤 H (𝓖 .A) (givenOf 𝓤 H 𝓜 𝓖) (Over 𝓤 H 𝓜 𝓖 𝓡 code.env)
-    (knows-free 𝓤 H 𝓜 𝓖 𝓡 no-facet-says code.env no-facet.name no-facet.routine code.calls-records·no-facet (no-facet-thm.met 𝓤 H 𝓜 𝓖 𝓡))
-    (knows 𝓤 H 𝓜 𝓖 𝓡 load-says code.env load.name load.routine code.calls-records·load (load-thm.met 𝓤 H 𝓜 𝓖 𝓡))
-    (knows-free 𝓤 H 𝓜 𝓖 𝓡 this-facet-says code.env this-facet.name this-facet.routine code.calls-records·this-facet (this-facet-thm.met 𝓤 H 𝓜 𝓖 𝓡)))
+    (knows-free 𝓤 H 𝓜 𝓖 𝓡 no-facet-says code.env no-facet.name no-facet.routine code.calls-complex-records·no-facet (no-facet-thm.met 𝓤 H 𝓜 𝓖 𝓡))
+    (knows 𝓤 H 𝓜 𝓖 𝓡 load-says code.env load.name load.routine code.calls-complex-records·load (load-thm.met 𝓤 H 𝓜 𝓖 𝓡))
+    (knows-free 𝓤 H 𝓜 𝓖 𝓡 this-facet-says code.env this-facet.name this-facet.routine code.calls-complex-records·this-facet (this-facet-thm.met 𝓤 H 𝓜 𝓖 𝓡)))

@@ -36,4 +36,4 @@ derived 𝓤 H A W 𝓣 known =
 pub store-at-spec : {M : Type 1} → stated.statement M
 unfolding code.routine tablesOf
 store-at-spec 𝓤 H 𝓜 𝓖 𝓡 = closes 𝓤 H 𝓜 𝓖 𝓡 store-at-says code.env #store-at code.function (code.unfolded 𝓤 H 𝓜 𝓡)
-    (derived 𝓤 H (𝓖 .A) (givenOf 𝓤 H 𝓜 𝓖) (Over 𝓤 H 𝓜 𝓖 𝓡 code.env) (knows 𝓤 H 𝓜 𝓖 𝓡 record-at-says code.env record-at.name record-at.routine code.calls-records·record-at (record-at-thm.met 𝓤 H 𝓜 𝓖 𝓡)))
+    (derived 𝓤 H (𝓖 .A) (givenOf 𝓤 H 𝓜 𝓖) (Over 𝓤 H 𝓜 𝓖 𝓡 code.env) (knows 𝓤 H 𝓜 𝓖 𝓡 record-at-says code.env record-at.name record-at.routine code.calls-complex-records·record-at (record-at-thm.met 𝓤 H 𝓜 𝓖 𝓡)))
