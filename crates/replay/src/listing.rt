@@ -85,7 +85,7 @@ fn width(kind: u64, d: u32) -> u32 {
     if kind == 14 {
         return 0;
     }
-    if 3 < d {
+    if refusal::MOST_DIMENSION < d {
         return 0;
     }
     if kind == 11 {

@@ -2,7 +2,6 @@
 // the refusal's number and place, or 0 and the answer, and what was handed out. The file `stdout` has what the Rust answers, so a run that writes anything
 // else is a difference.
 mod listing;
-mod read;
 mod requests;
 mod show;
 
@@ -14,20 +13,20 @@ fn request(text: &[u8], from: usize) -> usize
     requires { ⌜ from < length (now text) ⌝ }
     ensures { λ r. ⌜ (from < r) × (r ≤ length (now (text .entry))) ⌝ }
 {
-    let kind = read::number(text, from);
-    let a = read::number(text, kind.end);
-    let b = read::number(text, a.end);
+    let kind = replay_reading::number(text, from);
+    let a = replay_reading::number(text, kind.end);
+    let b = replay_reading::number(text, a.end);
     let mut first = [0u32; 128];
     let mut second = [0u32; 128];
-    let one = read::list(text, b.end, &mut first);
-    let two = read::list(text, one.end, &mut second);
+    let one = replay_reading::list(text, b.end, &mut first);
+    let two = replay_reading::list(text, one.end, &mut second);
     let end = two.end;
     if from < end {
         if 0 < kind.value {
             requests::cut(
                 kind.value,
-                read::low(a.value),
-                read::low(b.value),
+                replay_reading::low(a.value),
+                replay_reading::low(b.value),
                 &first,
                 one.count,
                 &second,

@@ -2,7 +2,6 @@
 // its length (the order is read by `refine_with` alone). For each the program writes the refusal's number and place, or 0 and the number of children, and then
 // every result. The file `stdout` has what the Rust answers, so a run that writes anything else is a difference.
 mod calls;
-mod read;
 mod show;
 
 ghost use Prim.Native.Nat.{_≤_, _<_};
@@ -31,20 +30,20 @@ fn request(text: &[u8], from: usize) -> usize
     requires { ⌜ from < length (now text) ⌝ }
     ensures { λ r. ⌜ (from < r) × (r ≤ length (now (text .entry))) ⌝ }
 {
-    let kind = read::number(text, from);
-    let d = read::number(text, kind.end);
-    let r = read::number(text, d.end);
+    let kind = replay_reading::number(text, from);
+    let d = replay_reading::number(text, kind.end);
+    let r = replay_reading::number(text, d.end);
     let mut words = [0u32; 64];
     let mut order = [0u32; 64];
-    let one = read::list(text, r.end, &mut words);
-    let two = read::list(text, one.end, &mut order);
+    let one = replay_reading::list(text, r.end, &mut words);
+    let two = replay_reading::list(text, one.end, &mut order);
     let end = two.end;
     if from < end {
         if 0 < kind.value {
             cut(
                 kind.value,
-                read::low(d.value),
-                read::low(r.value),
+                replay_reading::low(d.value),
+                replay_reading::low(r.value),
                 &words,
                 one.count,
                 &order,

@@ -100,7 +100,7 @@ fn size(n: usize, width: u32) -> usize {
 
 // How many numbers a word has.
 fn width(d: u32) -> u32 {
-    if 3 < d {
+    if refusal::MOST_DIMENSION < d {
         return 1;
     }
     d + 1

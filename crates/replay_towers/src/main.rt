@@ -5,7 +5,6 @@
 // compared by shares: a vertex of the tower is that vertex of the single refinement which has the same shares of the coarse vertices, and the tower's words are
 // then to be the single refinement's, each in its vertex order.
 mod calls;
-mod read;
 mod rows;
 mod shares;
 mod show;
@@ -23,17 +22,17 @@ pub(crate) fn wide(x: u32) -> usize
 
 // One complex.
 fn line(text: &[u8]) -> Counts {
-    let colon = read::place(text, b':');
-    let dimension = read::number(text, colon);
-    let most = read::number(text, dimension.end);
+    let colon = replay_reading::place(text, b':');
+    let dimension = replay_reading::number(text, colon);
+    let most = replay_reading::number(text, dimension.end);
     let mut words = [0u32; 1024];
     let mut order = [0u32; 1024];
-    let one = read::list(text, most.end, &mut words);
-    let two = read::list(text, one.end, &mut order);
+    let one = replay_reading::list(text, most.end, &mut words);
+    let two = replay_reading::list(text, one.end, &mut order);
     let n = one.count;
     let m = two.count;
-    let d = dimension.value;
-    if 3 < d {
+    let d = replay_reading::low(dimension.value);
+    if refusal::MOST_DIMENSION < d {
         return Counts::fault();
     }
     let sizes = tower::sizes(d, &words[..n], &order[..m]);
@@ -41,7 +40,7 @@ fn line(text: &[u8]) -> Counts {
     let counts = tower::complex(
         d,
         sizes.vertices,
-        most.value as usize,
+        replay_reading::low(most.value) as usize,
         &words[..n],
         &order[..m],
     );
@@ -54,7 +53,7 @@ fn every(text: &[u8]) -> Counts {
     let mut counts = Counts::none();
     let mut at = 0;
     while at < text.len() {
-        let end = read::line_end(text, at);
+        let end = replay_reading::line_end(text, at);
         counts = counts.plus(line(&text[at..end]));
         at = end;
     }

@@ -1,4 +1,4 @@
--- `towers::line` meets its contract: the lists are as long as was read. Assumes nothing.
+-- `replay_towers::line` meets its contract: the lists are as long as was read. Assumes nothing.
 use mathlib.Core.Path.{sym}
 use lib.Seq.{length-take-le}
 use borrow.Author.Needs.{needs}
@@ -26,6 +26,9 @@ slice-aggregate-list-2 c = search needs
 list-requires-2 : tie.Need-list-requires-2
 list-requires-2 c κs = search needs
 
+low-requires : tie.Need-low-requires
+low-requires c κs = search needs
+
 fault-requires : tie.Need-fault-requires
 fault-requires c κs = search needs
 
@@ -36,25 +39,28 @@ array-share-prefix-words : tie.Need-array-share-prefix-words
 array-share-prefix-words c = search needs
 
 slice-aggregate-sizes : tie.Need-slice-aggregate-sizes
-slice-aggregate-sizes c = sym (length-take-le (c .before .before .before .before .before .before .list .result .count) (c .before .before .before .before .before .before .list .last .1 .1 .0) (c .before .before .before .before .before .before .list .ensures .0))
+slice-aggregate-sizes c = sym (length-take-le (c .before .before .before .before .before .before .before .list .result .count) (c .before .before .before .before .before .before .before .list .last .1 .1 .0) (c .before .before .before .before .before .before .before .list .ensures .0))
 
 array-share-prefix-order : tie.Need-array-share-prefix-order
 array-share-prefix-order c = search needs
 
 slice-aggregate-sizes-2 : tie.Need-slice-aggregate-sizes-2
-slice-aggregate-sizes-2 c = sym (length-take-le (c .before .before .before .before .list2 .result .count) (c .before .before .before .before .list2 .last .1 .1 .0) (c .before .before .before .before .list2 .ensures .0))
+slice-aggregate-sizes-2 c = sym (length-take-le (c .before .before .before .before .before .list2 .result .count) (c .before .before .before .before .before .list2 .last .1 .1 .0) (c .before .before .before .before .before .list2 .ensures .0))
 
 sizes-requires : tie.Need-sizes-requires
 sizes-requires c κs = search needs
 
 slice-aggregate-begin : tie.Need-slice-aggregate-begin
-slice-aggregate-begin c = sym (length-take-le (c .before .before .before .before .before .before .before .before .before .before .before .before .before .place .result) (c .before .before .before .before .before .before .before .before .before .before .before .before .before .before .before .args .text .now) (c .before .before .before .before .before .before .before .before .before .before .before .before .before .place .ensures))
+slice-aggregate-begin c = sym (length-take-le (c .before .before .before .before .before .before .before .before .before .before .before .before .before .before .place .result) (c .before .before .before .before .before .before .before .before .before .before .before .before .before .before .before .before .args .text .now) (c .before .before .before .before .before .before .before .before .before .before .before .before .before .before .place .ensures))
 
 cast-begin : tie.Need-cast-begin
 cast-begin c = search needs
 
 begin-requires : tie.Need-begin-requires
 begin-requires c κs = search needs
+
+low-requires-2 : tie.Need-low-requires-2
+low-requires-2 c κs = search needs
 
 cast-complex : tie.Need-cast-complex
 cast-complex c = search needs
@@ -63,13 +69,13 @@ array-share-prefix-words-2 : tie.Need-array-share-prefix-words-2
 array-share-prefix-words-2 c = search needs
 
 slice-aggregate-complex : tie.Need-slice-aggregate-complex
-slice-aggregate-complex c = sym (length-take-le (c .before .before .before .before .before .before .before .before .before .before .before .before .list .result .count) (c .before .before .before .before .before .before .before .before .before .before .before .before .list .last .1 .1 .0) (c .before .before .before .before .before .before .before .before .before .before .before .before .list .ensures .0))
+slice-aggregate-complex c = sym (length-take-le (c .before .before .before .before .before .before .before .before .before .before .before .before .before .list .result .count) (c .before .before .before .before .before .before .before .before .before .before .before .before .before .list .last .1 .1 .0) (c .before .before .before .before .before .before .before .before .before .before .before .before .before .list .ensures .0))
 
 array-share-prefix-order-2 : tie.Need-array-share-prefix-order-2
 array-share-prefix-order-2 c = search needs
 
 slice-aggregate-complex-2 : tie.Need-slice-aggregate-complex-2
-slice-aggregate-complex-2 c = sym (length-take-le (c .before .before .before .before .before .before .before .before .before .before .list2 .result .count) (c .before .before .before .before .before .before .before .before .before .before .list2 .last .1 .1 .0) (c .before .before .before .before .before .before .before .before .before .before .list2 .ensures .0))
+slice-aggregate-complex-2 c = sym (length-take-le (c .before .before .before .before .before .before .before .before .before .before .before .list2 .result .count) (c .before .before .before .before .before .before .before .before .before .before .before .list2 .last .1 .1 .0) (c .before .before .before .before .before .before .before .before .before .before .before .list2 .ensures .0))
 
 complex-requires : tie.Need-complex-requires
 complex-requires c κs = search needs
@@ -91,6 +97,7 @@ line-spec =
     list-requires
     slice-aggregate-list-2
     list-requires-2
+    low-requires
     fault-requires
     returns
     array-share-prefix-words
@@ -101,6 +108,7 @@ line-spec =
     slice-aggregate-begin
     cast-begin
     begin-requires
+    low-requires-2
     cast-complex
     array-share-prefix-words-2
     slice-aggregate-complex

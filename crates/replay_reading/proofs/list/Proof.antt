@@ -1,12 +1,12 @@
--- `replay::read::list` meets its contract: the list keeps its length, and neither place passes an end. Assumes nothing.
+-- `replay_reading::list` meets its contract: the list keeps its length, and neither place passes an end. Assumes nothing.
 use borrow.Author.Needs.{needs}
 use native.Mathlib.Omega.{arith}
 use Prim.Native.Nat.{_≤_, _<_, _-_, _+_}
 use lib.ListN.{length}
 use mathlib.Core.Path.{_≡_, refl}
 use lib.ListN.{length-set}
-use Rattle.replay.proofs.read.list.Statement.{statement}
-use Rattle.replay.proofs.read.list.Tie as tie
+use Rattle.replay_reading.proofs.list.Statement.{statement}
+use Rattle.replay_reading.proofs.list.Tie as tie
 
 abbrev Inv-loop : tie.InvT-loop
 Inv-loop text from to₀ count end₀ i₀ to end i = (i ≤ length to) × (length to ≡ length to₀) × (end ≤ length text)

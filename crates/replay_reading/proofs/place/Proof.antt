@@ -1,9 +1,9 @@
--- `towers::read::place` meets its contract: the place never passes the end of the text. Assumes nothing.
+-- `replay_reading::place` meets its contract: the place never passes the end of the text. Assumes nothing.
 use borrow.Author.Needs.{needs}
 use Prim.Native.Nat.{_-_, _≤_}
 use lib.ListN.{length}
-use Rattle.replay_towers.proofs.read.place.Statement.{statement}
-use Rattle.replay_towers.proofs.read.place.Tie as tie
+use Rattle.replay_reading.proofs.place.Statement.{statement}
+use Rattle.replay_reading.proofs.place.Tie as tie
 
 abbrev Inv-loop : tie.InvT-loop
 Inv-loop text byte i₀ i = i ≤ length text

@@ -1,17 +1,17 @@
-// Numbers in a text: decimal, with anything but digits between them.
-ghost use Prim.Native.Nat.{_≤_};
+// Added by the port: how the programs that replay stored requests read them. Numbers in a text are decimal, with anything but digits between them.
+ghost use Prim.Native.Nat.{_≤_, _<_};
 ghost use lib.ListN.{length};
 
 // A number, and where it ends.
-pub(crate) struct Found {
-    pub(crate) value: u64,
-    pub(crate) end: usize,
+pub struct Found {
+    pub value: u64,
+    pub end: usize,
 }
 
 // How many numbers a list has, and where it ends.
-pub(crate) struct Listed {
-    pub(crate) count: usize,
-    pub(crate) end: usize,
+pub struct Listed {
+    pub count: usize,
+    pub end: usize,
 }
 
 // Whether the byte is a digit.
@@ -20,6 +20,35 @@ fn digit(b: u8) -> bool {
         return false;
     }
     b < 58
+}
+
+// Where the byte first stands, or the text's length.
+pub fn place(text: &[u8], byte: u8) -> usize
+    ensures { λ r. ⌜ r ≤ length (now (text .entry)) ⌝ }
+{
+    let mut i = 0;
+    while i < text.len() {
+        if text[i] == byte {
+            return i;
+        }
+        i += 1;
+    }
+    i
+}
+
+// Where the line that begins at `from` ends: past its line feed.
+pub fn line_end(text: &[u8], from: usize) -> usize
+    requires { ⌜ from < length (now text) ⌝ }
+    ensures { λ r. ⌜ (from < r) × (r ≤ length (now (text .entry))) ⌝ }
+{
+    let mut i = from;
+    while i < text.len() {
+        if text[i] == b'\n' {
+            return i + 1;
+        }
+        i += 1;
+    }
+    i
 }
 
 // Where the first digit stands from `from` on, or the text's length.
@@ -49,7 +78,7 @@ fn more(value: u64, b: u8) -> u64 {
 }
 
 // The number that begins at the first digit from `from` on, 0 where there is none.
-pub(crate) fn number(text: &[u8], from: usize) -> Found
+pub fn number(text: &[u8], from: usize) -> Found
     requires { ⌜ from ≤ length (now text) ⌝ }
     ensures { λ r. ⌜ r .end ≤ length (now (text .entry)) ⌝ }
 {
@@ -72,12 +101,12 @@ pub(crate) fn number(text: &[u8], from: usize) -> Found
 }
 
 // The lower 32 bits.
-pub(crate) fn low(x: u64) -> u32 {
+pub fn low(x: u64) -> u32 {
     (x % 4294967296) as u32
 }
 
 // A count and as many numbers after it go to the list, as far as it is long enough.
-pub(crate) fn list(text: &[u8], from: usize, to: &mut [u32]) -> Listed
+pub fn list(text: &[u8], from: usize, to: &mut [u32]) -> Listed
     requires { ⌜ from ≤ length (now text) ⌝ }
     ensures { λ r. ⌜ r .count ≤ length (now (to .exit)) ⌝ }
     ensures { λ r. ⌜ r .end ≤ length (now (text .entry)) ⌝ }
