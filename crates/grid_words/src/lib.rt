@@ -8,7 +8,7 @@ ghost use Prim.Native.Nat.{ℕ, suc, _+_, _*_, _<_, _≤_};
 ghost use lib.ListN.{length};
 ghost use Rattle.refusal.specs.declared.Answer.the-variants.{Fine};
 ghost use Rattle.quotient.specs.Fold.{product};
-ghost use Rattle.quotient.specs.Shape.{cellsOn, pointsOn, checkOf, cellsOf};
+ghost use Rattle.quotient.specs.Shape.{cellsOn, pointsOn, checkOf, cellCount};
 ghost use Rattle.quotient.specs.Points.{pointOf};
 ghost use Rattle.grid_words.specs.Cells.{boxAt, flatWords};
 ghost use Rattle.grid_words.specs.Numbered.{strideOf, cornerOf};
@@ -34,7 +34,7 @@ fn boxes(grid: Grid) -> usize
 // How many cells a grid has that is taken.
 pub fn cells(grid: Grid) -> usize
     requires { ⌜ checkOf grid ≡ Fine ⌝ }
-    ensures { λ r. ⌜ r ≡ cellsOf grid ⌝ }
+    ensures { λ r. ⌜ r ≡ cellCount grid ⌝ }
 {
     let d = grid.d as usize;
     permutation::count(d) * boxes(grid)
@@ -95,7 +95,7 @@ pub fn corner(grid: Grid, x: usize, j: usize) -> usize
 
 // Writes the words of all cells, one after the other, over a list of their length.
 pub fn grid_words(grid: Grid, words: &mut [u32])
-    requires { ⌜ (checkOf grid ≡ Fine) × (length (now words) ≡ cellsOf grid * suc (grid .d)) ⌝ }
+    requires { ⌜ (checkOf grid ≡ Fine) × (length (now words) ≡ cellCount grid * suc (grid .d)) ⌝ }
     ensures { λ _. ⌜ now (words .exit) ≡ flatWords grid ⌝ }
 {
     let n = grid.d as usize + 1;

@@ -238,7 +238,7 @@ module _ (d m : ℕ) (cs : List (List ℕ)) (many : length cs ≡ m) (mates : Li
         }
 
     -- coherent signs of cells are coherent to the walk
-    pub coherent-down : (σ : ℕ → Sign) → Coherent d cs σ → walk.Coherent m (slots d) o fl (λ c. code (σ c))
+    pub coherent-down : (σ : ℕ → Sign) → Coherent d cs σ → walk.CoherentMarks m (slots d) o fl (λ c. code (σ c))
     coherent-down σ p =
         record {
           signs = λ c h. code-is (σ c);
@@ -253,7 +253,7 @@ module _ (d m : ℕ) (cs : List (List ℕ)) (many : length cs ≡ m) (mates : Li
     code-inj x y e = sym (code-sign x) ∙ ap signOf e ∙ code-sign y
 
     -- and the walk's are coherent
-    pub coherent-up : (τ : ℕ → ℕ) → walk.Coherent m (slots d) o fl τ → Coherent d cs (λ c. signOf (τ c))
+    pub coherent-up : (τ : ℕ → ℕ) → walk.CoherentMarks m (slots d) o fl τ → Coherent d cs (λ c. signOf (τ c))
     coherent-up τ p =
         record {
           opposed =
@@ -273,7 +273,7 @@ module _ (d m : ℕ) (cs : List (List ℕ)) (many : length cs ≡ m) (mates : Li
     way-joined (here e) = start
     way-joined (on w l e) = across (way-joined w) (link-mates l .3)
 
-    pub oriented-up : (τ : ℕ → ℕ) → walk.Oriented m (slots d) o fl τ → Oriented d cs (λ c. signOf (τ c))
+    pub oriented-up : (τ : ℕ → ℕ) → walk.OrientedMarks m (slots d) o fl τ → Oriented d cs (λ c. signOf (τ c))
     oriented-up τ p =
         record {
           coherent = coherent-up τ (p .coherent);

@@ -39,7 +39,7 @@ module _ (d R n m : ℕ) (along pattern keys rows spare counts : List ℕ) (q : 
   space = q .ready .room w f
 
   pub to-pattern : chains.Ready d R (length pattern)
-  to-pattern = record { axes = q .ready .dim; times = w .most; room = space .pattern-long }
+  to-pattern = record { axes = q .ready .dim; most = w .most; room = space .pattern-long }
 
   pub corners-fit : (s : ℕ) → s ≡ R ^ d → (k : ℕ) → k ≡ suc d → s * k < 2 ^ 64
   corners-fit s e k g =
@@ -138,7 +138,7 @@ module _ (d R n m : ℕ) (cells along pattern keys rows spare counts sorted firs
   refining = record {
     dim = q .dim;
     some = f .within .least;
-    times = f .within .most;
+    most = f .within .most;
     words-of = q .words-of;
     pattern-is = f .pattern-is;
     names-long = omega (arith, length-names);

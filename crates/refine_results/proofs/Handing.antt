@@ -82,7 +82,7 @@ module _ (d R n m born : ℕ) (cells along pattern keys rows fresh names sorted�
   refines : Refines d R n (cut (suc d) m along)
   refines = record {
     least = q .refining .some;
-    most = q .refining .times;
+    most = q .refining .most;
     few-cells = omega (arith, q .few-cells, ap (λ (x : ℕ). x * R ^ d) (cut-length (suc d) m along));
     few-vertices = omega (arith, q .few-vertices, q .supports .long);
   }

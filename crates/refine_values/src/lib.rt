@@ -10,7 +10,7 @@ ghost use mathlib.Core.Path.{_≡_};
 ghost use Prim.Native.Nat.{ℕ, suc, _+_, _*_, _<_, _≤_};
 ghost use lib.ListN.{length};
 ghost use Rattle.refine_jacobian.specs.Entries.{nought};
-ghost use Rattle.refine_values.specs.Reading.{hasChild, noChild, childOf, wordIn, wordOf, four, support, hasBirth, noBirth, birthOf};
+ghost use Rattle.refine_values.specs.Reading.{hasChild, noChild, childOf, wordIn, wordAlong, four, support, hasBirth, noBirth, birthOf};
 
 // A child: the number of its parent, and its Jacobian in the parent's local coordinates, by column and then zeros, in floats and as whole numbers over R.
 pub struct Child {
@@ -144,7 +144,7 @@ pub fn word_of<'a>(
     cells: &'a [u32],
     order: &'a [u32],
 ) -> &'a [u32]
-    ensures { λ r. ⌜ now r ≡ wordOf given d number (now (cells .entry)) (now (order .entry)) ⌝ }
+    ensures { λ r. ⌜ now r ≡ wordAlong given d number (now (cells .entry)) (now (order .entry)) ⌝ }
 {
     if given {
         return word_in(d, number, order);

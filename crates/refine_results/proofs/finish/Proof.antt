@@ -24,7 +24,7 @@ wide-requires : tie.Need-wide-requires
 wide-requires c κs = search needs
 
 count-requires : tie.Need-count-requires
-count-requires c κs = let s = c .before .before .before .before .before .before .before .before .before .before .before .before .before .before .before .before .before .before in (s .pre .refining .dim, omega (arith, c .wide .ensures, s .pre .refining .times))
+count-requires c κs = let s = c .before .before .before .before .before .before .before .before .before .before .before .before .before .before .before .before .before .before in (s .pre .refining .dim, omega (arith, c .wide .ensures, s .pre .refining .most))
 
 add-colex : tie.Need-add-colex
 add-colex c = search needs
