@@ -1,3 +1,3 @@
 -- What the contracts of `line` cite.
 pub mod Grammar
-pub mod Parts
+pub mod WorkParts

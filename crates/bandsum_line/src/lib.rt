@@ -6,7 +6,7 @@ ghost use mathlib.Core.Path.{_≡_};
 ghost use Prim.Native.Nat.{ℕ, _<_, _^_};
 ghost use lib.ListN.{drop};
 ghost use Rattle.bandsum_line.specs.Grammar.{isDigit, isAxisDigit, lineEnds, digitsFrom, countFrom, setFrom, glueFrom, gluedFrom, axisFrom, axisAt, gridFrom, readLine};
-ghost use Rattle.bandsum_line.specs.Parts.{begins, numberReadOf, setOf, gluingOf, axisReadOf, gridReadOf};
+ghost use Rattle.bandsum_line.specs.WorkParts.{begins, numberReadOf, setOf, gluingOf, axisReadOf, gridReadOf};
 use grid_sides::Sides;
 use quotient::Axis;
 use quotient::Glue;

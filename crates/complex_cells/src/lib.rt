@@ -1,5 +1,5 @@
 // The cells of a checked word list.
-ghost use Rattle.complex_cells.specs.Made.{Making, Made};
+ghost use Rattle.complex_cells.specs.WorkMade.{Making, Made};
 
 // Writes the cells, one after the other, to `rows`, and says how many there are.
 pub fn cells(

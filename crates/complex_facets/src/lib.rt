@@ -6,7 +6,7 @@ ghost use lib.ListN.{length, drop};
 ghost use Rattle.lists.specs.Rows.{cut};
 ghost use Rattle.complex.specs.Facets.{slots};
 ghost use Rattle.complex_mates.specs.Table.{Meeting};
-ghost use Rattle.complex_facets.specs.Classes.{Seconds, Seeking, Classes, loneRows};
+ghost use Rattle.complex_facets.specs.WorkClasses.{Seconds, Seeking, Classes, loneRows};
 ghost use Rattle.complex_facets.specs.Sides.{cellOf, placeOf, fours, Tabling};
 
 // No row: a facet in one cell has no second row.

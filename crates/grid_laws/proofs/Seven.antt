@@ -25,7 +25,7 @@ use Rattle.quotient.specs.Chain.{Untangled}
 use Rattle.quotient.proofs.Taken.{taken-low}
 use Rattle.quotient.proofs.Radix.{number-same}
 use Rattle.grid_words.specs.Cells.{boxAt, flatWords}
-use Rattle.grid_words.specs.Numbered.{eachBox, cellNo, cornerOf}
+use Rattle.grid_words.specs.WorkNumbered.{eachBox, cellNo, cornerOf}
 use Rattle.grid_words.proofs.Corners.{dim, box-lt}
 use Rattle.grid_words.proofs.Listed.{cell-length, cell-before}
 use Rattle.grid_mesh.specs.Words.{gluedCells}

@@ -24,7 +24,7 @@ use Rattle.quotient.specs.Points.{pointOf}
 use Rattle.quotient.proofs.Taken.{taken-low}
 use Rattle.quotient.proofs.Radix.{number-same}
 use Rattle.grid_words.specs.Cells.{boxesOf, boxAt}
-use Rattle.grid_words.specs.Numbered.{eachBox, cellNo, cornerOf}
+use Rattle.grid_words.specs.WorkNumbered.{eachBox, cellNo, cornerOf}
 use Rattle.grid_words.proofs.Corners.{dim, box-lt, some-order, orders-factorial, turn-lt, corner-point}
 use Rattle.grid_words.proofs.Listed.{cell-length, cell-rising, cell-before}
 use Rattle.grid_mesh.specs.Words.{gluedCells}

@@ -29,7 +29,7 @@ use Rattle.quotient.specs.declared.Grid.{Grid}
 use Rattle.quotient.specs.Shape.{checkOf, cellCount}
 use Rattle.quotient.specs.Reduce.{vertexOf}
 use Rattle.grid_words.specs.Cells.{wordsOf, flatWords}
-use Rattle.grid_words.specs.Numbered.{cellNo, cornerOf}
+use Rattle.grid_words.specs.WorkNumbered.{cellNo, cornerOf}
 use Rattle.grid_words.proofs.Corners.{corners-apart}
 use Rattle.grid_words.proofs.Flat.{to-tab, of-tab}
 use Rattle.grid_words.proofs.Listed.{words-tab, word-length}

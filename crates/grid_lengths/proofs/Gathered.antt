@@ -30,7 +30,7 @@ use Rattle.quotient.specs.Shape.{checkOf, cellCount}
 use Rattle.quotient.specs.Reduce.{vertexOf}
 use Rattle.quotient.proofs.Taken.{taken-low}
 use Rattle.grid_words.specs.Cells.{flatWords}
-use Rattle.grid_words.specs.Numbered.{cornerOf}
+use Rattle.grid_words.specs.WorkNumbered.{cornerOf}
 use Rattle.grid_words.proofs.Corners.{dim}
 use Rattle.grid_words.proofs.Listed.{words-long}
 use Rattle.grid_words.proofs.Good.{word-at, words-pass}

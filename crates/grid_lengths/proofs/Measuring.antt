@@ -22,7 +22,7 @@ use Rattle.quotient.specs.declared.Grid.{Grid}
 use Rattle.quotient.specs.Shape.{axisOf, cellsOn, checkOf, cellCount}
 use Rattle.quotient.specs.Reduce.{coordAt, vertexOf}
 use Rattle.quotient.proofs.Taken.{taken-low, taken-cells}
-use Rattle.grid_words.specs.Numbered.{cellNo, cornerOf}
+use Rattle.grid_words.specs.WorkNumbered.{cellNo, cornerOf}
 use Rattle.grid_words.proofs.Corners.{dim, corner-lt, points-few}
 use Rattle.grid_words.proofs.Listed.{listed}
 use Rattle.grid_lengths.specs.Edges.{firstEnd, secondEnd, edgesEach, visitsOf, cornerAt, fromAt, toAt, spacingsOf, stepsOf, squareAt, sameEnds, visitsEdge}

@@ -26,7 +26,7 @@ use Rattle.sorting.specs.Gather.{rowsOf}
 use Rattle.complex.specs.Check.{Passed}
 use Rattle.complex.specs.Room.{keyRoom}
 use Rattle.complex.specs.Facets.{Crowded, Cells, slots}
-use Rattle.complex_cells.specs.Made.{Made}
+use Rattle.complex_cells.specs.WorkMade.{Made}
 use Rattle.complex_cells.proofs.Making.{few-corners, words-table, made}
 use Rattle.complex_mates.specs.Table.{none, MateTable, Meeting}
 use Rattle.complex_mates.proofs.Meeting.{slots-most}

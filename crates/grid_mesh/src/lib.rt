@@ -8,7 +8,7 @@
 ghost use mathlib.Core.Path.{_≡_};
 ghost use Rattle.refusal.specs.declared.Answer.the-variants.{Fine};
 ghost use Rattle.lists.specs.Zero.{AllZero};
-ghost use Rattle.complex_cells.specs.Made.{Made};
+ghost use Rattle.complex_cells.specs.WorkMade.{Made};
 ghost use Rattle.quotient.specs.Shape.{checkOf};
 ghost use Rattle.grid_words.specs.Cells.{flatWords};
 ghost use Rattle.grid_mesh.specs.Words.{gridNeed, CellWords};

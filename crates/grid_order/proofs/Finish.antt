@@ -19,7 +19,7 @@ use Rattle.sorting.proofs.Rows.{rowsOf-pos, pos-room}
 use Rattle.complex.specs.Cells as Complex
 use Rattle.complex.specs.Facets.{Cells, Crowded, cellAt}
 use Rattle.complex_mates.specs.Table.{none, MateTable, Meeting}
-use Rattle.complex_cells.specs.Made.{Made}
+use Rattle.complex_cells.specs.WorkMade.{Made}
 use Rattle.complex_cells.proofs.Words.{In, in-at}
 use Rattle.complex_cells.proofs.Order.{order-from}
 use Rattle.complex_mates.proofs.Meeting.{slots-most}
@@ -33,7 +33,7 @@ use Rattle.grid_words.proofs.Corners.{dim}
 use Rattle.grid_mesh.specs.Words.{gluedCells, cornersOf}
 use Rattle.grid_mesh.proofs.Steps.{meeting, corners-few}
 use Rattle.ordering.specs.Order.{wordOf}
-use Rattle.ordering.specs.Agree.{Agreeing}
+use Rattle.ordering.specs.WorkAgree.{Agreeing}
 use Rattle.ordering.proofs.Lists.{cut-front, front-at}
 use Rattle.ordering.proofs.Steps.{need-bound}
 use Rattle.ordering.proofs.Orders.{word-found, by-cell-at, by-cell-rows}

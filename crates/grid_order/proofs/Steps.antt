@@ -32,7 +32,7 @@ use Rattle.grid_words.proofs.Good.{words-count, words-pass}
 use Rattle.grid_mesh.specs.Words.{gluedCells, cornersOf}
 use Rattle.grid_mesh.proofs.Steps.{grid-made, corners-are, corners-few}
 use Rattle.ordering.specs.Order.{wordOf, without, AgreeOnFacets}
-use Rattle.ordering.specs.Agree.{rowWord, AgreesAt, Clash}
+use Rattle.ordering.specs.WorkAgree.{rowWord, AgreesAt, Clash}
 use Rattle.ordering.proofs.Orders.{word-first}
 use Rattle.grid_order.specs.declared.Triangulated.the-variants.{Ordered, Unordered, Refused}
 use Rattle.grid_order.specs.Promise.{nothing}

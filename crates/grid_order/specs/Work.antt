@@ -10,13 +10,13 @@ use Rattle.refusal.specs.Lent.{onto}
 use Rattle.sorting.specs.Gather.{row, rowsOf}
 use Rattle.complex.specs.Room.{keyRoom}
 use Rattle.complex.specs.Facets.{cellAt, slots}
-use Rattle.complex_cells.specs.Made.{Made}
+use Rattle.complex_cells.specs.WorkMade.{Made}
 use Rattle.quotient.specs.declared.Grid.{Grid}
 use Rattle.quotient.specs.Shape.{checkOf, cellCount}
 use Rattle.grid_words.specs.Cells.{flatWords}
 use Rattle.grid_mesh.specs.Words.{gluedCells, cornersOf}
 use Rattle.ordering.specs.Order.{wordOf}
-use Rattle.ordering.specs.Agree.{AgreesAt, Clash}
+use Rattle.ordering.specs.WorkAgree.{AgreesAt, Clash}
 use Rattle.grid_order.specs.declared.Triangulated.{Triangulated}
 use Rattle.grid_order.specs.declared.Triangulated.the-variants.{Ordered, Unordered, Refused}
 use Rattle.grid_order.specs.Promise.{ownWords, Handed, nothing, Ends}

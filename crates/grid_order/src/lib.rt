@@ -13,7 +13,7 @@ ghost use Rattle.lists.specs.Zero.{AllZero};
 ghost use Rattle.quotient.specs.Shape.{checkOf};
 ghost use Rattle.grid_order.specs.Promise.{orderRoom, TriangulateOrdered};
 ghost use Rattle.grid_order.specs.Work.{Finding, Found, Laying, Laid, Decided, Handing, HandedOut, Working, Worked};
-ghost use Rattle.ordering.specs.Agree.{Agreeing};
+ghost use Rattle.ordering.specs.WorkAgree.{Agreeing};
 use quotient::Grid;
 use refusal::Answer;
 use refusal::CROWDED_FACET;

@@ -26,7 +26,7 @@ use Rattle.quotient.proofs.Taken.{taken-low, taken-high, taken-cells, enough}
 use Rattle.quotient.proofs.Radix.{number-same, number-lt, point-lt, coord-of-point}
 use Rattle.quotient.proofs.Boxes.{corners, box-one}
 use Rattle.grid_words.specs.Cells.{boxesOf, boxAt, stepAlong, met}
-use Rattle.grid_words.specs.Numbered.{strideOf, eachBox, orderAt, cellNo, cornerOf}
+use Rattle.grid_words.specs.WorkNumbered.{strideOf, eachBox, orderAt, cellNo, cornerOf}
 
 -- ---- one step along an axis
 step-before : (f c : ℕ → ℕ) (a k : ℕ) → k ≤ a → fromDigits f (stepAlong a c) k ≡ fromDigits f c k

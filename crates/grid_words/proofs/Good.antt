@@ -33,7 +33,7 @@ use Rattle.quotient.proofs.Radix.{number-lt, number-same, number-one, number-di
 use Rattle.quotient.proofs.Onto.{vertex-lt}
 use Rattle.quotient.proofs.Boxes.{every-corner}
 use Rattle.grid_words.specs.Cells.{boxesOf, boxAt, flatWords}
-use Rattle.grid_words.specs.Numbered.{eachBox, orderAt, cellNo, cornerOf}
+use Rattle.grid_words.specs.WorkNumbered.{eachBox, orderAt, cellNo, cornerOf}
 use Rattle.grid_words.proofs.Corners.{timesIn, dim, some-cell, some-order, orders-factorial, order-long, box-lt, at, corner-point, corner-lt, corners-apart}
 use Rattle.grid_words.proofs.Listed.{words-long, words-at}
 

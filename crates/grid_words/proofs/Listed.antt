@@ -31,7 +31,7 @@ use Rattle.quotient.specs.Points.{fromDigits, pointsOf, pointOf}
 use Rattle.quotient.proofs.Laws.{lt-or-ge, lt-or-eq, place, product-pos}
 use Rattle.quotient.proofs.Radix.{number-lt, number-same, number-digits}
 use Rattle.grid_words.specs.Cells.{boxesOf, boxAt, stepAlong, met, chains, gridCells, wordsOf, flatWords}
-use Rattle.grid_words.specs.Numbered.{strideOf, eachBox, orderAt, cellNo, cornerOf}
+use Rattle.grid_words.specs.WorkNumbered.{strideOf, eachBox, orderAt, cellNo, cornerOf}
 use Rattle.grid_words.proofs.Corners.{timesIn, step-after, met-length, dim, some-cell, some-order, box-lt, order-long, order-below, order-once, orders-factorial, turn-lt, at, corner-point, corner-rises}
 use Rattle.grid_words.proofs.Inside.{plain, inside-before}
 use Rattle.grid_words.proofs.Flat.{flat-tab, to-gather, of-gather, to-map, of-map, to-tab, of-tab}

@@ -11,7 +11,7 @@ ghost use Rattle.quotient.specs.Fold.{product};
 ghost use Rattle.quotient.specs.Shape.{cellsOn, pointsOn, checkOf, cellCount};
 ghost use Rattle.quotient.specs.Points.{pointOf};
 ghost use Rattle.grid_words.specs.Cells.{boxAt, flatWords};
-ghost use Rattle.grid_words.specs.Numbered.{strideOf, cornerOf};
+ghost use Rattle.grid_words.specs.WorkNumbered.{strideOf, cornerOf};
 use multiindex::permutation;
 use quotient::Grid;
 

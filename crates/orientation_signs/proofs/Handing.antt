@@ -9,7 +9,7 @@ use lib.IntN.{ℤ}
 use mir.Val.{toZ, ofZ}
 use mir.Syntax.{w32}
 use lib.ListN.{length, getD, take, drop, set, drop-of-length-le}
-use Rattle.orientation_signs.specs.Found.{markNumber, handedOut}
+use Rattle.orientation_signs.specs.WorkFound.{markNumber, handedOut}
 
 hand-suc : (marks : List ℕ) (signs : List ℤ) (i : ℕ) → i < length marks → i < length signs → set (handedOut (take i marks) ++ drop i signs) i (markNumber (getD marks i 0)) ≡ handedOut (take (suc i) marks) ++ drop (suc i) signs
 hand-suc [] signs i h k = absurd (omega arith)

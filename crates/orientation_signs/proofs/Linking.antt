@@ -13,14 +13,14 @@ use Rattle.complex.specs.Facets.{FacetOf, Mates, Crowded, slots}
 use Rattle.complex_mates.specs.Table.{none, Meet, MateTable, Across, Crossing}
 use Rattle.complex_mates.proofs.Laws.{row-cell-below, row-slot-below, row-is, slots-some}
 use Rattle.complex_mates.proofs.Meeting.{slots-most, slots-dim}
-use Rattle.orientation_walk.specs.Signs as walk
-use Rattle.orientation_walk.specs.Signs.{turned, Link}
-use Rattle.orientation_walk.specs.Signs.Way.{here, on}
-use Rattle.orientation_walk.specs.Steps as steps
+use Rattle.orientation_walk.specs.WorkSigns as walk
+use Rattle.orientation_walk.specs.WorkSigns.{turned, Link}
+use Rattle.orientation_walk.specs.WorkSigns.Way.{here, on}
+use Rattle.orientation_walk.specs.WorkSteps as steps
 use Rattle.multiindex.specs.Sign.{Sign, plus, minus, opposite, times, induced}
 use Rattle.orientation_signs.specs.Signs.{Coherent, Joined, Lowest, Oriented}
 use Rattle.orientation_signs.specs.Signs.Joined.{here as start, across}
-use Rattle.orientation_signs.specs.Found.{signOf, Finding, Found}
+use Rattle.orientation_signs.specs.WorkFound.{signOf, Finding, Found}
 use Rattle.orientation_signs.proofs.Unique.{double, cancel, forced}
 
 -- ---- signs and the walk's numbers

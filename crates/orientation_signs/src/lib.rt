@@ -5,7 +5,7 @@ ghost use mathlib.Core.List.{List};
 ghost use Prim.Native.Nat.{ℕ, suc, _+_, _*_, _<_, _≤_};
 ghost use lib.ListN.{length, getD, take};
 ghost use Rattle.complex_mates.specs.Table.{MateTable};
-ghost use Rattle.orientation_signs.specs.Found.{Finding, Found, markNumber, handedOut};
+ghost use Rattle.orientation_signs.specs.WorkFound.{Finding, Found, markNumber, handedOut};
 
 // Finds coherent signs for m cells from their table of mates, which stands in `rows`: 1 for + and 2 for -, in `counts`. False where there are none.
 pub fn coherent(

@@ -11,12 +11,12 @@ use lib.ListN.{length, getD, set, length-set, length-append, length-replicate, r
 use mir.Syntax.{w64}
 use mir.Val.{Fits}
 use lib.Seq.{getD-set-same, getD-set-other}
-use Rattle.orientation_walk.specs.Signs.{turned, Sign, Link, Table, CoherentMarks, Way, Lowest, OrientedMarks}
-use Rattle.orientation_walk.specs.Signs.Way.{here, on}
-use Rattle.orientation_walk.specs.Steps.{blank, zeros, Fit, Look, Clash, Slots, Stuck, Drain, Broken, Pieces, Refused, Ready, Looked, Taking, Draining, Starting, Walking, Spread, wiped, Looks, Answer}
-use Rattle.orientation_walk.specs.Steps.Look.{edge, fresh, fits}
-use Rattle.orientation_walk.specs.Steps.Slots.{none-yet, one-more}
-use Rattle.orientation_walk.specs.Steps.Pieces.{signed, begun}
+use Rattle.orientation_walk.specs.WorkSigns.{turned, Sign, Link, Table, CoherentMarks, Way, Lowest, OrientedMarks}
+use Rattle.orientation_walk.specs.WorkSigns.Way.{here, on}
+use Rattle.orientation_walk.specs.WorkSteps.{blank, zeros, Fit, Look, Clash, Slots, Stuck, Drain, Broken, Pieces, Refused, Ready, Looked, Taking, Draining, Starting, Walking, Spread, wiped, Looks, Answer}
+use Rattle.orientation_walk.specs.WorkSteps.Look.{edge, fresh, fits}
+use Rattle.orientation_walk.specs.WorkSteps.Slots.{none-yet, one-more}
+use Rattle.orientation_walk.specs.WorkSteps.Pieces.{signed, begun}
 use Rattle.orientation_walk.proofs.Lemmas.{turned-sign, Grows, grows-set, Moved, moved-look, moved-slots, or-set, or-top, at-top, below-top, at-j, slot-in, not-both, ready, zeros-all, Paused, Spent, taking-top, spent-drain, start-draining, start-sum, sign-plus, blank-pos, paused, spread-starting}
 use Rattle.orientation_walk.proofs.Ways.{way-sign, way-end, forced, same-sign, lowest-plus}
 

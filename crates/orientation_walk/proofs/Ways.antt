@@ -5,8 +5,8 @@ use mathlib.Core.List.{List}
 use native.Mathlib.Omega.{arith}
 use native.Mathlib.Decide.{ℕ-discrete, decLt}
 use lib.ListN.{length, getD}
-use Rattle.orientation_walk.specs.Signs.{turned, Sign, Link, Table, CoherentMarks, Way, Lowest, OrientedMarks}
-use Rattle.orientation_walk.specs.Signs.Way.{here, on}
+use Rattle.orientation_walk.specs.WorkSigns.{turned, Sign, Link, Table, CoherentMarks, Way, Lowest, OrientedMarks}
+use Rattle.orientation_walk.specs.WorkSigns.Way.{here, on}
 use Rattle.orientation_walk.proofs.Lemmas.{turned-sign}
 
 -- the sign s at a way's end, where x stands at its start, turns x by s - 1

@@ -21,7 +21,7 @@ use Rattle.multiindex.proofs.SortLaws.{AtLeast, Sorted, sort-sorted, sort-lengt
 use Rattle.complex.specs.Check.{Passed}
 use Rattle.complex.specs.Cells.{cellsOf}
 use Rattle.complex.specs.Facets.{cellAt}
-use Rattle.complex_cells.specs.Made.{Made}
+use Rattle.complex_cells.specs.WorkMade.{Made}
 use Rattle.complex_cells.proofs.Words.{Word, In, in-at, at-in}
 use Rattle.complex_cells.proofs.Order.{order-from}
 use Rattle.complex_cells.proofs.Strict.{sort-all}
@@ -32,7 +32,7 @@ use Rattle.ordering.specs.Order.{wordOf, byCell, IsOrder}
 use Rattle.ordering.proofs.Lists.{cut-front, sort-back}
 use Rattle.ordering.proofs.Orders.{by-cell-at, by-cell-length}
 use Rattle.refine_results.specs.Refined.{coarse}
-use Rattle.refine_results.specs.Flat.{Along}
+use Rattle.refine_results.specs.WorkFlat.{Along}
 
 -- ---- a word and the word sorted
 -- as often in one as in the other

@@ -22,7 +22,7 @@ use refusal::TOO_SHORT;
 ghost use Rattle.complex.specs.Cells.{cellsOf};
 ghost use Rattle.ordering.specs.Order.{Orders};
 ghost use Rattle.refine_results.specs.Refined.{orderWords};
-ghost use Rattle.refine.specs.Reading.{OrderedBy, wordsBy};
+ghost use Rattle.refine.specs.WorkReading.{OrderedBy, wordsBy};
 ghost use Rattle.refine.specs.Promise.{Refining};
 ghost use Rattle.refine.specs.Work.{Working, Worked, AllTen};
 

@@ -5,8 +5,8 @@ ghost use mathlib.Core.Path.{_≡_};
 ghost use Prim.Native.Nat.{ℕ, suc, _*_, _/_, _≤_, _<_};
 ghost use lib.ListN.{length, getD};
 ghost use Rattle.multiindex.specs.Permutation.{tab};
-ghost use Rattle.refine_children.specs.Colex.{Arranging, Arranged};
-ghost use Rattle.refine_children.specs.Family.{joined, wholeAt, floatAt, Family, Families};
+ghost use Rattle.refine_children.specs.WorkColex.{Arranging, Arranged};
+ghost use Rattle.refine_children.specs.WorkFamily.{joined, wholeAt, floatAt, Family, Families};
 
 fn wide(x: u32) -> usize
     ensures { λ r. ⌜ r ≡ x ⌝ }

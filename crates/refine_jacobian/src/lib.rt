@@ -7,7 +7,7 @@ ghost use mathlib.Core.List.{map};
 ghost use Prim.Native.Nat.{suc, _*_, _/_, _%_, _<_, _≤_};
 ghost use lib.ListN.{length, getD};
 ghost use Rattle.refine_jacobian.specs.Entries.{shareOf, wholeOf, floatOf};
-ghost use Rattle.refine_jacobian.specs.Weights.{placeOf, weightOf, Seated};
+ghost use Rattle.refine_jacobian.specs.WorkWeights.{placeOf, weightOf, Seated};
 
 // Weight w over R as a float.
 fn share(r: u32, w: u32) -> f64

@@ -25,7 +25,7 @@ use Rattle.refine_lattice.specs.Pattern.{patternOf}
 use Rattle.refine_lattice.proofs.Enumerate.{of-digits}
 use Rattle.refine_lattice.proofs.Count.{length-gather, length-digits}
 use Rattle.refine_lattice.proofs.Pattern.{gather-at, flat-count}
-use Rattle.refine_pattern.specs.Chains.{chainAt, keeps, weighed, given, stepOf, Ready, Stands, Steps}
+use Rattle.refine_pattern.specs.WorkChains.{chainAt, keeps, weighed, given, stepOf, Ready, Stands, Steps}
 use Rattle.refine_pattern.specs.declared.Cursor.{Cursor}
 use Rattle.refine_pattern.proofs.Chains.{mem-getD}
 use Rattle.refine_pattern.proofs.Written.{Written, written-none, written-length, written-room, written-tail, written-end}

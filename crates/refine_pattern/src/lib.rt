@@ -14,7 +14,7 @@ ghost use Rattle.lists.specs.Rows.{flat};
 ghost use Rattle.refine_lattice.specs.Lattice.{weights};
 ghost use Rattle.refine_lattice.specs.Children.{qualifies};
 ghost use Rattle.refine_lattice.specs.Pattern.{patternOf};
-ghost use Rattle.refine_pattern.specs.Chains.{chainAt, keeps, weighed, given, stepOf, Stands, Steps, Kept, Fits, Ready};
+ghost use Rattle.refine_pattern.specs.WorkChains.{chainAt, keeps, weighed, given, stepOf, Stands, Steps, Kept, Fits, Ready};
 use multiindex::cartesian;
 use multiindex::permutation;
 use refusal::MOST_DIMENSION;

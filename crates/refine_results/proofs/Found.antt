@@ -19,15 +19,15 @@ use Rattle.refine_lattice.specs.Refine.{births, vertices, words}
 use Rattle.refine_lattice.proofs.Enumerate.{times-at}
 use Rattle.refine_lattice.proofs.Pattern.{flat-count}
 use Rattle.refine_lattice.proofs.Refines.{mem-at, words-below}
-use Rattle.refine_pattern.specs.Chains as chains
+use Rattle.refine_pattern.specs.WorkChains as chains
 use Rattle.refine_births.specs.Promise.{Resolving, Resolved}
 use Rattle.refine_births.proofs.Complex.{words-cut, words-many, vertices-many}
 use Rattle.refine_results.specs.declared.Refinement.{Refinement}
 use Rattle.refine_results.specs.declared.Refinement.the-variants.{Made, Refused}
-use Rattle.refine_results.specs.Flat.{Refining}
+use Rattle.refine_results.specs.WorkFlat.{Refining}
 use Rattle.refine_results.specs.Results.{Inside}
-use Rattle.refine_results.specs.Stage.{Spacious, Ready}
-use Rattle.refine_results.specs.Steps.{Seeking, Found, Sought, many-vertices, found, Finishing}
+use Rattle.refine_results.specs.WorkStage.{Spacious, Ready}
+use Rattle.refine_results.specs.WorkSteps.{Seeking, Found, Sought, many-vertices, found, Finishing}
 use Rattle.refine_results.proofs.Seats.{ks-long, ks-low}
 
 -- the product of m cells and R^d children is a small number

@@ -39,9 +39,9 @@ use Rattle.refine_lattice.specs.Jacobian.{jacobian}
 use Rattle.refine_lattice.proofs.Tab.{tab-ext}
 use Rattle.refine_jacobian.specs.Entries.{nineOf, wholeOf, floatOf, floatStep, nought}
 use Rattle.refine_jacobian.proofs.Laws.{column-in, row-in, entry-past}
-use Rattle.refine_jacobian.specs.Weights.{placeOf, weightOf, Seated}
-use Rattle.refine_children.specs.Family.{weightsAt, wholeAt, floatAt, Family}
-use Rattle.refine_results.specs.Flat.{Along, Refining}
+use Rattle.refine_jacobian.specs.WorkWeights.{placeOf, weightOf, Seated}
+use Rattle.refine_children.specs.WorkFamily.{weightsAt, wholeAt, floatAt, Family}
+use Rattle.refine_results.specs.WorkFlat.{Along, Refining}
 
 -- ---- places
 found-lt : (b : Bool) (n k : ℕ) → (b ≡ false → k < n) → foundAt b k < suc n

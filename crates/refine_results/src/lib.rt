@@ -28,8 +28,8 @@ ghost use Prim.Native.Nat.{ℕ, suc, _≤_};
 ghost use lib.ListN.{length};
 ghost use Rattle.refusal.specs.Limits.{mostDimension, mostCells, mostVertices};
 ghost use Rattle.refine_births.specs.Promise.{Supports};
-ghost use Rattle.refine_results.specs.Stage.{Ready, Handed};
-ghost use Rattle.refine_results.specs.Steps.{Tested, Seeking, Sought, lent, Fits, Writing, Wrote, Bears, Bore, Finishing};
+ghost use Rattle.refine_results.specs.WorkStage.{Ready, Handed};
+ghost use Rattle.refine_results.specs.WorkSteps.{Tested, Seeking, Sought, lent, Fits, Writing, Wrote, Bears, Bore, Finishing};
 
 // What a refinement says: how many children and how many vertices there are, or its refusal.
 pub enum Refinement {

@@ -21,7 +21,7 @@ ghost use Rattle.sorting.specs.Gather.{rowsOf};
 ghost use Rattle.complex.specs.Room.{needOf};
 ghost use Rattle.complex.specs.Cells.{cellsOf};
 ghost use Rattle.complex.specs.Skeleton.{edgesOf, facetsOf, borderOf};
-ghost use Rattle.complex_cells.specs.Named.{Naming};
+ghost use Rattle.complex_cells.specs.WorkNamed.{Naming};
 ghost use Rattle.skeleton.specs.Promise.{Listed, FacetsListed};
 ghost use Rattle.skeleton.specs.Parts.{edgeNeed, needFor, wordsFor};
 ghost use Rattle.skeleton.specs.Work.{Working, Uncrowded, Sound, Handed, Worked, HandedBoth, WorkedBoth};

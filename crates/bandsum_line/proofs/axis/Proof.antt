@@ -4,7 +4,7 @@ use borrow.Author.Tests.{not-true, not-false}
 use native.Mathlib.Omega.{arith}
 use mathlib.Core.Path.{sym, ap, _∙_}
 use Rattle.bandsum_line.proofs.Front.{begins-lt, axis-not, axis-some, axis-none}
-use Rattle.bandsum_line.specs.Parts.{numberReadOf}
+use Rattle.bandsum_line.specs.WorkParts.{numberReadOf}
 use Rattle.bandsum_line.proofs.axis.Statement.{statement}
 use Rattle.bandsum_line.proofs.axis.Tie as tie
 

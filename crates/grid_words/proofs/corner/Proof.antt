@@ -9,7 +9,7 @@ use Rattle.quotient.specs.declared.Axis.{Axis}
 use Rattle.quotient.specs.Fold.{product}
 use Rattle.quotient.specs.Shape.{cellsOn, pointsOn}
 use native.Mathlib.Nat.{mod-lt}
-use Rattle.grid_words.specs.Numbered.{cornerOf}
+use Rattle.grid_words.specs.WorkNumbered.{cornerOf}
 use Rattle.grid_words.proofs.Corners.{dim, some-turn, turn-below, corner-zero, corner-axis, corner-turn}
 use Rattle.grid_words.proofs.corner.Statement.{statement}
 use Rattle.grid_words.proofs.corner.Tie as tie

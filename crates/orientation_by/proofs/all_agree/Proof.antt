@@ -6,7 +6,7 @@ use native.Mathlib.Omega.{arith}
 use borrow.Author.Needs.{needs}
 use lib.ListN.{length, getD, take, drop, set, replicate, length-set}
 use borrow.Author.Count.{below-more}
-use Rattle.orientation_by.specs.Test.{AgreesAt}
+use Rattle.orientation_by.specs.WorkTest.{AgreesAt}
 use Rattle.orientation_by.proofs.all_agree.Statement.{statement}
 use Rattle.orientation_by.proofs.all_agree.Tie as tie
 use Rattle.orientation_by.proofs.all_agree.Reads as reads

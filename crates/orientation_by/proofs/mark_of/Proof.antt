@@ -5,7 +5,7 @@ use Prim.Native.Nat.{ℕ, zero, suc, _+_, _*_, _-_, _/_, _%_, _≤_, _<_}
 use native.Mathlib.Omega.{arith}
 use borrow.Author.Needs.{needs}
 use lib.ListN.{length, getD, take, drop, set, replicate, length-set}
-use Rattle.orientation_by.specs.Test.{markOf}
+use Rattle.orientation_by.specs.WorkTest.{markOf}
 use Rattle.orientation_by.proofs.Marks.{plus-mark, minus-mark, other-mark}
 use Rattle.orientation_by.proofs.mark_of.Statement.{statement}
 use Rattle.orientation_by.proofs.mark_of.Tie as tie

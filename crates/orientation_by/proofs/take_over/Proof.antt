@@ -8,7 +8,7 @@ use lib.ListN.{length, getD, take, drop, set, replicate, length-set}
 use lib.IntN.{pos}
 use mir.Val.{toZ, ofZ}
 use mir.Syntax.{w32}
-use Rattle.orientation_by.specs.Test.{markOf}
+use Rattle.orientation_by.specs.WorkTest.{markOf}
 use Rattle.orientation_by.proofs.Marks.{Marked, marked-more, taken, unfit-length, unfit-at}
 use Rattle.orientation_by.proofs.take_over.Statement.{statement}
 use Rattle.orientation_by.proofs.take_over.Tie as tie

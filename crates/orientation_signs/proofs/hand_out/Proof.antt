@@ -3,7 +3,7 @@ use mir.Val.{toZ, ofZ}
 use mir.Syntax.{w32}
 use lib.IntN.{ℤ}
 use Rattle.orientation_signs.proofs.Handing.{stored}
-use Rattle.orientation_signs.specs.Found.{markNumber, handedOut}
+use Rattle.orientation_signs.specs.WorkFound.{markNumber, handedOut}
 use Rattle.orientation_signs.proofs.Handing.{hand-more, hand-done}
 use mathlib.Core.Path.{_≡_, refl, sym, ap, _∙_, subst}
 use mathlib.Core.List.{List, [], _∷_, _++_}

@@ -1,5 +1,5 @@
 -- `signs::sign_of` meets its contract. Assumes nothing.
-use Rattle.orientation_signs.specs.Found.{markNumber}
+use Rattle.orientation_signs.specs.WorkFound.{markNumber}
 use lib.IntN.{negsuc}
 use mathlib.Core.Path.{_≡_, refl, sym, ap, _∙_, subst}
 use mathlib.Core.List.{List, [], _∷_, _++_}

@@ -8,7 +8,7 @@ use borrow.Author.Needs.{needs}
 use lib.IntN.{ℤ}
 use lib.Ieee.{Float}
 use Rattle.refine_jacobian.specs.Entries.{wholeOf, floatOf}
-use Rattle.refine_jacobian.specs.Weights.{weightOf}
+use Rattle.refine_jacobian.specs.WorkWeights.{weightOf}
 use Rattle.refine_children.proofs.Laws.{at-parts, parts-seated}
 use Rattle.refine_children.proofs.child.Statement.{statement}
 use Rattle.refine_children.proofs.child.Tie as tie

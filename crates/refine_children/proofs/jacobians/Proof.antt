@@ -7,7 +7,7 @@ use lib.ListN.{length, getD, take, drop, set, length-set}
 use borrow.Author.Needs.{needs}
 use lib.IntN.{ℤ}
 use lib.Ieee.{Float}
-use Rattle.refine_children.specs.Family.{joined, wholeAt, floatAt, Family}
+use Rattle.refine_children.specs.WorkFamily.{joined, wholeAt, floatAt, Family}
 use Rattle.refine_children.proofs.Laws.{joined-more, joined-kept, joined-full, part-length}
 use Rattle.refine_children.proofs.jacobians.Statement.{statement}
 use Rattle.refine_children.proofs.jacobians.Tie as tie

@@ -4,7 +4,7 @@ use mathlib.Core.List.{List, [], _∷_, _++_, map}
 use Prim.Native.Nat.{ℕ, zero, suc, _+_, _*_, _-_, _/_, _%_, _≤_, _<_}
 use native.Mathlib.Omega.{arith}
 use lib.ListN.{length, getD, take, drop, set, length-set}
-use Rattle.refine_jacobian.specs.Weights.{placeOf}
+use Rattle.refine_jacobian.specs.WorkWeights.{placeOf}
 use Rattle.refine_jacobian.proofs.Laws.{corner-in}
 use borrow.Author.Needs.{needs}
 use Rattle.refine_jacobian.proofs.weight.Statement.{statement}

@@ -14,7 +14,7 @@ use mir.Syntax.{w32}
 use mir.Val.{toZ, ofZ}
 use Rattle.multiindex.specs.Permutation.{tab}
 use Rattle.refine_lattice.specs.Jacobian.{jacobian}
-use Rattle.refine_jacobian.specs.Weights.{weightOf}
+use Rattle.refine_jacobian.specs.WorkWeights.{weightOf}
 use Rattle.refine_jacobian.proofs.Laws.{tab-store, tab-full, entry-in, entry-past, one-fits, step-fits, step-stored}
 use Rattle.refine_jacobian.proofs.whole.Statement.{statement}
 use Rattle.refine_jacobian.proofs.whole.Tie as tie

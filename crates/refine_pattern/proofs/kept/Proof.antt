@@ -10,7 +10,7 @@ use lib.Seq.{length-take-le}
 use Rattle.multiindex.specs.Permutation.{orderOf}
 use Rattle.refine_lattice.specs.Lattice.{chain}
 use Rattle.refine_lattice.specs.Children.{qualifies}
-use Rattle.refine_pattern.specs.Chains.{keeps}
+use Rattle.refine_pattern.specs.WorkChains.{keeps}
 use Rattle.refine_pattern.proofs.Chains.{order-long, order-below, keeps-not, keeps-step, keeps-end, coordinate}
 use Rattle.refine_pattern.proofs.kept.Statement.{statement}
 use Rattle.refine_pattern.proofs.kept.Tie as tie

@@ -10,7 +10,7 @@ use lib.ListN.{length, take, drop, replicate}
 use Rattle.multiindex.proofs.Tables.{count-most, count-some}
 use Rattle.multiindex.proofs.Digits.{power-most}
 use Rattle.refine_lattice.specs.Children.{chains}
-use Rattle.refine_pattern.specs.Chains.{Steps, stepOf}
+use Rattle.refine_pattern.specs.WorkChains.{Steps, stepOf}
 use Rattle.refine_pattern.specs.declared.Cursor.{Cursor}
 use Rattle.refine_pattern.proofs.Filled.{Filled, filled-none, filled-long, filled-at, filled-stands, filled-room, filled-part, filled-steps, filled-next, filled-end, chains-length}
 use Rattle.refine_pattern.proofs.pattern.Statement.{statement}

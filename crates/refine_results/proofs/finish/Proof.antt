@@ -6,7 +6,7 @@ use native.Mathlib.Numerals.{add-one}
 use borrow.Author.Tests.{not-true, not-false}
 use Rattle.refine_births.specs.Promise.{Supports}
 use Rattle.refine_results.specs.Results.{lengthsOf}
-use Rattle.refine_results.specs.Steps.{Fits, Bears}
+use Rattle.refine_results.specs.WorkSteps.{Fits, Bears}
 use Rattle.refine_results.proofs.Handing.{arranged, arranging, few, handed-short, to-children, to-births, handed-made}
 use borrow.Author.Needs.{needs}
 use Rattle.refine_results.proofs.finish.Statement.{statement}

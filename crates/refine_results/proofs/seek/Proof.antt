@@ -5,7 +5,7 @@ use native.Mathlib.Omega.{arith}
 use native.Mathlib.Numerals.{add-one}
 use borrow.Author.Tests.{not-true, not-false}
 use Rattle.refusal.specs.Limits.{mostCells}
-use Rattle.refine_results.specs.Steps.{outside, many-cells}
+use Rattle.refine_results.specs.WorkSteps.{outside, many-cells}
 use Rattle.refine_results.proofs.Found.{children-fit, to-pattern, corners-fit, to-births, born-few, sought-many, sought-found}
 use borrow.Author.Needs.{needs}
 use Rattle.refine_results.proofs.seek.Statement.{statement}

@@ -7,7 +7,7 @@ use native.Mathlib.Omega.{arith}
 use borrow.Author.Needs.{needs}
 use lib.ListN.{length, getD, take, drop, set, replicate, length-set}
 use native.Mathlib.Nat.{add-sub-cancel-left}
-use Rattle.refine_births.specs.Visits.{visitAt, Visiting, Visited}
+use Rattle.refine_births.specs.WorkVisits.{visitAt, Visiting, Visited}
 use Rattle.refine_births.proofs.Visiting.{Turn, visit-turn, visit-supporting, visited-long, visited-more}
 use Rattle.refine_births.proofs.visits.write.Statement.{statement}
 use Rattle.refine_births.proofs.visits.write.Tie as tie

@@ -5,7 +5,7 @@ use mathlib.Core.Path.{_≡_}
 use mathlib.Core.List.{List, _++_}
 use lib.ListN.{length, getD, set, replicate, drop}
 use mathlib.Core.Bool.{Bool, true, false}
-use Rattle.orientation_walk.specs.Signs.{turned, Table, OrientedMarks, CoherentMarks}
+use Rattle.orientation_walk.specs.WorkSigns.{turned, Table, OrientedMarks, CoherentMarks}
 
 -- how many of g's first n entries are 0
 abbrev pub blank : ℕ → ℕ
