@@ -1,4 +1,5 @@
 // The line that the program reads: a dimension, then for each axis a count and how it is glued, then a line feed.
+// The port added it, with the program.
 //
 // Each part of the line has a function that begins at a position and says what it read and where it stopped, or that nothing of the kind stands there. Whatever the
 // bytes are, `read` answers: with the grid, or with 1 where the first digit is no grid's dimension, or with 17.

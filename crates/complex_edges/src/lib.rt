@@ -1,4 +1,5 @@
 // The edges of cells: each pair of vertices of a cell is a row, and the distinct rows in colex order are the edges.
+// Follows the 1-skeleton of `Complex::from_cells` and `Complex::edges` (crates/simplicial/src/topology/complex.rs).
 ghost use mathlib.Core.Path.{_≡_};
 ghost use Prim.Native.Nat.{ℕ, suc, _*_, _<_, min};
 ghost use Rattle.lists.specs.Rows.{cut};

@@ -1,4 +1,5 @@
 // The facets of cells, each with the one or two cells that it lies in.
+// Follows `Complex::facets` and `Complex::boundary_facets` (crates/simplicial/src/topology/complex.rs).
 ghost use mathlib.Core.List.{_++_};
 ghost use mathlib.Core.Path.{_≡_};
 ghost use Prim.Native.Nat.{ℕ, suc, _*_, _<_, _≤_};

@@ -1,4 +1,5 @@
 // From a grid to cells: its words in the order of the sorted grid cells, and its cells with the order that the words give.
+// Follows `FlatQuotient::cell_words` and `triangulate` (crates/regge/src/mesher/quotient.rs).
 //
 // What the working lists hold, one phase after the other:
 //   keys     sorted words     facet rows

@@ -1,5 +1,6 @@
 // From a grid to its cells with an order. A grid's own words are an order of its cells where no two of them sort to one cell; the order is handed out where, besides,
 // the words of two cells list every shared facet in one sequence.
+// Follows `FlatQuotient::triangulate_ordered` (crates/regge/src/mesher/quotient.rs).
 //
 // What the working lists hold, one phase after the other; the keys' last part begins where the facet rows end:
 //   keys, first part   sorted words     -                      facet rows

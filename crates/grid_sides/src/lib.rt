@@ -1,5 +1,6 @@
 // Sides of a grid, the counts of cells that follow from them, and squared lengths of edges: every operation on floats is rounded once, and the promises name the
 // operations in their order.
+// Follows `quasi_uniform_counts` (crates/regge/src/mesher.rs), and the sides and lengths of `FlatQuotient` (crates/regge/src/mesher/quotient.rs).
 ghost use mathlib.Core.Path.{_≡_};
 ghost use Prim.Native.Nat.{ℕ, suc, _+_, _*_, _<_, _≤_, _^_, min, max};
 ghost use lib.Ieee.{binary64};

@@ -1,5 +1,6 @@
 // From a grid to words. A box of the grid is cut into d! cells, one for each order of the axes: from the box's origin one step along each axis, in that order.
 // The corners of a cell are grid points; each is reduced to its vertex, and the cell's word is read off in the order in which its corners were met.
+// Follows `FlatQuotient::cell_words` (crates/regge/src/mesher/quotient.rs) and `CartesianTopology::cell_skeleton` (crates/simplicial/src/mesher/grid.rs).
 //
 // The cells are numbered in colex order of their grid points. Boxes come in the order of their numbers, axis 0 fastest, and inside a box the orders stand from the
 // last to the first, so a cell's number tells its box and its order, and nothing has to be sorted.

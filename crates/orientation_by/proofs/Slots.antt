@@ -1,4 +1,4 @@
--- The slots' test says what coherent signs of cells say: the walk's links are the cells' mates (signs/proofs/Linking). Assumes nothing.
+-- The slots' test says what coherent signs of cells say: the walk's links are the cells' mates (orientation_signs/proofs/Linking). Assumes nothing.
 use mathlib.Core.Bool.{Bool, true, false}
 use mathlib.Core.List.{List}
 use mathlib.Core.Path.{_≡_, refl, sym, ap, _∙_, subst}

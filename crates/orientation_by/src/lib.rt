@@ -1,4 +1,5 @@
 // A caller's own signs, one for each cell: are they coherent? Every facet of two cells is looked at, not only those that a walk would come through.
+// Follows `Complex::orient_by` (crates/simplicial/src/topology/orientation.rs).
 //
 // What the working lists hold, one phase after the other:
 //   keys     sorted words     facet rows     the cell across each slot

@@ -1,4 +1,5 @@
 // Coherent signs over a table of mates.
+// Follows `Complex::compute_orientation` (crates/simplicial/src/topology/orientation.rs): the signs that its walk asks across a facet.
 ghost use mathlib.Core.Bool.{true, false};
 ghost use mathlib.Core.Path.{_≡_};
 ghost use mathlib.Core.List.{List};

@@ -1,4 +1,5 @@
 // The walk that gives cells coherent signs, over a flat table of neighbours.
+// Follows the walk of `Complex::compute_orientation` (crates/simplicial/src/topology/orientation.rs).
 ghost use mathlib.Core.Path.{_≡_};
 ghost use Prim.Native.Nat.{ℕ, _+_, _-_, _*_, _<_, _≤_};
 ghost use lib.ListN.{length, getD, set};

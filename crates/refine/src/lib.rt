@@ -1,4 +1,5 @@
 // The public calls of refinement: every cell of a complex is refined by R, along its sorted vertices or along a caller's word for it.
+// Follows `Complex::refine` and `refine_with` (crates/simplicial/src/topology/refine.rs).
 //
 // What the working lists hold, one phase after the other:
 //   cells    -                the coarse cells

@@ -1,4 +1,5 @@
 // The children of a refined complex in the colex order of their cells: which child comes first for each cell, its parent, and its Jacobian.
+// Follows the last part of `Complex::refine_with`, which brings the children into colex order (crates/simplicial/src/topology/refine.rs).
 //
 // The children's words stand in visiting order, parent after parent, `size` of them for each parent. The functions here are for the crate above, which checks before it calls them.
 ghost use mathlib.Core.Path.{_≡_};

@@ -1,4 +1,4 @@
--- An accepted cell list is a complex that lattice's theorems take, along its sorted cells or along an order that agrees. Assumes nothing.
+-- An accepted cell list is a complex that refine_lattice's theorems take, along its sorted cells or along an order that agrees. Assumes nothing.
 use mathlib.Core.Path.{_≡_, refl, sym, ap, _∙_, subst}
 use mathlib.Core.Logic.{_⊎_, inl, inr, ⊎-elim}
 use mathlib.Core.List.{List, [], _∷_, _++_, List·Memᴰ, List·Memᴰ·head, List·Memᴰ·tail, List·Memᴰ·not-nil, List·Memᴰ·cases-cons}
@@ -168,7 +168,7 @@ module _ (d : ℕ) (ws : List ℕ) (p : Passed d ws) where
       thin = listed-thin d (coarse ws) (cellsOf d ws) ks l free;
     }
 
-    -- a complex that lattice's theorems take
+    -- a complex that refine_lattice's theorems take
     pub stage-of : (Crowded d (cellsOf d ws) → ⊥) → order.AgreeOnFacets d (cellsOf d ws) ks → Stage d (coarse ws) ks
     unfolding Facewise
     stage-of free agree = record {

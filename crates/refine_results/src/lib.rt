@@ -1,4 +1,5 @@
 // Edgewise refinement of a whole complex.
+// Follows `Complex::refine_with` and the lists of `Subdivision` (crates/simplicial/src/topology/refine.rs).
 //
 // Every cell is refined by one pattern, read along a word of its vertices. A point of the pattern is known by its support, the vertices with a positive weight and their weights,
 // so that cells with a common facet have the points of the facet in common. Definitions are in specs/.

@@ -1,5 +1,6 @@
 // One child, one word refined by, one birth, each by its number: values read from the lists that a refinement hands out. A caller lends the parts that were handed out, so
 // that a number past the last one is past the lists.
+// Follows `Child`, `VertexBirth` (crates/simplicial/src/topology/refine.rs) and `CellOrdering::word` (crates/simplicial/src/topology/ordering.rs).
 use refine_births::NONE;
 use refusal::Answer;
 use refusal::BAD_DIMENSION;

@@ -1,4 +1,5 @@
 // The cells, the edges and the border of a cell list, and its facets with the cells that they lie in: each a list in colex order without repeats.
+// Follows `Complex::cells`, `edges`, `boundary_facets` and `facets` (crates/simplicial/src/topology/complex.rs).
 //
 // What the working lists hold, one phase after the other:
 //   keys     sorted words     facet rows                pairs, or facet rows

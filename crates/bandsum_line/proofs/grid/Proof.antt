@@ -1,4 +1,4 @@
--- `line::grid` meets its contract. Assumes nothing.
+-- `bandsum_line::grid` meets its contract. Assumes nothing.
 use borrow.Author.Needs.{needs}
 use mathlib.Core.Path.{sym, ap, _∙_}
 use Rattle.bandsum_line.proofs.Front.{grid-no-first, grid-no-second, grid-no-third, grid-whole}

@@ -1,4 +1,4 @@
--- `gridwords::corner` meets its contract. The invariant: v is corner i. Assumes nothing.
+-- `grid_words::corner` meets its contract. The invariant: v is corner i. Assumes nothing.
 use mathlib.Core.Path.{_≡_, refl, sym, ap, _∙_, subst}
 use mathlib.Core.List.{List, [], _∷_, _++_}
 use Prim.Native.Nat.{ℕ, zero, suc, _+_, _*_, _-_, _/_, _%_, _^_, _≤_, _<_}

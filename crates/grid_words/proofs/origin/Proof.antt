@@ -1,4 +1,4 @@
--- `gridwords::origin` meets its contract. The invariant: s is the product of the points below k, x the number that the coordinates below k make, and rest what is
+-- `grid_words::origin` meets its contract. The invariant: s is the product of the points below k, x the number that the coordinates below k make, and rest what is
 -- left of b. Assumes nothing.
 use mathlib.Core.Path.{_≡_, refl, sym, ap, _∙_, subst}
 use mathlib.Core.List.{List, [], _∷_, _++_}

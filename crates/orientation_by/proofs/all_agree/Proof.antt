@@ -1,4 +1,4 @@
--- `oriented::all_agree` meets its contract. The loop's invariant: the first x slots agree. Assumes nothing.
+-- `orientation_by::all_agree` meets its contract. The loop's invariant: the first x slots agree. Assumes nothing.
 use mathlib.Core.Path.{_≡_, refl, sym, ap, _∙_, subst}
 use mathlib.Core.List.{List, [], _∷_, _++_}
 use Prim.Native.Nat.{ℕ, zero, suc, _+_, _*_, _-_, _/_, _%_, _≤_, _<_}

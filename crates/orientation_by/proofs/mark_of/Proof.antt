@@ -1,4 +1,4 @@
--- `oriented::mark_of` meets its contract, one number after the other. Assumes nothing.
+-- `orientation_by::mark_of` meets its contract, one number after the other. Assumes nothing.
 use mathlib.Core.Path.{_≡_, refl, sym, ap, _∙_, subst}
 use mathlib.Core.List.{List, [], _∷_, _++_}
 use Prim.Native.Nat.{ℕ, zero, suc, _+_, _*_, _-_, _/_, _%_, _≤_, _<_}

@@ -1,4 +1,4 @@
--- `oriented::take_over` meets its contract. The loop's invariant: the first c signs are +1 or -1, and their marks stand. Assumes nothing.
+-- `orientation_by::take_over` meets its contract. The loop's invariant: the first c signs are +1 or -1, and their marks stand. Assumes nothing.
 use mathlib.Core.Path.{_≡_, refl, sym, ap, _∙_, subst}
 use mathlib.Core.List.{List, [], _∷_, _++_}
 use Prim.Native.Nat.{ℕ, zero, suc, _+_, _*_, _-_, _/_, _%_, _≤_, _<_}

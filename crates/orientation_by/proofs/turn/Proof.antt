@@ -1,4 +1,4 @@
--- `oriented::turn` meets its contract. Assumes nothing.
+-- `orientation_by::turn` meets its contract. Assumes nothing.
 use mathlib.Core.Path.{_≡_, refl}
 use Prim.Native.Nat.{ℕ, zero, suc, _-_}
 use native.Mathlib.Omega.{arith}

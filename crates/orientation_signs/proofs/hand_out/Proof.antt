@@ -1,4 +1,4 @@
--- `signs::hand_out` meets its contract. The loop's invariant: the first c signs are handed out. Assumes nothing.
+-- `orientation_signs::hand_out` meets its contract. The loop's invariant: the first c signs are handed out. Assumes nothing.
 use mir.Val.{toZ, ofZ}
 use mir.Syntax.{w32}
 use lib.IntN.{ℤ}

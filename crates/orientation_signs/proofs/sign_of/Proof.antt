@@ -1,4 +1,4 @@
--- `signs::sign_of` meets its contract. Assumes nothing.
+-- `orientation_signs::sign_of` meets its contract. Assumes nothing.
 use Rattle.orientation_signs.specs.WorkFound.{markNumber}
 use lib.IntN.{negsuc}
 use mathlib.Core.Path.{_≡_, refl, sym, ap, _∙_, subst}

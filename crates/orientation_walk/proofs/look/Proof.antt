@@ -1,4 +1,4 @@
--- `walk::look` meets its contract. Assumes nothing.
+-- `orientation_walk::look` meets its contract. Assumes nothing.
 use Prim.Native.Nat.{ℕ, _<_}
 use mathlib.Core.Path.{_≡_, refl, sym, _∙_}
 use native.Mathlib.Omega.{arith}

@@ -1,4 +1,4 @@
--- `births::number` meets its contract. The loop's invariant: the first x visits are numbered, the births among them are counted, and no class is numbered that was not met. Assumes nothing.
+-- `refine_births::number` meets its contract. The loop's invariant: the first x visits are numbered, the births among them are counted, and no class is numbered that was not met. Assumes nothing.
 use mathlib.Core.Bool.{Bool, true, false, not}
 use mathlib.Core.Path.{_≡_, refl, sym, ap, _∙_, subst}
 use mathlib.Core.List.{List, [], _∷_, _++_}

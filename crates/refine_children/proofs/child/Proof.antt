@@ -1,4 +1,4 @@
--- `children::child` meets its contract: the parts that it lends are the child's rows.
+-- `refine_children::child` meets its contract: the parts that it lends are the child's rows.
 use mathlib.Core.Path.{_≡_, refl, sym, ap, _∙_, subst}
 use mathlib.Core.List.{List, [], _∷_, _++_, map}
 use Prim.Native.Nat.{ℕ, zero, suc, _+_, _*_, _-_, _/_, _%_, _≤_, _<_}

@@ -1,4 +1,4 @@
--- `children::jacobians` meets its contract. The loop's invariant: the Jacobians of the first i children are written.
+-- `refine_children::jacobians` meets its contract. The loop's invariant: the Jacobians of the first i children are written.
 use mathlib.Core.Path.{_≡_, refl, sym, ap, _∙_, subst}
 use mathlib.Core.List.{List, [], _∷_, _++_, map}
 use Prim.Native.Nat.{ℕ, zero, suc, _+_, _*_, _-_, _/_, _%_, _≤_, _<_}

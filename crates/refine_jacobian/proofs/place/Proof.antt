@@ -1,4 +1,4 @@
--- `jacobian::place` meets its contract. The loop's invariant: v does not stand among the first i.
+-- `refine_jacobian::place` meets its contract. The loop's invariant: v does not stand among the first i.
 use mathlib.Core.Path.{_≡_, refl, sym, ap, _∙_}
 use mathlib.Core.List.{List, [], _∷_, _++_, map}
 use Prim.Native.Nat.{ℕ, zero, suc, _+_, _*_, _-_, _/_, _%_, _≤_, _<_}

@@ -1,4 +1,4 @@
--- `jacobian::step` meets its contract: column and row are below d.
+-- `refine_jacobian::step` meets its contract: column and row are below d.
 use mathlib.Core.Path.{_≡_, refl, sym, ap, _∙_}
 use mathlib.Core.List.{List, [], _∷_, _++_, map}
 use Prim.Native.Nat.{ℕ, zero, suc, _+_, _*_, _-_, _/_, _%_, _≤_, _<_}

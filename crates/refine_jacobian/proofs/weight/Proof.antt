@@ -1,4 +1,4 @@
--- `jacobian::weight` meets its contract: the two places are within the word and the names, so the index is within the corners.
+-- `refine_jacobian::weight` meets its contract: the two places are within the word and the names, so the index is within the corners.
 use mathlib.Core.Path.{_≡_, refl, sym, ap, _∙_}
 use mathlib.Core.List.{List, [], _∷_, _++_, map}
 use Prim.Native.Nat.{ℕ, zero, suc, _+_, _*_, _-_, _/_, _%_, _≤_, _<_}

@@ -1,4 +1,4 @@
--- `jacobian::whole` meets its contract. The loop's invariant: the first e entries are written.
+-- `refine_jacobian::whole` meets its contract. The loop's invariant: the first e entries are written.
 use mathlib.Core.Path.{_≡_, refl, sym, ap, _∙_}
 use mathlib.Core.List.{List, [], _∷_, _++_, map}
 use Prim.Native.Nat.{ℕ, zero, suc, _+_, _*_, _-_, _/_, _%_, _≤_, _<_}

@@ -1,4 +1,4 @@
--- `towers::rows::matched` meets its contract: the first x rows are named. Assumes nothing.
+-- `replay_towers::rows::matched` meets its contract: the first x rows are named. Assumes nothing.
 use mathlib.Core.Path.{_≡_, refl, subst, _∙_}
 use Prim.Native.Nat.{ℕ, _+_, _*_, _-_, _≤_}
 use mathlib.Core.List.{List}
