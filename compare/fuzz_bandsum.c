@@ -1,6 +1,6 @@
 /* A libFuzzer target for the program `bandsum`: bytes, in memory of just their length, to what it prints. Besides what the sanitizers see it checks that this is one line
  * `refused N` with N in document 01's table, or the six lines in their order, each with a number, and nothing after them.
- * `sums::printed` is linked from the module of the crate `sums`, where a struct is returned through the first argument and a list is a pointer to its address and length. */
+ * `bandsum_sums::printed` is linked from the module of the crate `bandsum_sums`, where a struct is returned through the first argument and a list is a pointer to its address and length. */
 #include <stdint.h>
 #include <stdio.h>
 #include <stdlib.h>
@@ -8,7 +8,7 @@
 
 struct text { uint8_t bytes[128]; size_t len; };
 struct list { const uint8_t *at; size_t len; };
-void printed(struct text *out, struct list *bytes) __asm__("sums::printed");
+void printed(struct text *out, struct list *bytes) __asm__("bandsum_sums::printed");
 
 static void must(int holds) { if (!holds) abort(); }
 

@@ -78,7 +78,7 @@ class Judge:
         return out
 
     def lacks(self, name):
-        """whether the library has no such call yet"""
+        """whether the library has no such call, which is an error in the end"""
         if not self.port.has(name):
             self.missing.add(name)
         return name in self.missing

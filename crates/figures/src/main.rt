@@ -1,4 +1,4 @@
-// Document 01's figures that are run: the refusal's number, 00 for none, and for signs the first six. The starred figures are proved in `starred`; their signs are run too.
+// Document 01's figures that are run: the refusal's number, 00 for none, and for signs the first six. The starred figures are proved in `figures_starred`; their signs are run too.
 use grid_sides::Sides;
 use quotient::Axis;
 use quotient::Glue;
