@@ -1,4 +1,4 @@
-//! Links the archive that `rt staticlib planner` writes; PLANNER_LIB names another folder.
+//! Links the archive that `tools/archive` writes; PLANNER_LIB names another folder.
 use std::path::PathBuf;
 
 fn main() {

@@ -1,13 +1,13 @@
 // The calls that hand out numbers: one or two lists of them.
 use crate::show;
-use planner::complexes::planner_border;
-use planner::complexes::planner_cells;
-use planner::complexes::planner_edges;
-use planner::complexes::planner_facets;
-use planner::grids::planner_cell_words;
-use planner::grids::planner_triangulate_ordered;
-use planner::orders::planner_induced_orientation;
-use planner::orders::planner_ordering;
+use planner_complexes::complexes::planner_border;
+use planner_complexes::complexes::planner_cells;
+use planner_complexes::complexes::planner_edges;
+use planner_complexes::complexes::planner_facets;
+use planner_complexes::orders::planner_induced_orientation;
+use planner_complexes::orders::planner_ordering;
+use planner_grids::grids::planner_cell_words;
+use planner_grids::grids::planner_triangulate_ordered;
 
 // The calls with numbers 9 to 12.
 fn of_cells(

@@ -3,17 +3,17 @@
 //   14 induced_orientation, 15 cell_words, 16 triangulate_ordered; 17 orient_by; 18 edge_lengths_sq; 19 edge_length_sq
 use crate::listing;
 use crate::show;
-use planner::complexes::planner_orient_by;
-use planner::complexes::planner_orientation;
-use planner::grids::planner_is_orientation_preserving;
-use planner::grids::planner_klein;
-use planner::grids::planner_moebius;
-use planner::grids::planner_nvertices;
-use planner::grids::planner_quasi_uniform;
-use planner::grids::planner_reduce;
-use planner::grids::planner_torus;
-use planner::lengths::planner_edge_length_sq;
-use planner::lengths::planner_edge_lengths_sq;
+use planner_complexes::complexes::planner_orient_by;
+use planner_complexes::complexes::planner_orientation;
+use planner_grids::grids::planner_is_orientation_preserving;
+use planner_grids::grids::planner_klein;
+use planner_grids::grids::planner_moebius;
+use planner_grids::grids::planner_nvertices;
+use planner_grids::grids::planner_quasi_uniform;
+use planner_grids::grids::planner_reduce;
+use planner_grids::grids::planner_torus;
+use planner_grids::lengths::planner_edge_length_sq;
+use planner_grids::lengths::planner_edge_lengths_sq;
 
 // A side from its numerator and denominator.
 fn side(list: &[u32], top: usize, bottom: usize) -> f64 {

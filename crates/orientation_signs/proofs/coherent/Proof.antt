@@ -1,4 +1,4 @@
--- `signs::coherent` meets its contract: the walk's links are the cells' mates (proofs/Linking). Assumes nothing.
+-- `orientation_signs::coherent` meets its contract: the walk's links are the cells' mates (proofs/Linking). Assumes nothing.
 use Rattle.orientation_signs.proofs.Linking.{finding-few, finding-crossing, finding-links, finding-found}
 use mathlib.Core.Path.{_≡_, refl, sym, ap, _∙_, subst}
 use mathlib.Core.List.{List, [], _∷_, _++_}
