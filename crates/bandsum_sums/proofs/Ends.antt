@@ -31,7 +31,7 @@ use Rattle.skeleton.proofs.Steps.{room-most}
 use Rattle.quotient.specs.declared.Grid.{Grid}
 use Rattle.quotient.specs.declared.Parity.the-variants as Parity
 use Rattle.quotient.specs.Fold.{some}
-use Rattle.quotient.specs.Shape.{checkOf, cellsOf, verticesOf, nverticesOf, reflectsOdd, parityOf}
+use Rattle.quotient.specs.Shape.{checkOf, cellCount, verticesOf, nverticesOf, reflectsOdd, parityOf}
 use Rattle.grid_words.specs.Cells.{flatWords}
 use Rattle.grid_words.proofs.Corners.{dim}
 use Rattle.grid_words.proofs.Good.{words-pass}
@@ -129,7 +129,7 @@ module _ (g : Grid) (cells order keys rows spare counts : List ℕ) (lc : mostCo
 
 -- ---- the words
 pub record Written (g : Grid) (r : Counted) (words words′ : List ℕ) : Type 0 where
-  pub many : countOf r ≡ cellsOf g
+  pub many : countOf r ≡ cellCount g
   pub is : words′ ≡ onto (flatWords g) words
 
 module _ (g : Grid) (sound : Sound g) (words keys rows spare counts : List ℕ) (lw : mostCorners ≤ length words) (lk : mostListed ≤ length keys) (lr : mostCorners ≤ length rows) (ls : mostCorners ≤ length spare) (ln : mostCorners ≤ length counts) where

@@ -1,4 +1,4 @@
--- `sums::sides` meets its contract: a grid that is taken is not refused. Assumes nothing.
+-- `bandsum_sums::sides` meets its contract: a grid that is taken is not refused. Assumes nothing.
 use mathlib.Core.Path.{sym, ap, _∙_}
 use Rattle.bandsum_sums.proofs.Ends.{taken-sides}
 use Rattle.bandsum_sums.specs.Work.{sidesAs}
