@@ -47,6 +47,7 @@ __attribute__((noinline)) static uint64_t once(const char *call) {
     if (!strcmp(call, "facets")) return planner_facets(d, WORDS, OUT, more, MOST, ROOM);
     if (!strcmp(call, "border")) return planner_border(d, WORDS, OUT, ROOM);
     if (!strcmp(call, "orientation")) return planner_orientation(d, WORDS, signs, MOST, ROOM);
+    if (!strcmp(call, "orientation_looks")) return planner_orientation_looks(d, WORDS, signs, MOST, ROOM, &total);
     if (!strcmp(call, "orient_by")) return planner_orient_by(d, WORDS, signs, nsigns, ROOM);
     if (!strcmp(call, "ordering")) return planner_ordering(d, WORDS, order, norder, OUT, ROOM);
     if (!strcmp(call, "induced_orientation")) return planner_induced_orientation(d, WORDS, order, norder, ROOM);

@@ -63,6 +63,18 @@ def orientation(j, c):
         if signs is not None:
             j.agree("coherent", m.coherent(c.rows, signs), True)
     j.call("planner_orientation", [c.d], [("u32", c.ws)], ["i32"], c.want(late, value=len(signs or []), results=[("i32", signs or [])]))
+    looks(j, c, late, signs or [])
+
+
+def looks(j, c, late, signs):
+    """the same with the facet looks of the walk, which the Rust's own walk counts"""
+    if j.lacks("planner_orientation_looks"):
+        return
+    made = int(j.rust.fields("orient " + c.line)["looks"]) if c.fine else 0
+    if c.fine and late is None:
+        j.agree("looks", len(c.cells) * (c.d + 1 if c.d else 0), made)
+    want = c.want(late, value=len(signs), results=[("i32", signs)], tells=late == (13, 0))
+    j.call("planner_orientation_looks", [c.d], [("u32", c.ws)], ["i32"], want, fixed=("u32", [made], 1))
 
 
 def flat(words_):

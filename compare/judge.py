@@ -26,10 +26,11 @@ class Rust:
 
 class Want:
     """What a call must come to. early: a refusal before the room is tested. need: lengths of the four working lists (None: the call has none). late: a refusal after
-    that. results: (kind, values) of each result list. value: the answer. A refusal is (number, place)."""
+    that. results: (kind, values) of each result list. value: the answer. tells: the result of fixed length is handed out beside the late refusal too. A refusal is
+    (number, place)."""
 
-    def __init__(self, early=None, need=None, late=None, value=0, results=()):
-        self.early, self.need, self.late, self.value, self.results = early, need, late, value, list(results)
+    def __init__(self, early=None, need=None, late=None, value=0, results=(), tells=False):
+        self.early, self.need, self.late, self.value, self.results, self.tells = early, need, late, value, list(results), tells
 
 
 PATTERN = {"u32": 0xA5A5A500, "i32": -0x5A5A5B00, "f64": 0x7FF8DEADBEEF0000}     # none of these is a result
@@ -118,7 +119,7 @@ class Judge:
         for i, (_, old) in enumerate(room):
             expect.append([0] * want.need[i] + old[want.need[i]:] if cleared else old)
         if fixed is not None:
-            new = list(fixed[1]) if results is not None else []
+            new = list(fixed[1]) if results is not None or (want.tells and cleared and want.late) else []
             expect.append(new + arrays[0][1][len(new):])
         self.requests += 1
         self.by_call[name] = self.by_call.get(name, 0) + 1

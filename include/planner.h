@@ -156,6 +156,12 @@ uint64_t planner_orientation(
     uint32_t d, const uint32_t *words, size_t n, int32_t *signs, size_t signs_len, uint32_t *keys, size_t keys_len, uint32_t *rows, size_t rows_len,
     uint32_t *spare, size_t spare_len, uint32_t *counts, size_t counts_len);
 
+/* The same, and the facet looks of the walk that finds the signs: one for each facet of each cell taken off its stack. With signs they are (d+1) times the cells, none in
+ * dimension 0; with 13 those up to and with the look that meets the conflict, at most as many. Another refusal leaves looks as it was. */
+uint64_t planner_orientation_looks(
+    uint32_t d, const uint32_t *words, size_t n, int32_t *signs, size_t signs_len, uint32_t *keys, size_t keys_len, uint32_t *rows, size_t rows_len,
+    uint32_t *spare, size_t spare_len, uint32_t *counts, size_t counts_len, uint32_t looks[1]);
+
 /* 1 exactly if the caller's signs are coherent, else 0; in dimension 0 always 0. Refused: 1, 2, 3, 4, 6, 5, 12 (working lists), 7, 14 (the list is not one
  * +1 or -1 for each cell). Working lists: keys max(1, d) * n, rows n, spare n, counts n. */
 uint64_t planner_orient_by(

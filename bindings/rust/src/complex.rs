@@ -25,7 +25,7 @@ pub(crate) fn corners(d: u32, words: &[u32]) -> usize {
 }
 
 /// What most calls on a cell list need of the working lists.
-fn plain(d: u32, n: usize) -> [usize; 4] {
+pub(crate) fn plain(d: u32, n: usize) -> [usize; 4] {
     [n * (d as usize).max(1), n, n, n]
 }
 

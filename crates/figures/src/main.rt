@@ -1,5 +1,6 @@
-// Document 01's figures that are run: the refusal's number, 00 for none, and for signs the first six. The starred figures are proved in `figures_starred`; their signs are run too.
+// Document 01's figures that are run: the refusal's number, 00 for none, and for signs the facet looks, 00 where none are reported, and the first six. The starred figures are proved in `figures_starred`; their signs are run too.
 use grid_sides::Sides;
+use orientation::Coherence;
 use quotient::Axis;
 use quotient::Glue;
 use quotient::Grid;
@@ -10,6 +11,14 @@ fn number(a: Counted) -> u32 {
     match a {
         Counted::Count(_) => 0,
         Counted::Refused(n, _) => n,
+    }
+}
+
+fn looks(a: Coherence) -> u32 {
+    match a {
+        Coherence::Signs(_, n) => n,
+        Coherence::OneSided(n) => n,
+        Coherence::Refused(_, _) => 0,
     }
 }
 
@@ -39,7 +48,7 @@ fn signs(d: u32, words: &[u32]) {
     let mut rows = [7u32; 32];
     let mut spare = [7u32; 32];
     let mut counts = [7u32; 32];
-    let n = number(orientation::orientation(
+    let said = orientation::orientation(
         d,
         words,
         &mut signs,
@@ -47,10 +56,15 @@ fn signs(d: u32, words: &[u32]) {
         &mut rows,
         &mut spare,
         &mut counts,
-    ));
+    );
+    let n = number(orientation::counted(said));
+    let seen = looks(said);
     let bytes = [
         digit(n / 10),
         digit(n),
+        b' ',
+        digit(seen / 10),
+        digit(seen),
         b' ',
         mark(signs[0]),
         mark(signs[1]),
@@ -137,6 +151,10 @@ fn main() {
         2,
         &[0u32, 1, 4, 0, 3, 4, 1, 2, 5, 1, 4, 5, 2, 0, 3, 2, 5, 3],
     );
+    // five triangles, one-sided in the middle of a cell
+    signs(2, &[0u32, 1, 2, 1, 2, 3, 0, 1, 4, 0, 3, 4, 2, 3, 4]);
+    // one triangle
+    signs(2, &[0u32, 1, 2]);
     // triangles 012, 013, 014
     signs(2, &[0u32, 1, 2, 0, 1, 3, 0, 1, 4]);
     // words 0,0,1

@@ -8,9 +8,8 @@ use native.Mathlib.Omega.{arith}
 use lib.IntN.{pos, negsuc}
 use lib.ListN.{length, getD}
 use Rattle.refusal.specs.declared.Answer.the-variants.{Fine}
-use Rattle.refusal.specs.declared.Counted.the-variants as Counted
-use Rattle.refusal.specs.Table.{noSigns}
 use Rattle.lists.specs.Rows.{cut, flat}
+use Rattle.lists.specs.Words.{foundAt, firstWhere}
 use Rattle.multiindex.specs.Sort.{insertBy, insert, sortWord}
 use Rattle.multiindex.specs.Sign.{Sign, plus, minus, opposite, times}
 use Rattle.complex.specs.Cells.{decides, comesBefore, placed, place, inOrder, cellsOf}
@@ -18,6 +17,7 @@ use Rattle.complex.specs.Skeleton.{inColex, edgesOf, tab, numbers, keep, border
 use Rattle.complex.specs.Facets.{cellAt, facetAt, Mates, Crowded}
 use Rattle.orientation_signs.specs.Signs.{Coherent, here, across, Lowest, Oriented}
 use Rattle.orientation_signs.proofs.Unique.{forced}
+use Rattle.orientation.specs.declared.Coherence.the-variants as Coherence
 use Rattle.orientation.specs.Promise as Orientation
 use Rattle.quotient.specs.declared.Grid.{Grid}
 use Rattle.quotient.specs.Fold.{firstFrom, product, some, count}
@@ -90,10 +90,10 @@ ring-signs : Oriented 2 ringCells ring-sign
 unfolding some ring-sign
 ring-signs = record { coherent = coherent-by 2 ringCells ring-sign refl; lowest = ring-lowest }
 
-pub ring-oriented : Orientation.Ends 2 (gluedCells ring) (length (gluedCells ring)) (Counted.Count 6) (pos 1 ∷ negsuc 0 ∷ pos 1 ∷ negsuc 0 ∷ negsuc 0 ∷ pos 1 ∷ [])
+pub ring-oriented : Orientation.Ends 2 (gluedCells ring) (length (gluedCells ring)) (Coherence.Signs 6 18) (pos 1 ∷ negsuc 0 ∷ pos 1 ∷ negsuc 0 ∷ negsuc 0 ∷ pos 1 ∷ [])
 unfolding ring-sign
 ring-oriented =
-    subst (λ (cs : Words). Orientation.Ends 2 cs (length cs) (Counted.Count 6) (pos 1 ∷ negsuc 0 ∷ pos 1 ∷ negsuc 0 ∷ negsuc 0 ∷ pos 1 ∷ [])) (sym ring-cells)
+    subst (λ (cs : Words). Orientation.Ends 2 cs (length cs) (Coherence.Signs 6 18) (pos 1 ∷ negsuc 0 ∷ pos 1 ∷ negsuc 0 ∷ negsuc 0 ∷ pos 1 ∷ [])) (sym ring-cells)
     (Orientation.signed ring-free ring-sign ring-signs (le-refl 6))
 
 each-ring : (c : ℕ) → c < 6 → sortWord (wordOf ringWords (cellAt ringCells c)) ≡ cellAt ringCells c
@@ -217,5 +217,6 @@ band-no-signs σ w =
     (forced (σ 4) (σ 3) plus plus (w .opposed 4 0 3 0 (mates bandCells 4 0 3 0 (omega arith) (omega arith) (omega arith) (omega arith) (λ e. omega arith) refl)))
     (forced (σ 3) (σ 0) plus plus (w .opposed 3 2 0 2 (mates bandCells 3 2 0 2 (omega arith) (omega arith) (omega arith) (omega arith) (λ e. omega arith) refl))))
 
-pub band-oriented : Orientation.Ends 2 (gluedCells band) (length (gluedCells band)) (Counted.Refused noSigns 0) []
-band-oriented = subst (λ (cs : Words). Orientation.Ends 2 cs (length cs) (Counted.Refused noSigns 0) []) (sym band-cells) (Orientation.one-sided band-free band-no-signs)
+pub band-oriented : Orientation.Ends 2 (gluedCells band) (length (gluedCells band)) (Coherence.OneSided 15) []
+unfolding firstWhere foundAt
+band-oriented = subst (λ (cs : Words). Orientation.Ends 2 cs (length cs) (Coherence.OneSided 15) []) (sym band-cells) (Orientation.one-sided band-free band-no-signs)

@@ -12,6 +12,7 @@ use Rattle.complex.specs.Facets.{cellAt, facetAt, Mates, Crowded}
 use Rattle.complex.specs.Skeleton.{sameWord}
 use Rattle.complex_facets.proofs.Numbers.{same-word, word-true}
 use Rattle.orientation_signs.specs.Signs.{Coherent}
+use Rattle.orientation_signs.specs.Looks.{sameSign}
 use Rattle.quotient.specs.Fold.{some}
 use Rattle.quotient.proofs.Laws.{some-true}
 use Rattle.ordering.specs.Order.{without, AgreeOnFacets}
@@ -54,12 +55,6 @@ module _ (d : ℕ) (cs : List (List ℕ)) (Q : Four) (e : someTwo (length cs) (s
       right (meets cs c i c′ i′) (Q c i c′ i′) (none-two (length cs) (suc d) (λ c i c′ i′. meets cs c i c′ i′ && Q c i c′ i′) e c i c′ i′ (m .this .cell) (omega arith) (m .that .cell) (omega arith)) (mates-meet d cs c i c′ i′ m)
 
 -- ---- coherent signs
-abbrev pub sameSign : Sign → Sign → Bool
-sameSign plus plus = true
-sameSign plus minus = false
-sameSign minus plus = false
-sameSign minus minus = true
-
 not-same : (a b : Sign) → sameSign a b ≡ false → a ≡ opposite b
 not-same plus plus e = absurd (false≢true (sym e))
 not-same plus minus e = refl

@@ -5,9 +5,9 @@ use Prim.Native.Nat.{ℕ, suc}
 use lib.IntN.{ℤ}
 use lib.ListN.{length, replicate}
 use Rattle.refusal.specs.declared.Answer.{Answer}
-use Rattle.refusal.specs.declared.Counted.{Counted}
 use Rattle.lists.specs.Rows.{flat}
 use Rattle.multiindex.specs.Permutation.{upto}
+use Rattle.orientation.specs.declared.Coherence.{Coherence}
 use Rattle.orientation.specs.Promise as Orientation
 use Rattle.quotient.specs.declared.Grid.{Grid}
 use Rattle.quotient.specs.Shape.{checkOf}
@@ -33,8 +33,8 @@ pub data Case : Type 0 where
   -- its words, and its cells
   has-words : Grid → List (List ℕ) → Case
   has-cells : Grid → List (List ℕ) → Case
-  -- what `orientation` says of its words, and the signs that it hands out
-  oriented : Grid → Counted → List ℤ → Case
+  -- what `orientation` says of its words, looks included, and the signs that it hands out
+  oriented : Grid → Coherence → List ℤ → Case
   -- what `triangulate_ordered` says of it, and the words that it hands out as an order
   ordered : Grid → Triangulated → List (List ℕ) → Case
   -- dimension, R and word: the births, each by its weights at the vertices

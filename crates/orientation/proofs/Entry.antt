@@ -7,8 +7,8 @@ use lib.ListN.{length, take, drop}
 use lib.Seq.{length-take-le}
 use Rattle.refusal.specs.declared.Answer.the-variants as Answer
 use Rattle.refusal.specs.declared.Room.{Room}
-use Rattle.refusal.specs.declared.Counted.{Counted}
-use Rattle.refusal.specs.declared.Counted.the-variants.{Refused}
+use Rattle.orientation.specs.declared.Coherence.{Coherence}
+use Rattle.orientation.specs.declared.Coherence.the-variants.{Refused}
 use Rattle.refusal.specs.Table.{tooShort}
 use Rattle.refusal.specs.Lent.{untouched, lengths, Roomy}
 use Rattle.refusal.specs.Call.{Comes, refused, cramped, ended}
@@ -47,7 +47,7 @@ module _ (d : ℕ) (ws : List ℕ) (out : List ℤ) (keys rows spare counts : Li
           counts-long = length-take-le (n .counts) counts (h .in-counts) ∙ ap (λ (m : Room). m .counts) q;
         }
 
-    pub out-ended : (r : Counted) (out′ : List ℤ) (k o s c : List ℕ) → Worked d ws r out out′ → AllZero (take (n .keys) keys) k (take (n .rows) rows) o (take (n .spare) spare) s (take (n .counts) counts) c →
+    pub out-ended : (r : Coherence) (out′ : List ℤ) (k o s c : List ℕ) → Worked d ws r out out′ → AllZero (take (n .keys) keys) k (take (n .rows) rows) o (take (n .spare) spare) s (take (n .counts) counts) c →
         Orientation d ws r out out′ keys (k ++ drop (n .keys) keys) rows (o ++ drop (n .rows) rows) spare (s ++ drop (n .spare) spare) counts (c ++ drop (n .counts) counts)
     out-ended r out′ k o s c w z =
         record {

@@ -8,9 +8,8 @@ use native.Mathlib.Omega.{arith}
 use lib.IntN.{ℤ}
 use lib.ListN.{length, getD, take, drop}
 use lib.Seq.{length-take-le}
-use Rattle.refusal.specs.declared.Counted.{Counted}
-use Rattle.refusal.specs.declared.Counted.the-variants.{Count, Refused}
-use Rattle.refusal.specs.Table.{crowdedFacet, tooShort, noSigns}
+use Rattle.orientation.specs.declared.Coherence.the-variants.{Signs, OneSided, Refused}
+use Rattle.refusal.specs.Table.{crowdedFacet, tooShort}
 use Rattle.refusal.specs.Lent.{onto}
 use Rattle.complex.specs.Check.{Passed}
 use Rattle.lists.specs.Rows.{cut}
@@ -22,8 +21,10 @@ use Rattle.complex_mates.proofs.Meeting.{slots-most}
 use Rattle.complex_cells.specs.WorkMade.{Making, Made}
 use Rattle.multiindex.specs.Sign.{Sign, signNumber}
 use Rattle.orientation_signs.specs.Signs.{Coherent, Oriented, signList}
+use Rattle.orientation_signs.specs.Looks.{looksOf}
 use Rattle.orientation_signs.specs.WorkFound.{signOf, markNumber, handedOut, Finding, Found}
 use Rattle.orientation_signs.proofs.Linking.{not-crowded}
+use Rattle.orientation_signs.proofs.Whole.{looks-whole}
 use Rattle.complex.specs.Room.{keyRoom}
 use Rattle.orientation.specs.Promise.{Ends, crowded, one-sided, short, signed}
 use Rattle.orientation.specs.Work.{Working, Worked}
@@ -113,13 +114,18 @@ module _ (d : ℕ) (ws keys rows spare counts : List ℕ) (w : Working d ws keys
       free : Crowded d (cellsOf d ws) → ⊥
       free x = not-crowded d m (cut (suc d) m rows′) (cut-length (suc d) m rows′) rows″ t (omega (arith, a .most, a .corners)) (subst (λ (cs : List (List ℕ)). Crowded d cs) (sym (a .same)) x)
 
-      module _ (ok : Bool) (marks : List ℕ) (lm : length marks ≡ length counts″) (f : (cs : List (List ℕ)) → length cs ≡ m → MateTable d cs rows″ → Found d cs ok marks) where
-        f′ : Found d (cut (suc d) m rows′) ok marks
+      module _ (ok : Bool) (looks : ℕ) (marks : List ℕ) (lm : length marks ≡ length counts″) (f : (cs : List (List ℕ)) → length cs ≡ m → MateTable d cs rows″ → Found d cs ok looks marks) where
+        f′ : Found d (cut (suc d) m rows′) ok looks marks
         f′ = f (cut (suc d) m rows′) (cut-length (suc d) m rows′) t
 
+        looks-made : looks ≡ looksOf d (cellsOf d ws)
+        looks-made = f′ .made ∙ ap (looksOf d) (a .same)
+
         -- 13
-        pub worked-one-sided : (out : List ℤ) → ok ≡ false → Worked d ws (Refused noSigns 0) out out
-        worked-one-sided out e = record { handed = []; ends = one-sided free (λ σ p. f′ .no e σ (subst (λ (cs : List (List ℕ)). Coherent d cs σ) (sym (a .same)) p)); result = refl }
+        pub worked-one-sided : (out : List ℤ) → ok ≡ false → Worked d ws (OneSided looks) out out
+        worked-one-sided out e =
+            subst (λ (n : ℕ). Worked d ws (OneSided n) out out) (sym looks-made)
+            (record { handed = []; ends = one-sided free (λ σ p. f′ .no e σ (subst (λ (cs : List (List ℕ)). Coherent d cs σ) (sym (a .same)) p)); result = refl })
 
         signs-are : ok ≡ true → Oriented d (cellsOf d ws) (λ c. signOf (getD marks c 0))
         signs-are e = subst (λ (cs : List (List ℕ)). Oriented d cs (λ c. signOf (getD marks c 0))) (a .same) (f′ .yes e)
@@ -132,11 +138,12 @@ module _ (d : ℕ) (ws keys rows spare counts : List ℕ) (w : Working d ws keys
         marks-long = omega (arith, a .most, mul-suc m d, w .counts-long)
 
         -- the signs
-        pub worked-signed : (out part : List ℤ) → ok ≡ true → m ≤ length out → part ≡ handedOut (take (length (take m out)) marks) → Worked d ws (Count m) out (part ++ drop m out)
+        pub worked-signed : (out part : List ℤ) → ok ≡ true → m ≤ length out → part ≡ handedOut (take (length (take m out)) marks) → Worked d ws (Signs m looks) out (part ++ drop m out)
         worked-signed out part e h p =
-            record {
+            subst (λ (n : ℕ). Worked d ws (Signs m n) out (part ++ drop m out)) (sym (looks-made ∙ looks-whole d (cellsOf d ws) (λ c. signOf (getD marks c 0)) (signs-are e) free))
+            (record {
               handed = signList (λ c. signOf (getD marks c 0)) (length (cellsOf d ws));
-              ends = subst (λ (n : ℕ). Ends d (cellsOf d ws) (length out) (Count n) (signList (λ c. signOf (getD marks c 0)) (length (cellsOf d ws)))) cells-many
+              ends = subst (λ (n : ℕ). Ends d (cellsOf d ws) (length out) (Signs n (length (cellsOf d ws) * slots d)) (signList (λ c. signOf (getD marks c 0)) (length (cellsOf d ws)))) cells-many
                   (signed free (λ c. signOf (getD marks c 0)) (signs-are e) (omega (arith, cells-many)));
               result = rw (cells-many, length-signs (λ c. signOf (getD marks c 0)) m, p, length-take-le m out h, handed-signs marks m marks-long);
-            }
+            })

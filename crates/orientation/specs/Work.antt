@@ -4,12 +4,12 @@ use mathlib.Core.Path.{_≡_}
 use Prim.Native.Nat.{ℕ}
 use lib.IntN.{ℤ}
 use lib.ListN.{length}
-use Rattle.refusal.specs.declared.Counted.{Counted}
 use Rattle.refusal.specs.Lent.{onto}
 use Rattle.lists.specs.Zero.{AllZero}
 use Rattle.complex.specs.Check.{Passed}
 use Rattle.complex.specs.Room.{keyRoom}
 use Rattle.complex.specs.Cells.{cellsOf}
+use Rattle.orientation.specs.declared.Coherence.{Coherence}
 use Rattle.orientation.specs.Promise.{Ends}
 
 pub record Working (d : ℕ) (ws keys rows spare counts : List ℕ) : Type 0 where
@@ -20,7 +20,7 @@ pub record Working (d : ℕ) (ws keys rows spare counts : List ℕ) : Type 0 whe
   pub counts-long : length counts ≡ length ws
 
 -- the call on the cells, and the sign list afterwards
-pub record Worked (d : ℕ) (ws : List ℕ) (r : Counted) (signs signs′ : List ℤ) : Type 0 where
+pub record Worked (d : ℕ) (ws : List ℕ) (r : Coherence) (signs signs′ : List ℤ) : Type 0 where
   pub handed : List ℤ
   pub ends : Ends d (cellsOf d ws) (length signs) r handed
   pub result : signs′ ≡ onto handed signs

@@ -17,8 +17,26 @@ ghost use mathlib.Core.Path.{_≡_};
 ghost use Prim.Native.Nat.{_*_, _<_, _≤_};
 ghost use lib.ListN.{length};
 ghost use Rattle.lists.specs.Zero.{AllZero};
-ghost use Rattle.orientation.specs.Promise.{Orientation};
+ghost use Rattle.orientation.specs.Promise.{Orientation, countedOf};
 ghost use Rattle.orientation.specs.Work.{Working, Worked};
+
+// What the call says: how many cells got signs, or that there are no coherent signs, each with the facet looks of the walk; or another refusal, with its number and place.
+pub enum Coherence {
+    Signs(u32, u32),
+    OneSided(u32),
+    Refused(u32, u32),
+}
+
+// The same without the looks: no coherent signs is refusal 13 at place 0.
+pub fn counted(said: Coherence) -> Counted
+    ensures { λ r. ⌜ r ≡ countedOf said ⌝ }
+{
+    match said {
+        Coherence::Signs(cells, _) => Counted::Count(cells),
+        Coherence::OneSided(_) => Counted::Refused(NO_SIGNS, 0),
+        Coherence::Refused(number, place) => Counted::Refused(number, place),
+    }
+}
 
 // The work, in working lists of just the sizes that are needed. Nothing is promised of them.
 fn work(
@@ -29,22 +47,23 @@ fn work(
     rows: &mut [u32],
     spare: &mut [u32],
     counts: &mut [u32],
-) -> Counted
+) -> Coherence
     requires { ⌜ Working d (now words) (now keys) (now rows) (now spare) (now counts) ⌝ }
     ensures { λ r. ⌜ Worked d (now (words .entry)) r (now (signs .entry)) (now (signs .exit)) ⌝ }
 {
     let m = complex_cells::cells(d, words, keys, rows, spare, counts);
     if !complex_mates::mates(d, m, words.len(), keys, rows, spare, counts) {
-        return Counted::Refused(CROWDED_FACET, 0);
+        return Coherence::Refused(CROWDED_FACET, 0);
     }
-    if !orientation_signs::coherent(d, m, rows, keys, spare, counts) {
-        return Counted::Refused(NO_SIGNS, 0);
+    let searched = orientation_signs::coherent(d, m, rows, keys, spare, counts);
+    if !searched.found {
+        return Coherence::OneSided(searched.looks);
     }
     if signs.len() < m {
-        return Counted::Refused(TOO_SHORT, 0);
+        return Coherence::Refused(TOO_SHORT, 0);
     }
     orientation_signs::hand_out(counts, &mut signs[..m]);
-    Counted::Count(m as u32)
+    Coherence::Signs(m as u32, searched.looks)
 }
 
 // The work, and then the working lists are all zero.
@@ -56,7 +75,7 @@ fn cleared(
     rows: &mut [u32],
     spare: &mut [u32],
     counts: &mut [u32],
-) -> Counted
+) -> Coherence
     requires { ⌜ Working d (now words) (now keys) (now rows) (now spare) (now counts) ⌝ }
     ensures work { λ r. ⌜ Worked d (now (words .entry)) r (now (signs .entry)) (now (signs .exit)) ⌝ }
     ensures room { λ _.
@@ -68,8 +87,8 @@ fn cleared(
     said
 }
 
-// One sign a cell, +1 or -1, coherent, +1 at the lowest cell of each piece. Refused: 1, 2, 3, 4, 6, 5, then 12 where a working list is too short (`needOf`), then 7,
-// 13 where no coherent signs exist, 12 where the sign list is too short. A refusal changes no sign; from the room's test on what is needed of the working lists is zero at the end.
+// One sign a cell, +1 or -1, coherent, +1 at the lowest cell of each piece, and the walk's facet looks: d + 1 a cell, none in dimension 0. Refused: 1, 2, 3, 4, 6, 5, then 12 where a working list is too short (`needOf`), then 7,
+// 13 where no coherent signs exist (`OneSided`, with the looks up to the conflict), 12 where the sign list is too short. A refusal changes no sign; from the room's test on what is needed of the working lists is zero at the end.
 pub fn orientation(
     d: u32,
     words: &[u32],
@@ -78,14 +97,14 @@ pub fn orientation(
     rows: &mut [u32],
     spare: &mut [u32],
     counts: &mut [u32],
-) -> Counted
+) -> Coherence
     ensures { λ r.
         ⌜ Orientation d (now (words .entry)) r (now (signs .entry)) (now (signs .exit)) (now (keys .entry)) (now (keys .exit)) (now (rows .entry)) (now (rows .exit))
         (now (spare .entry)) (now (spare .exit)) (now (counts .entry)) (now (counts .exit)) ⌝ }
 {
     let checked = complex::check_cells(d, words);
     if let Answer::Refused(number, place) = checked {
-        return Counted::Refused(number, place);
+        return Coherence::Refused(number, place);
     }
     let dim = d as usize;
     let need = complex::need(dim, words.len());
@@ -96,7 +115,7 @@ pub fn orientation(
         counts: counts.len(),
     };
     if !refusal::has_room(need, have) {
-        return Counted::Refused(TOO_SHORT, 0);
+        return Coherence::Refused(TOO_SHORT, 0);
     }
     let k = need.keys;
     let r = need.rows;

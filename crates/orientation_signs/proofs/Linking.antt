@@ -1,6 +1,5 @@
 -- The walk's table of links says what the mates of cells say: a link across slots s and s′ is a facet without positions d - s and d - s′, and the signs are opposed there
 -- exactly if they are as the link's flip has them. Assumes nothing.
-use mathlib.Core.Bool.{Bool, true, false}
 use mathlib.Core.List.{List, [], _∷_}
 use mathlib.Core.Path.{_≡_, refl, sym, ap, _∙_, subst}
 use mathlib.Core.Logic.{_⊎_, inl, inr, ⊎-elim}
@@ -16,15 +15,14 @@ use Rattle.complex_mates.proofs.Meeting.{slots-most, slots-dim}
 use Rattle.orientation_walk.specs.WorkSigns as walk
 use Rattle.orientation_walk.specs.WorkSigns.{turned, Link}
 use Rattle.orientation_walk.specs.WorkSigns.Way.{here, on}
-use Rattle.orientation_walk.specs.WorkSteps as steps
 use Rattle.multiindex.specs.Sign.{Sign, plus, minus, opposite, times, induced}
 use Rattle.orientation_signs.specs.Signs.{Coherent, Joined, Lowest, Oriented}
 use Rattle.orientation_signs.specs.Signs.Joined.{here as start, across}
-use Rattle.orientation_signs.specs.WorkFound.{signOf, Finding, Found}
+use Rattle.orientation_signs.specs.WorkFound.{signOf, Finding}
 use Rattle.orientation_signs.proofs.Unique.{double, cancel, forced}
 
 -- ---- signs and the walk's numbers
-abbrev code : Sign → ℕ
+abbrev pub code : Sign → ℕ
 code plus = 1
 code minus = 2
 
@@ -32,7 +30,7 @@ code-sign : (a : Sign) → signOf (code a) ≡ a
 code-sign plus = refl
 code-sign minus = refl
 
-sign-code : (n : ℕ) → walk.Sign n → code (signOf n) ≡ n
+pub sign-code : (n : ℕ) → walk.Sign n → code (signOf n) ≡ n
 sign-code zero s = absurd (omega (arith, s .some))
 sign-code (suc zero) s = refl
 sign-code (suc (suc zero)) s = refl
@@ -61,7 +59,7 @@ code-opposite plus = refl
 code-opposite minus = refl
 
 -- a flip of the walk turns as the induced sign does
-turned-code : (p : ℕ) (a : Sign) → turned (p % 2) (code a) ≡ code (times a (induced p))
+pub turned-code : (p : ℕ) (a : Sign) → turned (p % 2) (code a) ≡ code (times a (induced p))
 unfolding turned
 turned-code p a = ⊎-elim (λ w. rw (w .0, w .1, times-plus a)) (λ w. rw (w .0, w .1, times-minus a) (code-opposite a)) (parity p)
 
@@ -93,7 +91,7 @@ from-end d s h =
     sym (cancel (induced (d - s)) (induced s)) ∙ ap (λ (x : Sign). times x (induced s)) (sym (induced-sum (d - s) s) ∙ ap induced e)
 
 -- the sign across a facet without positions d - s and d - s′
-across-sign : (d s s′ : ℕ) (a : Sign) → s ≤ d → s′ ≤ d → times (opposite (times a (induced (d - s)))) (induced (d - s′)) ≡ times a (induced (s + s′ + 1))
+pub across-sign : (d s s′ : ℕ) (a : Sign) → s ≤ d → s′ ≤ d → times (opposite (times a (induced (d - s)))) (induced (d - s′)) ≡ times a (induced (s + s′ + 1))
 across-sign d s s′ a h h′ =
     let p = induced (d - s) in
     let q = induced (d - s′) in
@@ -280,10 +278,6 @@ module _ (d m : ℕ) (cs : List (List ℕ)) (many : length cs ≡ m) (mates : Li
           lowest = λ c h low. ap signOf (p .lowest c (omega arith) (λ j s w. low j (way-joined w)));
         }
 
-    pub found : (ok : Bool) (g t g′ t′ : List ℕ) (looks : ℕ) → steps.Answer m (slots d) o fl g t g′ t′ ok looks → Found d cs ok g′
-    found ok g t g′ t′ looks r =
-        record { yes = λ e. oriented-up (λ c. getD g′ c 0) (r .yes e); no = λ e σ p. r .no e (λ c. code (σ c)) (coherent-down σ p) }
-
 -- ---- the call `coherent`, step by step; k is the number of slots as the code has it
 module _ (d m : ℕ) (rows keys spare counts : List ℕ) (w : Finding d m rows keys spare counts) (k : ℕ) (e : k ≡ slots d) where
   pub finding-few : m * k < none
@@ -305,8 +299,3 @@ module _ (d m : ℕ) (rows keys spare counts : List ℕ) (w : Finding d m rows k
   finding-links o fl lo lf =
       subst (λ (z : ℕ). ((x : ℕ) → x < m * z → Across z rows o fl x) → walk.Table m z o fl) (sym e)
       (λ a. links d m (w .cs) (w .many) rows (w .mates) (w .few) o fl a (omega (arith, w .keys-long)) (omega (arith, w .spare-long)))
-
-  pub finding-found : (o fl : List ℕ) → ((x : ℕ) → x < m * k → Across k rows o fl x) → (ok : Bool) (g t g′ t′ : List ℕ) (looks : ℕ) → steps.Answer m k o fl g t g′ t′ ok looks → (cs : List (List ℕ)) → length cs ≡ m → MateTable d cs rows → Found d cs ok g′
-  finding-found o fl a ok g t g′ t′ looks r cs many mt =
-      subst (λ (z : ℕ). ((x : ℕ) → x < m * z → Across z rows o fl x) → steps.Answer m z o fl g t g′ t′ ok looks → Found d cs ok g′) (sym e)
-      (λ a r. found d m cs many rows mt (w .few) o fl a ok g t g′ t′ looks r) a r

@@ -9,6 +9,7 @@ use Rattle.complex.specs.Facets.{slots}
 use Rattle.complex_mates.specs.Table.{none, MateTable}
 use Rattle.multiindex.specs.Sign.{Sign, plus, minus}
 use Rattle.orientation_signs.specs.Signs.{Coherent, Oriented}
+use Rattle.orientation_signs.specs.Looks.{looksOf}
 
 -- the sign that the walk's number stands for
 abbrev pub signOf : ℕ → Sign
@@ -39,7 +40,8 @@ pub record Finding (d m : ℕ) (rows keys spare counts : List ℕ) : Type 0 wher
   pub few : m * suc d < none
   pub small : d < none
 
--- what it gives: the signs, or that there are none
-pub record Found (d : ℕ) (cs : List (List ℕ)) (ok : Bool) (marks : List ℕ) : Type 0 where
+-- what it gives: the signs, or that there are none; and the looks of the walk
+pub record Found (d : ℕ) (cs : List (List ℕ)) (ok : Bool) (looks : ℕ) (marks : List ℕ) : Type 0 where
   pub yes : ok ≡ true → Oriented d cs (λ c. signOf (getD marks c 0))
   pub no : ok ≡ false → (σ : ℕ → Sign) → Coherent d cs σ → ⊥
+  pub made : looks ≡ looksOf d cs

@@ -8,7 +8,13 @@ ghost use lib.ListN.{length, getD, take};
 ghost use Rattle.complex_mates.specs.Table.{MateTable};
 ghost use Rattle.orientation_signs.specs.WorkFound.{Finding, Found, markNumber, handedOut};
 
-// Finds coherent signs for m cells from their table of mates, which stands in `rows`: 1 for + and 2 for -, in `counts`. False where there are none.
+// What a search for coherent signs comes to: whether it found them, and its facet looks.
+pub struct Searched {
+    pub found: bool,
+    pub looks: u32,
+}
+
+// Finds coherent signs for m cells from their table of mates, which stands in `rows`: 1 for + and 2 for -, in `counts`. Not found exactly where there are none.
 pub fn coherent(
     d: usize,
     m: usize,
@@ -16,14 +22,17 @@ pub fn coherent(
     keys: &mut [u32],
     spare: &mut [u32],
     counts: &mut [u32],
-) -> bool
+) -> Searched
     requires { ⌜ Finding d m (now rows) (now keys) (now spare) (now counts) ⌝ }
-    ensures { λ r. ⌜ ((cs : List (List ℕ)) → length cs ≡ m → MateTable d cs (now (rows .entry)) → Found d cs r (now (counts .exit))) ⌝ }
+    ensures { λ r. ⌜ ((cs : List (List ℕ)) → length cs ≡ m → MateTable d cs (now (rows .entry)) → Found d cs (r .found) (r .looks) (now (counts .exit))) ⌝ }
 {
     let k = complex_mates::slots(d);
     complex_mates::across(k, m * k, rows, keys, spare);
     let walked = orientation_walk::walk(m, k, keys, spare, counts, rows);
-    walked.ok
+    Searched {
+        found: walked.ok,
+        looks: walked.looks as u32,
+    }
 }
 
 // Hands the signs out: +1 for 1, else -1.

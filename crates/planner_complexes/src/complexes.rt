@@ -1,5 +1,6 @@
 // The calls on cell lists.
 use planner_passing::said;
+ghost use mathlib.Core.Path.{_≡_};
 ghost use lib.ListN.{length};
 ghost use Rattle.complex.specs.Room.{needOf};
 ghost use Rattle.complex.specs.Cells.{cellsOf};
@@ -8,7 +9,7 @@ ghost use Rattle.skeleton.specs.Promise.{Listed, FacetsListed};
 ghost use Rattle.skeleton.specs.Parts.{edgeNeed};
 ghost use Rattle.orientation.specs.Promise.{Orientation};
 ghost use Rattle.orientation_by.specs.Promise.{OrientBy};
-ghost use Rattle.planner_passing.specs.Said.{Said, countedCode, verdictCode};
+ghost use Rattle.planner_passing.specs.Said.{Said, countedCode, coherenceCode, coherenceLooks, verdictCode};
 
 // The cells, d+1 vertices each, in colex order without repeats: how many. Refused: 1, 2, 3, 4, 6, 5, then 12 where a working list is too short, then 7, 12 where the
 // cell list is too short.
@@ -101,10 +102,38 @@ pub extern "C" fn planner_orientation(
     counts: &mut [u32],
 ) -> u64
     ensures { λ r.
-        ⌜ Said countedCode (λ a. Orientation d (now (words .entry)) a (now (signs .entry)) (now (signs .exit)) (now (keys .entry)) (now (keys .exit)) (now (rows .entry)) (now (rows .exit))
+        ⌜ Said coherenceCode (λ a. Orientation d (now (words .entry)) a (now (signs .entry)) (now (signs .exit)) (now (keys .entry)) (now (keys .exit)) (now (rows .entry)) (now (rows .exit))
         (now (spare .entry)) (now (spare .exit)) (now (counts .entry)) (now (counts .exit))) r ⌝ }
 {
-    said::counted(orientation::orientation(d, words, signs, keys, rows, spare, counts))
+    said::counted(orientation::counted(orientation::orientation(
+        d,
+        words,
+        signs,
+        keys,
+        rows,
+        spare,
+        counts,
+    )))
+}
+
+// The same with the facet looks of the walk, in `looks`: on success d + 1 a cell, none in dimension 0; on 13 those up to the conflict. Another refusal leaves `looks`.
+#[no_mangle]
+pub extern "C" fn planner_orientation_looks(
+    d: u32,
+    words: &[u32],
+    signs: &mut [i32],
+    keys: &mut [u32],
+    rows: &mut [u32],
+    spare: &mut [u32],
+    counts: &mut [u32],
+    looks: &mut [u32; 1],
+) -> u64
+    ensures { λ r.
+        ⌜ Said coherenceCode (λ a. Orientation d (now (words .entry)) a (now (signs .entry)) (now (signs .exit)) (now (keys .entry)) (now (keys .exit)) (now (rows .entry)) (now (rows .exit))
+        (now (spare .entry)) (now (spare .exit)) (now (counts .entry)) (now (counts .exit)) × (now (looks .exit) ≡ coherenceLooks a (now (looks .entry)))) r ⌝ }
+{
+    let said = orientation::orientation(d, words, signs, keys, rows, spare, counts);
+    said::coherence(said, looks)
 }
 
 // 1 exactly if the signs are coherent, else 0; in dimension 0 always 0. Refused: 1, 2, 3, 4, 6, 5, then 12 where a working list is too short, then 7, 14 where the

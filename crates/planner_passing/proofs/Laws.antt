@@ -18,11 +18,14 @@ use Rattle.quotient.specs.declared.Made.{Made}
 use Rattle.quotient.specs.declared.Made.the-variants.{Taken, Refused}
 use Rattle.grid_lengths.specs.declared.EdgeLength.{EdgeLength}
 use Rattle.grid_lengths.specs.declared.EdgeLength.the-variants as EdgeLength
+use Rattle.orientation.specs.declared.Coherence.{Coherence}
+use Rattle.orientation.specs.declared.Coherence.the-variants as Coherence
+use Rattle.refusal.specs.Table.{noSigns}
 use Rattle.refusal.specs.declared.Answer.{Answer}
 use Rattle.refusal.specs.declared.Answer.the-variants as Answer
 use Rattle.refine_results.specs.declared.Refinement.{Refinement}
 use Rattle.refine_results.specs.declared.Refinement.the-variants as Refinement
-use Rattle.planner_passing.specs.Said.{refusedCode, madeCode, madeAxes, lengthCode, lengthSquares, refinedCode, refinedVertices, answerCode, answerList}
+use Rattle.planner_passing.specs.Said.{refusedCode, coherenceCode, coherenceLooks, madeCode, madeAxes, lengthCode, lengthSquares, refinedCode, refinedVertices, answerCode, answerList}
 use Rattle.planner_passing.specs.Given.{glueOf, axisGiven, sidesGiven, gridGiven, entry, sideGiven, gluesGiven, glueCode, axesOf}
 
 -- a list's element does not turn on what stands past its end
@@ -122,6 +125,18 @@ pub refined-made : (s : Refinement) {children total : ℕ} (vertices : List ℕ)
     → (children ≡ refinedCode s) × (set vertices 0 total ≡ refinedVertices s vertices)
 unfolding refinedCode refinedVertices
 refined-made s vertices e = (sym (ap refinedCode e), sym (ap (λ (x : Refinement). refinedVertices x vertices) e))
+
+pub coherence-refused : (s : Coherence) {n p r : ℕ} (list : List ℕ) → s ≡ Coherence.Refused n p → r ≡ refusedCode n p → (r ≡ coherenceCode s) × (list ≡ coherenceLooks s list)
+unfolding coherenceLooks
+coherence-refused s list e h = (h ∙ sym (ap coherenceCode e), sym (ap (λ (x : Coherence). coherenceLooks x list) e))
+
+pub coherence-one-sided : (s : Coherence) {seen r : ℕ} (list : List ℕ) → s ≡ Coherence.OneSided seen → r ≡ refusedCode noSigns 0 → (r ≡ coherenceCode s) × (set list 0 seen ≡ coherenceLooks s list)
+unfolding coherenceLooks
+coherence-one-sided s list e h = (h ∙ sym (ap coherenceCode e), sym (ap (λ (x : Coherence). coherenceLooks x list) e))
+
+pub coherence-signs : (s : Coherence) {cells seen : ℕ} (list : List ℕ) → s ≡ Coherence.Signs cells seen → (cells ≡ coherenceCode s) × (set list 0 seen ≡ coherenceLooks s list)
+unfolding coherenceLooks
+coherence-signs s list e = (sym (ap coherenceCode e), sym (ap (λ (x : Coherence). coherenceLooks x list) e))
 
 -- a refusal beside a value: its code, and the lists stay
 pub code-refused : (a : Answer) (n p x r : ℕ) → a ≡ Answer.Refused n p → r ≡ refusedCode n p → r ≡ answerCode a x

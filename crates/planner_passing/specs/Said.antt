@@ -15,6 +15,9 @@ use Rattle.quotient.specs.declared.Parity.the-variants as Parity
 use Rattle.quotient.specs.declared.GluedVertex.{GluedVertex}
 use Rattle.quotient.specs.declared.Reduced.{Reduced}
 use Rattle.quotient.specs.declared.Reduced.the-variants as Reduced
+use Rattle.orientation.specs.declared.Coherence.{Coherence}
+use Rattle.orientation.specs.declared.Coherence.the-variants as Coherence
+use Rattle.orientation.specs.Promise.{countedOf}
 use Rattle.ordering.specs.declared.Ordered.{Ordered}
 use Rattle.ordering.specs.declared.Ordered.the-variants as Ordered
 use Rattle.grid_order.specs.declared.Triangulated.{Triangulated}
@@ -35,6 +38,16 @@ refusedCode number place = number * 4294967296 + place
 abbrev pub countedCode : Counted → ℕ
 countedCode (Counted.Count n) = n
 countedCode (Counted.Refused number place) = refusedCode number place
+
+-- signs, or that there are none: a count without the looks, 13 at place 0 where no coherent signs exist
+abbrev pub coherenceCode : Coherence → ℕ
+coherenceCode said = countedCode (countedOf said)
+
+-- the facet looks, with signs and where none exist; on another refusal what stood there
+unfoldable pub coherenceLooks : Coherence → List ℕ → List ℕ
+coherenceLooks (Coherence.Signs cells looks) list = set list 0 looks
+coherenceLooks (Coherence.OneSided looks) list = set list 0 looks
+coherenceLooks (Coherence.Refused number place) list = list
 
 -- 1 for yes, 0 for no
 abbrev pub verdictCode : Verdict → ℕ

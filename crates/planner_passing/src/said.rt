@@ -3,6 +3,7 @@ use crate::given;
 use grid_lengths::EdgeLength;
 use grid_order::Triangulated;
 use ordering::Ordered;
+use orientation::Coherence;
 use quotient::Made;
 use quotient::Parity;
 use quotient::Reduced;
@@ -11,10 +12,11 @@ use refine_values::OneBirth;
 use refine_values::OneChild;
 use refusal::Answer;
 use refusal::Counted;
+use refusal::NO_SIGNS;
 use refusal::Verdict;
 ghost use mathlib.Core.Path.{_≡_};
 ghost use Prim.Native.Nat.{_+_, _*_};
-ghost use Rattle.planner_passing.specs.Said.{refusedCode, countedCode, verdictCode, parityCode, reducedCode, madeCode, madeAxes, orderedCode, triangulatedCode, lengthCode, lengthSquares, refinedCode, refinedVertices, answerCode, answerList};
+ghost use Rattle.planner_passing.specs.Said.{refusedCode, countedCode, coherenceCode, coherenceLooks, verdictCode, parityCode, reducedCode, madeCode, madeAxes, orderedCode, triangulatedCode, lengthCode, lengthSquares, refinedCode, refinedVertices, answerCode, answerList};
 
 // A refusal.
 pub fn refused(number: u32, place: u32) -> u64
@@ -30,6 +32,24 @@ pub fn counted(said: Counted) -> u64
     match said {
         Counted::Count(n) => n as u64,
         Counted::Refused(number, place) => refused(number, place),
+    }
+}
+
+// Signs, or that there are none: the count without the looks. The looks go to the list; another refusal leaves it as it was.
+pub fn coherence(said: Coherence, looks: &mut [u32; 1]) -> u64
+    ensures { λ r. ⌜ r ≡ coherenceCode said ⌝ }
+    ensures { λ _. ⌜ now (looks .exit) ≡ coherenceLooks said (now (looks .entry)) ⌝ }
+{
+    match said {
+        Coherence::Refused(number, place) => refused(number, place),
+        Coherence::OneSided(seen) => {
+            looks[0] = seen;
+            refused(NO_SIGNS, 0)
+        }
+        Coherence::Signs(cells, seen) => {
+            looks[0] = seen;
+            cells as u64
+        }
     }
 }
 

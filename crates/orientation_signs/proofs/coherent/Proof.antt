@@ -1,5 +1,6 @@
--- `orientation_signs::coherent` meets its contract: the walk's links are the cells' mates (proofs/Linking). Assumes nothing.
-use Rattle.orientation_signs.proofs.Linking.{finding-few, finding-crossing, finding-links, finding-found}
+-- `orientation_signs::coherent` meets its contract: the walk's links are the cells' mates, and its looks are those of the defined walk (proofs/Finding). Assumes nothing.
+use Rattle.orientation_signs.proofs.Linking.{finding-few, finding-crossing, finding-links}
+use Rattle.orientation_signs.proofs.Finding.{finding-found}
 use mathlib.Core.Path.{_≡_, refl, sym, ap, _∙_, subst}
 use mathlib.Core.List.{List, [], _∷_, _++_}
 use Prim.Native.Nat.{ℕ, zero, suc, _+_, _*_, _-_, _/_, _%_, _≤_, _<_}
@@ -29,6 +30,13 @@ walk-requires c κs =
     let a = c .before .before .before .before .before .before .before .before .across in
     (finding-links (s .args .d) (s .args .m) (s .args .rows .now) (s .args .keys .now) (s .args .spare .now) (s .args .counts .now) (s .pre) (c .before .before .before .before .before .before .before .before .before .before .before .before .slots .result) (c .before .before .before .before .before .before .before .before .before .before .before .before .slots .ensures) (a .last .1 .1 .1 .0) (a .last .1 .1 .1 .1 .0) (a .kept .1 .1 .1 .0) (a .kept .1 .1 .1 .1 .0) (a .ensures), s .pre .counts-long, s .pre .stack-long)
 
+-- the looks are at most the slots
+cast-t25 : tie.Need-cast-t25
+cast-t25 c =
+    let s = c .before .before .before .before .before .before .before .before .before .before .before .before .before .before .before .before .before .before .before .before .before .before .before in
+    let k = c .before .before .before .before .before .before .before .before .before .before .before .before .before .before .before .before .before .before .slots in
+    record { fits = omega (arith, c .before .before .before .before .before .walk .ensures .most, finding-few (s .args .d) (s .args .m) (s .args .rows .now) (s .args .keys .now) (s .args .spare .now) (s .args .counts .now) (s .pre) (k .result) (k .ensures)) }
+
 same-length : tie.Need-same-length
 same-length c = search needs
 
@@ -43,9 +51,11 @@ same-length-4 c = search needs
 
 returns : tie.Need-returns
 returns c =
-    let s = c .before .before .before .before .before .before .before .before .before .before .before .before .before .before .before .before .before .before .before .before .before .before in
-    let a = c .before .before .before .before .before .before .before .before .before .before .before .before .before .across in
-    finding-found (s .args .d) (s .args .m) (s .args .rows .now) (s .args .keys .now) (s .args .spare .now) (s .args .counts .now) (s .pre) (c .before .before .before .before .before .before .before .before .before .before .before .before .before .before .before .before .before .slots .result) (c .before .before .before .before .before .before .before .before .before .before .before .before .before .before .before .before .before .slots .ensures) (a .last .1 .1 .1 .0) (a .last .1 .1 .1 .1 .0) (a .ensures) (c .before .before .before .before .walk .result .ok) _ _ _ _ _ (c .before .before .before .before .walk .ensures)
+    let s = c .before .before .before .before .before .before .before .before .before .before .before .before .before .before .before .before .before .before .before .before .before .before .before in
+    let k = c .before .before .before .before .before .before .before .before .before .before .before .before .before .before .before .before .before .before .slots in
+    let a = c .before .before .before .before .before .before .before .before .before .before .before .before .before .before .across in
+    let w = c .before .before .before .before .before .walk in
+    finding-found (s .args .d) (s .args .m) (s .args .rows .now) (s .args .keys .now) (s .args .spare .now) (s .args .counts .now) (s .pre) (k .result) (k .ensures) (a .last .1 .1 .1 .0) (a .last .1 .1 .1 .1 .0) (a .kept .1 .1 .1 .0) (a .kept .1 .1 .1 .1 .0) (a .ensures) (w .result .ok) _ _ _ (w .ensures)
 
 pub coherent-spec : {M : Type 1} → statement M
 coherent-spec =
@@ -55,6 +65,7 @@ coherent-spec =
     mul-across
     across-requires
     walk-requires
+    cast-t25
     same-length
     same-length-2
     same-length-3
