@@ -21,7 +21,7 @@ use Rattle.refusal.specs.Table.{badDimension, unreadable}
 use Rattle.bandsum_line.specs.declared.Line.{Line}
 use Rattle.bandsum_line.specs.declared.Line.the-variants.{Taken, Refused}
 use Rattle.bandsum_line.specs.Grammar.{Front, nothing, front, isDigit, isAxisDigit, andThen, after, digitsFrom, countFrom, setFrom, glueFrom, gluedFrom, axisFrom, axisAt, gridFrom, lineEnds, ended, readLine, unitSides, space}
-use Rattle.bandsum_line.specs.Parts.{begins}
+use Rattle.bandsum_line.specs.WorkParts.{begins}
 
 module _ (bs : List ℕ) (at : ℕ) where
   -- the byte at the position, and those after it; past the end there is none

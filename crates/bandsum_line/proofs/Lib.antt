@@ -1,4 +1,4 @@
--- Laws that the proofs of `line` cite.
+-- Laws that the proofs of `bandsum_line` cite.
 pub mod Front
 pub mod Numerals
 pub mod Figures

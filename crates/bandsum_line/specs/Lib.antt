@@ -1,3 +1,3 @@
--- What the contracts of `line` cite.
+-- What the contracts of `bandsum_line` cite.
 pub mod Grammar
-pub mod Parts
+pub mod WorkParts

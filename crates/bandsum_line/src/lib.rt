@@ -1,4 +1,5 @@
 // The line that the program reads: a dimension, then for each axis a count and how it is glued, then a line feed.
+// The port added it, with the program.
 //
 // Each part of the line has a function that begins at a position and says what it read and where it stopped, or that nothing of the kind stands there. Whatever the
 // bytes are, `read` answers: with the grid, or with 1 where the first digit is no grid's dimension, or with 17.
@@ -6,7 +7,7 @@ ghost use mathlib.Core.Path.{_≡_};
 ghost use Prim.Native.Nat.{ℕ, _<_, _^_};
 ghost use lib.ListN.{drop};
 ghost use Rattle.bandsum_line.specs.Grammar.{isDigit, isAxisDigit, lineEnds, digitsFrom, countFrom, setFrom, glueFrom, gluedFrom, axisFrom, axisAt, gridFrom, readLine};
-ghost use Rattle.bandsum_line.specs.Parts.{begins, numberOf, setOf, gluingOf, axisReadOf, gridReadOf};
+ghost use Rattle.bandsum_line.specs.WorkParts.{begins, numberReadOf, setOf, gluingOf, axisReadOf, gridReadOf};
 use grid_sides::Sides;
 use quotient::Axis;
 use quotient::Glue;
@@ -79,7 +80,7 @@ fn has(bytes: &[u8], at: usize, b: u8) -> bool
 // The number whose first digit is n and which goes on at the position, four digits at most.
 fn digits(bytes: &[u8], at: usize, first: u32) -> Number
     requires { ⌜ first < 10 ⌝ }
-    ensures { λ r. ⌜ numberOf (now (bytes .entry)) r ≡ digitsFrom 3 first (drop at (now (bytes .entry))) ⌝ }
+    ensures { λ r. ⌜ numberReadOf (now (bytes .entry)) r ≡ digitsFrom 3 first (drop at (now (bytes .entry))) ⌝ }
 {
     let mut n = first;
     let mut i = at;
@@ -101,7 +102,7 @@ fn digits(bytes: &[u8], at: usize, first: u32) -> Number
 
 // The count at the position: one to four digits, and no 0 before others.
 fn count(bytes: &[u8], at: usize) -> Number
-    ensures { λ r. ⌜ numberOf (now (bytes .entry)) r ≡ countFrom (drop at (now (bytes .entry))) ⌝ }
+    ensures { λ r. ⌜ numberReadOf (now (bytes .entry)) r ≡ countFrom (drop at (now (bytes .entry))) ⌝ }
 {
     if at >= bytes.len() {
         return Number::Nothing;

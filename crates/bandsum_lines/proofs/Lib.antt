@@ -1,3 +1,3 @@
--- Laws that the proofs of `summary` cite.
+-- Laws that the proofs of `bandsum_lines` cite.
 pub mod Laws
 pub mod Figures

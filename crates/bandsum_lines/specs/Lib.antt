@@ -1,2 +1,2 @@
--- What the contracts of `summary` cite.
+-- What the contracts of `bandsum_lines` cite.
 pub mod Lines

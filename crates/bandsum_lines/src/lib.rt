@@ -1,4 +1,5 @@
 // What the program `bandsum` prints: six lines on a grid, or the one line of a refusal.
+// The port added it, with the program.
 ghost use mathlib.Core.Path.{_≡_};
 ghost use Rattle.text.specs.Adds.{holding};
 ghost use Rattle.bandsum_lines.specs.Lines.{linesOf, refusedLine};

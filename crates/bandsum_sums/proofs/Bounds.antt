@@ -21,7 +21,7 @@ use Rattle.complex_mates.proofs.Meeting.{slots-most}
 use Rattle.ordering.proofs.Orders.{order-length}
 use Rattle.skeleton.proofs.Laws.{cells-from, edges-from, facets-from}
 use Rattle.quotient.specs.declared.Grid.{Grid}
-use Rattle.quotient.specs.Shape.{checkOf, cellsOf}
+use Rattle.quotient.specs.Shape.{checkOf, cellCount}
 use Rattle.quotient.proofs.Taken.{taken-cells}
 use Rattle.grid_words.specs.Cells.{flatWords}
 use Rattle.grid_words.proofs.Corners.{dim}
@@ -118,7 +118,7 @@ module _ (g : Grid) (fine : checkOf g ≡ Fine) where
   pub words-most : length (flatWords g) ≤ mostCorners
   words-most = omega (arith, words-long g fine, corners-most)
 
-  pub cells-most : length (gluedCells g) ≤ cellsOf g
+  pub cells-most : length (gluedCells g) ≤ cellCount g
   unfolding Complex.cellsOf
   cells-most =
       omega (

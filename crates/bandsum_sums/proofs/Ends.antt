@@ -35,7 +35,7 @@ use Rattle.orientation.specs.Promise.{Orientation}
 use Rattle.orientation.specs.Promise.Ends.{crowded as signs-crowded, one-sided, short as signs-short, signed}
 use Rattle.orientation.specs.Promise as Signs
 use Rattle.quotient.specs.declared.Grid.{Grid}
-use Rattle.quotient.specs.Shape.{checkOf, cellsOf, verticesOf, nverticesOf}
+use Rattle.quotient.specs.Shape.{checkOf, cellCount, verticesOf, nverticesOf}
 use Rattle.grid_words.specs.Cells.{flatWords}
 use Rattle.grid_words.proofs.Corners.{dim}
 use Rattle.grid_words.proofs.Good.{words-pass}
@@ -128,7 +128,7 @@ module _ (g : Grid) (cells order keys rows spare counts : List ℕ) (lc : mostCo
 
 -- ---- the words
 pub record Written (g : Grid) (r : Counted) (words words′ : List ℕ) : Type 0 where
-  pub many : countOf r ≡ cellsOf g
+  pub many : countOf r ≡ cellCount g
   pub is : words′ ≡ onto (flatWords g) words
 
 module _ (g : Grid) (sound : Sound g) (words keys rows spare counts : List ℕ) (lw : mostCorners ≤ length words) (lk : mostListed ≤ length keys) (lr : mostCorners ≤ length rows) (ls : mostCorners ≤ length spare) (ln : mostCorners ≤ length counts) where

@@ -1,3 +1,3 @@
--- What the contracts of `sums` cite.
+-- What the contracts of `bandsum_sums` cite.
 pub mod Promise
 pub mod Work

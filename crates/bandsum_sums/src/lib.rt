@@ -1,4 +1,5 @@
 // From the program's bytes to the text that it prints: the line is read, the grid is glued, and six things are told of it.
+// The port added it, with the program.
 //
 // A grid that is taken has at most 4,096 cells of four corners, so CORNERS numbers hold its words, its cells or its order. LISTED hold its edges (six a cell, two
 // numbers each) or its border (four facets a cell, three numbers each). With lists of these lengths no call meets 12.

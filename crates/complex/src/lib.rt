@@ -1,4 +1,5 @@
 // The check of a cell list: a flat list of words of d+1 vertex numbers each.
+// Follows what `Simplex::new`, `Skeleton::new` and `Complex::from_cells` assert (crates/simplicial/src/topology/simplex.rs, skeleton.rs, complex.rs).
 use refusal::Answer;
 use refusal::BAD_DIMENSION;
 use refusal::MOST_CELLS;

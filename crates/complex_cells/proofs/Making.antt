@@ -28,7 +28,7 @@ use Rattle.lists.specs.Rows.{cut}
 use Rattle.complex.specs.Cells.{inOrder, cellsOf}
 use Rattle.lists.proofs.Rows.{cut-length, cut-at}
 use Rattle.complex.specs.Facets.{cellAt, Cells}
-use Rattle.complex_cells.specs.Made.{Made}
+use Rattle.complex_cells.specs.WorkMade.{Made}
 use Rattle.complex_cells.proofs.Words.{Word, Each, Rising, In, each-of, in-at, at-in, rising-by, one-list}
 use Rattle.complex_cells.proofs.Order.{Colex, colex-irr, colex-trans, order-rising, order-from, order-has}
 use Rattle.complex_cells.proofs.Strict.{sort-all, sort-strict}

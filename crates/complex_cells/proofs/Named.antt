@@ -15,7 +15,7 @@ use Rattle.sorting.specs.Distinct.{Distinct}
 use Rattle.sorting.proofs.Colex.{row-length, same-row}
 use Rattle.complex.specs.Cells.{place}
 use Rattle.complex.specs.Skeleton.{inColex}
-use Rattle.complex_cells.specs.Named.{rowList, Naming, Named}
+use Rattle.complex_cells.specs.WorkNamed.{rowList, Naming, Named}
 use Rattle.complex_cells.proofs.Words.{Word, Each, Rising, In, each-of, each-in, in-at, at-in, rising-by, one-list}
 use Rattle.complex_cells.proofs.Order.{Colex, colex-irr, colex-trans, place-from, place-old, place-new, place-rising}
 use Rattle.complex_cells.proofs.Making.{colex-row}

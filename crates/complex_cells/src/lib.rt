@@ -1,5 +1,6 @@
 // The cells of a checked word list.
-ghost use Rattle.complex_cells.specs.Made.{Making, Made};
+// Follows `Skeleton::new` (crates/simplicial/src/topology/skeleton.rs): sorted, without repeats.
+ghost use Rattle.complex_cells.specs.WorkMade.{Making, Made};
 
 // Writes the cells, one after the other, to `rows`, and says how many there are.
 pub fn cells(

@@ -18,12 +18,12 @@ use Rattle.lists.specs.Rows.{cut}
 use Rattle.lists.proofs.Rows.{cut-length, cut-at}
 use Rattle.complex.specs.Facets.{cellAt, Cells}
 use Rattle.complex.specs.Skeleton.{pairsWith, pairsOf, allPairs, edgesOf}
-use Rattle.complex_cells.specs.Named.{Named}
+use Rattle.complex_cells.specs.WorkNamed.{Named}
 use Rattle.complex_cells.proofs.Words.{Word, In}
 use Rattle.complex_cells.proofs.Named.{named}
 use Rattle.complex_mates.proofs.Laws.{row-fits, row-cell-below, row-slot-below}
 use Rattle.complex_mates.proofs.Places.{row-in, row-div, row-mod}
-use Rattle.complex_edges.specs.Pairs.{PairAt, Writing, Edging}
+use Rattle.complex_edges.specs.WorkPairs.{PairAt, Writing, Edging}
 
 -- ---- pairs of a word
 in-left : (r : Word) (xs ys : List Word) → In r xs → In r (xs ++ ys)

@@ -9,7 +9,7 @@ use native.Mathlib.Omega.{arith}
 use lib.ListN.{length, getD, set, length-set}
 use lib.Seq.{getD-set-same, getD-set-other}
 use Rattle.complex_mates.proofs.Laws.{row-fits, slots-some, row-cell-below, row-slot-below}
-use Rattle.complex_edges.specs.Pairs.{PairAt, Writing}
+use Rattle.complex_edges.specs.WorkPairs.{PairAt, Writing}
 
 -- what a turn of the loop knows
 pub record Turn (d : ℕ) (cells keys : List ℕ) (x : ℕ) : Type 0 where

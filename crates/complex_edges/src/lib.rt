@@ -1,10 +1,11 @@
 // The edges of cells: each pair of vertices of a cell is a row, and the distinct rows in colex order are the edges.
+// Follows the 1-skeleton of `Complex::from_cells` and `Complex::edges` (crates/simplicial/src/topology/complex.rs).
 ghost use mathlib.Core.Path.{_≡_};
 ghost use Prim.Native.Nat.{ℕ, suc, _*_, _<_, min};
 ghost use Rattle.lists.specs.Rows.{cut};
 ghost use Rattle.complex.specs.Skeleton.{edgesOf};
-ghost use Rattle.complex_cells.specs.Named.{Named};
-ghost use Rattle.complex_edges.specs.Pairs.{PairAt, Writing, Edging};
+ghost use Rattle.complex_cells.specs.WorkNamed.{Named};
+ghost use Rattle.complex_edges.specs.WorkPairs.{PairAt, Writing, Edging};
 
 // The smaller of two numbers.
 fn lesser(a: usize, b: usize) -> usize

@@ -15,11 +15,11 @@ use Rattle.lists.proofs.Front.{put}
 use Rattle.sorting.specs.Gather.{row}
 use Rattle.complex.specs.Facets.{Crowded}
 use Rattle.complex.specs.Skeleton.{facetsOf, rowsWith, onlyIf, keepIf, keep, borderOf}
-use Rattle.complex_cells.specs.Named.{rowList, Naming, Named}
+use Rattle.complex_cells.specs.WorkNamed.{rowList, Naming, Named}
 use Rattle.complex_cells.proofs.Words.{Word}
 use Rattle.complex_cells.proofs.Named.{rowList-append, rowList-at}
 use Rattle.complex_mates.specs.Table.{none}
-use Rattle.complex_facets.specs.Classes.{Classes, loneRows}
+use Rattle.complex_facets.specs.WorkClasses.{Classes, loneRows}
 
 -- ---- the loop
 pub lone-skip : (i : ℕ) (reps others : List ℕ) → (getD others i 0 ≡ none → ⊥) → loneRows (i + 1) reps others ≡ loneRows i reps others

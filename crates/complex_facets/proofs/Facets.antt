@@ -18,13 +18,13 @@ use Rattle.lists.specs.Rows.{cut}
 use Rattle.lists.proofs.Rows.{cut-length, cut-at}
 use Rattle.complex.specs.Facets.{cellAt, facetAt, Crowded, Cells, slots}
 use Rattle.complex.specs.Skeleton.{inColex, tab, facetRowOf, facetsOf, sameWord, numbers, rowsWith}
-use Rattle.complex_cells.specs.Named.{rowList, Naming, Named}
+use Rattle.complex_cells.specs.WorkNamed.{rowList, Naming, Named}
 use Rattle.complex_cells.proofs.Words.{Word, In}
 use Rattle.complex_cells.proofs.Named.{named, rowList-at}
 use Rattle.complex_mates.specs.Table.{none, Written, Grouped, Three, Meeting}
 use Rattle.complex_mates.proofs.Laws.{row-fits, row-cell-below}
 use Rattle.complex_mates.proofs.Meeting.{crowd, grouped, slots-most}
-use Rattle.complex_facets.specs.Classes.{Seconds, Seeking, Classes}
+use Rattle.complex_facets.specs.WorkClasses.{Seconds, Seeking, Classes}
 use Rattle.complex_facets.proofs.Numbers.{same-word, word-true, word-false, numbers-one, numbers-two, tab-in, in-tab}
 
 module _ (d m b : ℕ) (keys rows spare counts : List ℕ) (a : Meeting d m b keys rows spare counts) (keys′ : List ℕ) (l : length keys′ ≡ length keys) (w : Written d (slots d) rows keys′ (m * slots d))

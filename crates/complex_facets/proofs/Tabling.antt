@@ -14,11 +14,11 @@ use borrow.Author.Tests.{eq-eqb, ne-eqb}
 use Rattle.lists.proofs.Front.{put}
 use Rattle.complex.specs.Facets.{Crowded, slots}
 use Rattle.complex.specs.Skeleton.{facetsOf, rowsWith}
-use Rattle.complex_cells.specs.Named.{Named}
+use Rattle.complex_cells.specs.WorkNamed.{Named}
 use Rattle.complex_cells.proofs.Words.{Word}
 use Rattle.complex_cells.proofs.Named.{named-many}
 use Rattle.complex_mates.specs.Table.{none}
-use Rattle.complex_facets.specs.Classes.{Classes}
+use Rattle.complex_facets.specs.WorkClasses.{Classes}
 use Rattle.complex_facets.specs.Sides.{sideOf, sidesOf, eachSides, tableOf, orNone, cellOf, placeOf, fourOf, fours}
 
 snoc-length : (p : List ℕ) (a n : ℕ) → length p ≡ n → length (p ++ (a ∷ [])) ≡ n + 1

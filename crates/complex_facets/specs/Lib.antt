@@ -1,2 +1,2 @@
-pub mod Classes
+pub mod WorkClasses
 pub mod Sides

@@ -1,4 +1,5 @@
 // The facets of cells, each with the one or two cells that it lies in.
+// Follows `Complex::facets` and `Complex::boundary_facets` (crates/simplicial/src/topology/complex.rs).
 ghost use mathlib.Core.List.{_++_};
 ghost use mathlib.Core.Path.{_≡_};
 ghost use Prim.Native.Nat.{ℕ, suc, _*_, _<_, _≤_};
@@ -6,7 +7,7 @@ ghost use lib.ListN.{length, drop};
 ghost use Rattle.lists.specs.Rows.{cut};
 ghost use Rattle.complex.specs.Facets.{slots};
 ghost use Rattle.complex_mates.specs.Table.{Meeting};
-ghost use Rattle.complex_facets.specs.Classes.{Seconds, Seeking, Classes, loneRows};
+ghost use Rattle.complex_facets.specs.WorkClasses.{Seconds, Seeking, Classes, loneRows};
 ghost use Rattle.complex_facets.specs.Sides.{cellOf, placeOf, fours, Tabling};
 
 // No row: a facet in one cell has no second row.

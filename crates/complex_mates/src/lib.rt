@@ -1,4 +1,5 @@
 // Facet rows, and which two of them are one facet.
+// Follows `Complex::is_pseudomanifold` (crates/simplicial/src/topology/manifold.rs) and `Facet::adjacent_cells`.
 ghost use mathlib.Core.Bool.{true, false};
 ghost use mathlib.Core.Path.{_≡_};
 ghost use Prim.Native.Nat.{ℕ, suc, _+_, _-_, _*_, _/_, _%_, _<_, _≤_};

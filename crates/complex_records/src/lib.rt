@@ -1,4 +1,5 @@
 // The facet table as a list of records, one record for each facet: thin functions over lent lists of records, above covered ones that read the flat table which `skeleton::facets` hands out.
+// The port added it: the Rust asks a facet for its cells (`Facet::adjacent_cells`).
 use refusal::Counted;
 use refusal::MOST_CELLS;
 use refusal::RAGGED_WORDS;

@@ -23,12 +23,12 @@ use Rattle.quotient.specs.declared.Grid.{Grid}
 use Rattle.quotient.specs.Fold.{firstFrom, product, some}
 use Rattle.quotient.specs.Shape.{axisOf, badSet, checkOf, verticesOf}
 use Rattle.quotient.specs.Reduce.{restAt, reflectedBy, numberTo}
-use Rattle.quotient.specs.Points.{numberOf}
+use Rattle.quotient.specs.Points.{fromDigits}
 use Rattle.grid_words.specs.Cells.{met, gridCells}
 use Rattle.grid_mesh.specs.Words.{gluedCells}
 use Rattle.ordering.specs.Order.{sameWord, wordIf, wordOf, byCell, keepUnless, without, IsOrder, AgreeOnFacets}
 use Rattle.grid_order.specs.declared.Triangulated.the-variants as Triangulated
-use Rattle.grid_order.specs.Promise.{ownWords, wordsByCell, HandsOut, sizeOf}
+use Rattle.grid_order.specs.Promise.{ownWords, wordsByCell, HandsOut, cellsLength}
 use Rattle.grid_order.specs.Promise as Order
 use Rattle.bandsum_line.specs.declared.Line.the-variants as Line
 use Rattle.bandsum_line.specs.Grammar.{andThen, after, digitsFrom, countFrom, setFrom, glueFrom, gluedFrom, axisFrom, axisAt, gridFrom, lineEnds, ended, readLine}
@@ -58,11 +58,11 @@ abbrev ringOrder : Words
 ringOrder = (2 ∷ 0 ∷ 3 ∷ []) ∷ (0 ∷ 1 ∷ 4 ∷ []) ∷ (0 ∷ 3 ∷ 4 ∷ []) ∷ (1 ∷ 2 ∷ 5 ∷ []) ∷ (2 ∷ 5 ∷ 3 ∷ []) ∷ (1 ∷ 4 ∷ 5 ∷ []) ∷ []
 
 ring-cells : gluedCells ring ≡ ringCells
-unfolding cellsOf cut gridCells met inOrder place placed comesBefore decides sortWord insert insertBy numberOf product restAt reflectedBy numberTo axisOf
+unfolding cellsOf cut gridCells met inOrder place placed comesBefore decides sortWord insert insertBy fromDigits product restAt reflectedBy numberTo axisOf
 ring-cells = refl
 
 ring-words : ownWords ring ≡ ringWords
-unfolding cut gridCells met inOrder place placed comesBefore decides sortWord insert insertBy numberOf product restAt reflectedBy numberTo axisOf
+unfolding cut gridCells met inOrder place placed comesBefore decides sortWord insert insertBy fromDigits product restAt reflectedBy numberTo axisOf
 ring-words = refl
 
 ring-free : Crowded 2 ringCells → ⊥
@@ -125,10 +125,10 @@ ring-hands-out =
       agree = subst (λ (ks : Words). AgreeOnFacets 2 (gluedCells ring) ks) (sym (by-words ring ringCells ringWords ringOrder ring-cells ring-words ring-by)) (subst (λ (cs : Words). AgreeOnFacets 2 cs ringOrder) (sym ring-cells) ring-agree);
     }
 
-pub ring-ordered : Order.Ends ring (sizeOf ring) (sizeOf ring) (Triangulated.Ordered 6) (record { cells = flat (gluedCells ring); order = flat ringOrder })
+pub ring-ordered : Order.Ends ring (cellsLength ring) (cellsLength ring) (Triangulated.Ordered 6) (record { cells = flat (gluedCells ring); order = flat ringOrder })
 ring-ordered =
-    subst (λ (n : ℕ). Order.Ends ring (sizeOf ring) (sizeOf ring) (Triangulated.Ordered n) (record { cells = flat (gluedCells ring); order = flat ringOrder })) (ap length ring-cells)
-    (subst (λ (ks : Words). Order.Ends ring (sizeOf ring) (sizeOf ring) (Triangulated.Ordered (length (gluedCells ring))) (record { cells = flat (gluedCells ring); order = flat ks })) (by-words ring ringCells ringWords ringOrder ring-cells ring-words ring-by)
+    subst (λ (n : ℕ). Order.Ends ring (cellsLength ring) (cellsLength ring) (Triangulated.Ordered n) (record { cells = flat (gluedCells ring); order = flat ringOrder })) (ap length ring-cells)
+    (subst (λ (ks : Words). Order.Ends ring (cellsLength ring) (cellsLength ring) (Triangulated.Ordered (length (gluedCells ring))) (record { cells = flat (gluedCells ring); order = flat ks })) (by-words ring ringCells ringWords ringOrder ring-cells ring-words ring-by)
     (Order.ordered (subst (λ (cs : Words). Crowded 2 cs → ⊥) (sym ring-cells) ring-free) ring-hands-out (le-refl _) (le-refl _)))
 
 ring-taken : checkOf ring ≡ Fine
@@ -165,11 +165,11 @@ abbrev bandOrder : Words
 bandOrder = (2 ∷ 3 ∷ 0 ∷ []) ∷ (0 ∷ 1 ∷ 4 ∷ []) ∷ (0 ∷ 3 ∷ 4 ∷ []) ∷ (2 ∷ 5 ∷ 0 ∷ []) ∷ (1 ∷ 2 ∷ 5 ∷ []) ∷ (1 ∷ 4 ∷ 5 ∷ []) ∷ []
 
 band-cells : gluedCells band ≡ bandCells
-unfolding cellsOf cut gridCells met inOrder place placed comesBefore decides sortWord insert insertBy numberOf product restAt reflectedBy numberTo axisOf
+unfolding cellsOf cut gridCells met inOrder place placed comesBefore decides sortWord insert insertBy fromDigits product restAt reflectedBy numberTo axisOf
 band-cells = refl
 
 band-words : ownWords band ≡ bandWords
-unfolding cut gridCells met inOrder place placed comesBefore decides sortWord insert insertBy numberOf product restAt reflectedBy numberTo axisOf
+unfolding cut gridCells met inOrder place placed comesBefore decides sortWord insert insertBy fromDigits product restAt reflectedBy numberTo axisOf
 band-words = refl
 
 band-by : byCell bandWords bandCells ≡ bandOrder
@@ -192,9 +192,9 @@ band-no-order : HandsOut band → ⊥
 band-no-order h =
     band-differ (subst (λ (ks : Words). AgreeOnFacets 2 bandCells ks) (by-words band bandCells bandWords bandOrder band-cells band-words band-by) (subst (λ (cs : Words). AgreeOnFacets 2 cs (wordsByCell band)) band-cells (h .agree)))
 
-pub band-ordered : Order.Ends band (sizeOf band) (sizeOf band) (Triangulated.Unordered 6) (record { cells = flat (gluedCells band); order = flat [] })
+pub band-ordered : Order.Ends band (cellsLength band) (cellsLength band) (Triangulated.Unordered 6) (record { cells = flat (gluedCells band); order = flat [] })
 band-ordered =
-    subst (λ (n : ℕ). Order.Ends band (sizeOf band) (sizeOf band) (Triangulated.Unordered n) (record { cells = flat (gluedCells band); order = [] })) (ap length band-cells)
+    subst (λ (n : ℕ). Order.Ends band (cellsLength band) (cellsLength band) (Triangulated.Unordered n) (record { cells = flat (gluedCells band); order = [] })) (ap length band-cells)
     (Order.unordered (subst (λ (cs : Words). Crowded 2 cs → ⊥) (sym band-cells) band-free) band-no-order (le-refl _))
 
 -- round the band each sign forces the next, and the first comes back turned

@@ -56,7 +56,7 @@ Holds (reduced g vs) = map (vertexOf g) (upto (length vs)) ≡ vs
 Holds (has-words g ws) = wordsOf g ≡ ws
 Holds (has-cells g cs) = gluedCells g ≡ cs
 Holds (oriented g r signs) = Orientation.Ends (g .d) (gluedCells g) (length (gluedCells g)) r signs
-Holds (ordered g r ws) = Order.Ends g (Order.sizeOf g) (Order.sizeOf g) r (record { cells = flat (gluedCells g); order = flat ws })
+Holds (ordered g r ws) = Order.Ends g (Order.cellsLength g) (Order.cellsLength g) r (record { cells = flat (gluedCells g); order = flat ws })
 Holds (births d R w bs) = Refine.births d R (suc d) (w ∷ []) ≡ bs
 Holds (child-words d R w ws) = refinedWords d R (suc d) (w ∷ []) ≡ ws
 Holds (child-cells d R w cs) = refinedCells d R (suc d) (w ∷ []) ≡ cs

@@ -18,7 +18,7 @@ use Rattle.ordering.specs.Order.{sameWord, IsOrder, AgreeOnFacets}
 use Rattle.ordering.proofs.Orders.{same-true, true-same, order-length, same-order}
 use Rattle.quotient.specs.declared.Grid.{Grid}
 use Rattle.quotient.specs.Fold.{product, factorial, some}
-use Rattle.quotient.specs.Shape.{cellsOn, checkOf, cellsOf}
+use Rattle.quotient.specs.Shape.{cellsOn, checkOf, cellCount}
 use Rattle.quotient.proofs.Laws.{some-true}
 use Rattle.grid_words.specs.Cells.{wordsOf}
 use Rattle.grid_mesh.specs.Words.{gluedCells}
@@ -31,20 +31,20 @@ use Rattle.grid_laws.proofs.Twice.{two-words}
 
 module _ (g : Grid) (fine : checkOf g ≡ Fine) where
   -- no more cells than words
-  pub cells-most : length (gluedCells g) ≤ cellsOf g
+  pub cells-most : length (gluedCells g) ≤ cellCount g
   cells-most = omega (arith, ap length (glued-are g fine), order-length (suc (g .d)) (wordsOf g), words-many g fine)
 
   -- as many, exactly if no two words sort to one cell
-  pub apart-many : ((x y : ℕ) → x < y → y < cellsOf g → sortWord (wordNo g x) ≡ sortWord (wordNo g y) → ⊥) → length (gluedCells g) ≡ cellsOf g
+  pub apart-many : ((x y : ℕ) → x < y → y < cellCount g → sortWord (wordNo g x) ≡ sortWord (wordNo g y) → ⊥) → length (gluedCells g) ≡ cellCount g
   apart-many f =
       ap length (glued-are g fine)
       ∙ cells-many (suc (g .d)) (wordsOf g) (words-each g fine)
       (λ i j h l e.
-      let m : j < cellsOf g = omega (arith, words-many g fine) in
+      let m : j < cellCount g = omega (arith, words-many g fine) in
       f i j h m (ap sortWord (sym (word-is g fine i (omega arith))) ∙ e ∙ ap sortWord (word-is g fine j m)))
       ∙ words-many g fine
 
-  pub cells-apart : length (gluedCells g) ≡ cellsOf g → (x y : ℕ) → x < y → y < cellsOf g → sortWord (wordNo g x) ≡ sortWord (wordNo g y) → ⊥
+  pub cells-apart : length (gluedCells g) ≡ cellCount g → (x y : ℕ) → x < y → y < cellCount g → sortWord (wordNo g x) ≡ sortWord (wordNo g y) → ⊥
   cells-apart e x y h l q =
       many-apart (suc (g .d)) (wordsOf g) (words-each g fine) (ap length (sym (glued-are g fine)) ∙ e ∙ sym (words-many g fine)) x y h (omega (arith, words-many g fine))
       (ap sortWord (word-is g fine x (omega arith)) ∙ q ∙ ap sortWord (sym (word-is g fine y l)))
@@ -90,9 +90,9 @@ module _ (g : Grid) (fine : checkOf g ≡ Fine) where
             | no z ↦ f x y h (omega arith) e
           ])
 
-  pub as-many-or-seven : (length (gluedCells g) ≡ cellsOf g) ⊎ Crowded (g .d) (gluedCells g)
+  pub as-many-or-seven : (length (gluedCells g) ≡ cellCount g) ⊎ Crowded (g .d) (gluedCells g)
   as-many-or-seven =
       ⊎-elim
-      (λ (p : Pair (cellsOf g)). inr (two-words g fine (p .first) (p .second) (p .order) (p .within) (p .one)))
-      (λ (f : (x y : ℕ) → x < y → y < cellsOf g → sortWord (wordNo g x) ≡ sortWord (wordNo g y) → ⊥). inl (apart-many f))
-      (pair-or-not (cellsOf g))
+      (λ (p : Pair (cellCount g)). inr (two-words g fine (p .first) (p .second) (p .order) (p .within) (p .one)))
+      (λ (f : (x y : ℕ) → x < y → y < cellCount g → sortWord (wordNo g x) ≡ sortWord (wordNo g y) → ⊥). inl (apart-many f))
+      (pair-or-not (cellCount g))

@@ -21,7 +21,7 @@ use Rattle.complex.specs.Skeleton as Skeleton
 use Rattle.complex_cells.proofs.Words.{Word, Each, In, each-of, one-list}
 use Rattle.complex_cells.proofs.Order.{Colex, colex-irr, colex-trans, order-rising, order-from, order-has}
 use Rattle.quotient.specs.declared.Grid.{Grid}
-use Rattle.quotient.specs.Shape.{checkOf, cellsOf}
+use Rattle.quotient.specs.Shape.{checkOf, cellCount}
 use Rattle.quotient.specs.Reduce.{vertexOf}
 use Rattle.grid_words.proofs.Corners.{dim}
 use Rattle.grid_words.proofs.Flat.{to-tab, of-tab}
@@ -92,7 +92,7 @@ module _ (g : Grid) (fine : checkOf g ≡ Fine) where
       ∙ ap (λ (z : ℕ). vertexNo g (r / k) (firstEnd (r % k)) ∷ vertexOf g z ∷ []) (corner-at g fine (r / k) (secondEnd (r % k)) c)
 
   -- two corners of cell x are an edge of its glued cell
-  corners-edge : (x i j : ℕ) → x < cellsOf g → i < j → j ≤ g .d → In (min (vertexNo g x i) (vertexNo g x j) ∷ max (vertexNo g x i) (vertexNo g x j) ∷ []) (Skeleton.edgesOf (gluedCells g))
+  corners-edge : (x i j : ℕ) → x < cellCount g → i < j → j ≤ g .d → In (min (vertexNo g x i) (vertexNo g x j) ∷ max (vertexNo g x i) (vertexNo g x j) ∷ []) (Skeleton.edgesOf (gluedCells g))
   corners-edge x i j h l m =
       let r = two-in (sortWord (wordNo g x)) (vertexNo g x i) (vertexNo g x j) (sorted-rises g fine x h) (corner-mem g fine x (vertexNo g x i) h (i, omega arith, refl)) (corner-mem g fine x (vertexNo g x j) h (j, m, refl))
       (λ e. omega (arith, corner-one g fine x i j (omega arith) m e)) in
@@ -113,7 +113,7 @@ module _ (g : Grid) (fine : checkOf g ≡ Fine) where
       subst (λ (z : List ℕ). In z (edgesOf g)) (ap sortWord (ends-are r h ∙ rw (q, f, s)) ∙ two-sorted (vertexNo g x i) (vertexNo g x j))
       (order-has 2 (map ends (upto (visitsOf g))) (ends r) visits-long (subst (λ (ws : List Word). In (ends r) ws) (sym visits-tab) (to-tab ends (visitsOf g) r h)))
 
-  corners-visited : (x i j : ℕ) → x < cellsOf g → i < j → j ≤ g .d → In (min (vertexNo g x i) (vertexNo g x j) ∷ max (vertexNo g x i) (vertexNo g x j) ∷ []) (edgesOf g)
+  corners-visited : (x i j : ℕ) → x < cellCount g → i < j → j ≤ g .d → In (min (vertexNo g x i) (vertexNo g x j) ∷ max (vertexNo g x i) (vertexNo g x j) ∷ []) (edgesOf g)
   corners-visited x i j h l m =
       let e = edge-at (g .d) i j (dim g fine) m l in
       let p : (x * edgesEach (g .d) + edgeNo i j) % edgesEach (g .d) ≡ edgeNo i j = digits-mod x (e .0) in

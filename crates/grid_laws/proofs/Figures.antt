@@ -19,9 +19,9 @@ use Rattle.quotient.specs.declared.Glue.the-variants.{Open, Periodic, Twisted}
 use Rattle.quotient.specs.declared.Axis.{Axis}
 use Rattle.quotient.specs.declared.Grid.{Grid}
 use Rattle.quotient.specs.Fold.{product, firstFrom, some}
-use Rattle.quotient.specs.Shape.{noAxis, axisOf, badSet, checkOf, cellsOf}
+use Rattle.quotient.specs.Shape.{noAxis, axisOf, badSet, checkOf, cellCount}
 use Rattle.quotient.specs.Reduce.{restAt, reflectedBy, numberTo}
-use Rattle.quotient.specs.Points.{numberOf}
+use Rattle.quotient.specs.Points.{fromDigits}
 use Rattle.refusal.specs.declared.Answer.the-variants.{Fine}
 use Rattle.grid_words.specs.Cells.{met, gridCells}
 use Rattle.grid_lengths.specs.Edges.{edgesOf}
@@ -48,30 +48,30 @@ tangled-taken : checkOf tangled ≡ Fine
 unfolding checkOf badSet some firstFrom product axisOf
 tangled-taken = refl
 
-pub tangled-words : cellsOf tangled ≡ 18
+pub tangled-words : cellCount tangled ≡ 18
 unfolding product axisOf
 tangled-words = refl
 
 pub tangled-cells : length (gluedCells tangled) ≡ 17
-unfolding Complex.cellsOf cut gridCells met inOrder place placed comesBefore decides sortWord insert insertBy numberOf product restAt reflectedBy numberTo axisOf
+unfolding Complex.cellsOf cut gridCells met inOrder place placed comesBefore decides sortWord insert insertBy fromDigits product restAt reflectedBy numberTo axisOf
 tangled-cells = refl
 
 pub tangled-seven : Crowded 2 (gluedCells tangled)
 tangled-seven =
-    ⊎-elim (λ (e : length (gluedCells tangled) ≡ cellsOf tangled). absurd (let z : _≡_ {A = ℕ} 17 18 = sym tangled-cells ∙ e ∙ tangled-words in let w : ⊥ = omega arith in w)) (λ (c : Crowded 2 (gluedCells tangled)). c)
+    ⊎-elim (λ (e : length (gluedCells tangled) ≡ cellCount tangled). absurd (let z : _≡_ {A = ℕ} 17 18 = sym tangled-cells ∙ e ∙ tangled-words in let w : ⊥ = omega arith in w)) (λ (c : Crowded 2 (gluedCells tangled)). c)
     (as-many-or-seven tangled tangled-taken)
 
 abbrev band : Grid
 band = plane (axis 3 Periodic) (axis 1 Open)
 
 pub band-cells : length (gluedCells band) ≡ 6
-unfolding Complex.cellsOf cut gridCells met inOrder place placed comesBefore decides sortWord insert insertBy numberOf product restAt reflectedBy numberTo axisOf
+unfolding Complex.cellsOf cut gridCells met inOrder place placed comesBefore decides sortWord insert insertBy fromDigits product restAt reflectedBy numberTo axisOf
 band-cells = refl
 
 pub band-edges : length (edgesOf band) ≡ 12
-unfolding gridCells met inOrder place placed comesBefore decides sortWord insert insertBy numberOf product restAt reflectedBy numberTo axisOf
+unfolding gridCells met inOrder place placed comesBefore decides sortWord insert insertBy fromDigits product restAt reflectedBy numberTo axisOf
 band-edges = refl
 
 pub band-border : length (borderOf 2 (gluedCells band)) ≡ 6
-unfolding inColex tab numbers keep Complex.cellsOf cut gridCells met inOrder place placed comesBefore decides sortWord insert insertBy numberOf product restAt reflectedBy numberTo axisOf
+unfolding inColex tab numbers keep Complex.cellsOf cut gridCells met inOrder place placed comesBefore decides sortWord insert insertBy fromDigits product restAt reflectedBy numberTo axisOf
 band-border = refl

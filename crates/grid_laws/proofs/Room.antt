@@ -8,7 +8,7 @@ use borrow.Author.Tests.{leb-true}
 use Rattle.refusal.specs.declared.Answer.the-variants.{Fine}
 use Rattle.multiindex.proofs.Tables.{at-below}
 use Rattle.quotient.specs.declared.Grid.{Grid}
-use Rattle.quotient.specs.Shape.{checkOf, sidesCheckOf, cellsOf}
+use Rattle.quotient.specs.Shape.{checkOf, sidesCheckOf, cellCount}
 use Rattle.quotient.proofs.Taken.{sides-taken}
 use Rattle.grid_words.proofs.Corners.{dim}
 use Rattle.grid_mesh.specs.Words.{cornersOf, gridNeed}
@@ -38,7 +38,7 @@ pub lengths-bound : (g : Grid) → sidesCheckOf g ≡ Fine → sum (lengthsNeed 
 lengths-bound g fine =
     omega (
       arith,
-      mul-le-mul-left (cellsOf g) (ends-most (g .d) (dim g (sides-taken g fine))),
-      mul-assoc (cellsOf g) (edgesEach (g .d)) 2,
-      mul-assoc (cellsOf g) (suc (g .d)) 3,
+      mul-le-mul-left (cellCount g) (ends-most (g .d) (dim g (sides-taken g fine))),
+      mul-assoc (cellCount g) (edgesEach (g .d)) 2,
+      mul-assoc (cellCount g) (suc (g .d)) 3,
     )

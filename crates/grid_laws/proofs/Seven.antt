@@ -20,12 +20,12 @@ use Rattle.complex_cells.proofs.Words.{Word, Each, Rising}
 use Rattle.complex_cells.proofs.Order.{Colex, colex-irr}
 use Rattle.quotient.specs.declared.Grid.{Grid}
 use Rattle.quotient.specs.Fold.{product, factorial, member}
-use Rattle.quotient.specs.Shape.{cellsOn, pointsOn, maskAt, checkOf, cellsOf}
+use Rattle.quotient.specs.Shape.{cellsOn, pointsOn, maskAt, checkOf, cellCount}
 use Rattle.quotient.specs.Chain.{Untangled}
 use Rattle.quotient.proofs.Taken.{taken-low}
 use Rattle.quotient.proofs.Radix.{number-same}
 use Rattle.grid_words.specs.Cells.{boxAt, flatWords}
-use Rattle.grid_words.specs.Numbered.{eachBox, cellNo, cornerOf}
+use Rattle.grid_words.specs.WorkNumbered.{eachBox, cellNo, cornerOf}
 use Rattle.grid_words.proofs.Corners.{dim, box-lt}
 use Rattle.grid_words.proofs.Listed.{cell-length, cell-before}
 use Rattle.grid_mesh.specs.Words.{gluedCells}
@@ -60,7 +60,7 @@ module _ (g : Grid) (fine : checkOf g ≡ Fine) where
   cells-apart c e hc he n q = elim (decLt c e) [ yes l ↦ cell-once c e l he q | no l ↦ cell-once e c (omega arith) hc (sym q) ]
 
   -- ---- one facet of two cells is one facet of their words
-  module _ (x i y j a b : ℕ) (hx : x < cellsOf g) (hy : y < cellsOf g) (li : i ≤ g .d) (ha : a < length (sortWord (wordNo g x))) (hb : b < length (sortWord (wordNo g y))) (ea : getD (sortWord (wordNo g x)) a 0 ≡ vertexNo g x i)
+  module _ (x i y j a b : ℕ) (hx : x < cellCount g) (hy : y < cellCount g) (li : i ≤ g .d) (ha : a < length (sortWord (wordNo g x))) (hb : b < length (sortWord (wordNo g y))) (ea : getD (sortWord (wordNo g x)) a 0 ≡ vertexNo g x i)
       (eb : getD (sortWord (wordNo g y)) b 0 ≡ vertexNo g y j) (e : facetAt (sortWord (wordNo g x)) a ≡ facetAt (sortWord (wordNo g y)) b) where
     facet-forth : (v : ℕ) → (l : ℕ) × (l ≤ g .d) × (l ≡ i → ⊥) × (vertexNo g x l ≡ v) → (r : ℕ) × (r ≤ g .d) × (r ≡ j → ⊥) × (vertexNo g y r ≡ v)
     facet-forth v (l, hl, n, q) =
@@ -84,7 +84,7 @@ module _ (g : Grid) (fine : checkOf g ≡ Fine) where
       }
 
   -- the same corners: the same word
-  one-number : (x y : ℕ) → x < cellsOf g → y < cellsOf g → ((l : ℕ) → l ≤ g .d → cornerOf g x l ≡ cornerOf g y l) → x ≡ y
+  one-number : (x y : ℕ) → x < cellCount g → y < cellCount g → ((l : ℕ) → l ≤ g .d → cornerOf g x l ≡ cornerOf g y l) → x ≡ y
   one-number x y hx hy f =
       let q : cellNo g x ≡ cellNo g y = ext-getD 0 (cellNo g x) (cellNo g y) (cell-length g fine x ∙ sym (cell-length g fine y)) (λ l h. f l (omega (arith, cell-length g fine x))) in
       elim (decLt x y) [
@@ -227,7 +227,7 @@ module _ (g : Grid) (fine : checkOf g ≡ Fine) where
         (λ q. cells-apart (w .first) (w .second) (w .one .that .cell) (w .other .that .cell) (w .apart) (ey ∙ ap (λ (n : ℕ). sortWord (wordNo g n)) q ∙ sym ez))
 
     -- so no two words sort to one cell, and there are d! cells for each box
-    pub words-apart : (x y : ℕ) → x < y → y < cellsOf g → sortWord (wordNo g x) ≡ sortWord (wordNo g y) → ⊥
+    pub words-apart : (x y : ℕ) → x < y → y < cellCount g → sortWord (wordNo g x) ≡ sortWord (wordNo g y) → ⊥
     words-apart x y h l e = untangled-never-seven (two-words g fine x y h l e)
 
     pub untangled-number : length (gluedCells g) ≡ factorial (g .d) * product (cellsOn g) (g .d)

@@ -18,13 +18,13 @@ use Rattle.multiindex.specs.Sort.{sortWord}
 use Rattle.complex.specs.Facets.{Crowded}
 use Rattle.complex_cells.proofs.Order.{Colex, colex-irr}
 use Rattle.quotient.specs.declared.Grid.{Grid}
-use Rattle.quotient.specs.Shape.{pointsOn, checkOf, cellsOf}
+use Rattle.quotient.specs.Shape.{pointsOn, checkOf, cellCount}
 use Rattle.quotient.specs.Reduce.{vertexOf}
 use Rattle.quotient.specs.Points.{pointOf}
 use Rattle.quotient.proofs.Taken.{taken-low}
 use Rattle.quotient.proofs.Radix.{number-same}
 use Rattle.grid_words.specs.Cells.{boxesOf, boxAt}
-use Rattle.grid_words.specs.Numbered.{eachBox, cellNo, cornerOf}
+use Rattle.grid_words.specs.WorkNumbered.{eachBox, cellNo, cornerOf}
 use Rattle.grid_words.proofs.Corners.{dim, box-lt, some-order, orders-factorial, turn-lt, corner-point}
 use Rattle.grid_words.proofs.Listed.{cell-length, cell-rising, cell-before}
 use Rattle.grid_mesh.specs.Words.{gluedCells}
@@ -38,15 +38,15 @@ module _ (g : Grid) (fine : checkOf g ≡ Fine) where
   -- ---- cells by box and order
   -- cell x is that of box b along order t
   pub record At (x b t : ℕ) : Type 0 where
-    pub in-grid : x < cellsOf g
+    pub in-grid : x < cellCount g
     pub box-in : b < boxesOf g
     pub order-in : t < length (orders (g .d))
     pub corner : (j : ℕ) → j ≤ g .d → cornerOf g x j ≡ cornerBy g (boxAt g b) (up (g .d) t j)
 
-  cells-count : cellsOf g ≡ boxesOf g * eachBox g
+  cells-count : cellCount g ≡ boxesOf g * eachBox g
   cells-count = rw (orders-factorial (g .d) (dim g fine)) (mul-comm _ (boxesOf g))
 
-  pub at-of : (x : ℕ) → x < cellsOf g → At x (x / eachBox g) (eachBox g - 1 - x % eachBox g)
+  pub at-of : (x : ℕ) → x < cellCount g → At x (x / eachBox g) (eachBox g - 1 - x % eachBox g)
   at-of x h =
       record {
         in-grid = h;
@@ -90,7 +90,7 @@ module _ (g : Grid) (fine : checkOf g ≡ Fine) where
 
   -- ---- a cell turned at corner i: cell y has the other corners, and at i a vertex that x has not
   record TurnedCell (x i y : ℕ) : Type 0 where
-    in-grid : y < cellsOf g
+    in-grid : y < cellCount g
     kept : (l : ℕ) → l ≤ g .d → (l ≡ i → ⊥) → vertexNo g y l ≡ vertexNo g x l
     new : (l : ℕ) → l ≤ g .d → vertexNo g x l ≡ vertexNo g y i → ⊥
 
@@ -122,7 +122,7 @@ module _ (g : Grid) (fine : checkOf g ≡ Fine) where
               ];
         }
 
-  module _ (x i y : ℕ) (hx : x < cellsOf g) (li : i ≤ g .d) (w : TurnedCell x i y) where
+  module _ (x i y : ℕ) (hx : x < cellCount g) (li : i ≤ g .d) (w : TurnedCell x i y) where
     turned-facet : OneFacet g fine x i y i
     turned-facet =
         record {
@@ -134,7 +134,7 @@ module _ (g : Grid) (fine : checkOf g ≡ Fine) where
     turned-apart e = let c = cell-same g fine y x (w .in-grid) hx (sym e) (vertexNo g y i) (i, li, refl) in w .new (c .0) (c .1) (c .2)
 
   -- ---- one cell of two words, and both turned at corners with one vertex
-  module _ (x y i j : ℕ) (hx : x < cellsOf g) (hy : y < cellsOf g) (li : i ≤ g .d) (lj : j ≤ g .d) (e : sortWord (wordNo g x) ≡ sortWord (wordNo g y)) (v : vertexNo g x i ≡ vertexNo g y j) where
+  module _ (x y i j : ℕ) (hx : x < cellCount g) (hy : y < cellCount g) (li : i ≤ g .d) (lj : j ≤ g .d) (e : sortWord (wordNo g x) ≡ sortWord (wordNo g y)) (v : vertexNo g x i ≡ vertexNo g y j) where
     one-facet : OneFacet g fine x i y j
     one-facet =
         record {
@@ -325,7 +325,7 @@ module _ (g : Grid) (fine : checkOf g ≡ Fine) where
         subst (λ (u : ℕ). Mem u (cellNo g x)) (one-corner (o .0) (r .0) (o .1) lj (o .2) ∙ r .2) (Mem-of (cellNo g x) (o .0) (omega (arith, o .1, cell-length g fine x))))
 
   -- two words that sort to one cell are of boxes that face each other
-  two-faced : (x y : ℕ) → x < y → y < cellsOf g → sortWord (wordNo g x) ≡ sortWord (wordNo g y) → Faced g (boxAt g (x / eachBox g)) (boxAt g (y / eachBox g))
+  two-faced : (x y : ℕ) → x < y → y < cellCount g → sortWord (wordNo g x) ≡ sortWord (wordNo g y) → Faced g (boxAt g (x / eachBox g)) (boxAt g (y / eachBox g))
   two-faced x y h l e =
       ⊎-elim
       (λ (f : Faced g (boxAt g (x / eachBox g)) (boxAt g (y / eachBox g))). f)
@@ -335,6 +335,6 @@ module _ (g : Grid) (fine : checkOf g ≡ Fine) where
       (faced-or-not (boxAt g (x / eachBox g)) (boxAt g (y / eachBox g)) (g .d) (le-refl (g .d)))
 
   -- and make a facet in three cells
-  pub two-words : (x y : ℕ) → x < y → y < cellsOf g → sortWord (wordNo g x) ≡ sortWord (wordNo g y) → Crowded (g .d) (gluedCells g)
+  pub two-words : (x y : ℕ) → x < y → y < cellCount g → sortWord (wordNo g x) ≡ sortWord (wordNo g y) → Crowded (g .d) (gluedCells g)
   two-words x y h l e =
       twice (suc (earliness (g .d) (eachBox g - 1 - x % eachBox g) (listed (x / eachBox g) (y / eachBox g)))) x y (x / eachBox g) (y / eachBox g) (eachBox g - 1 - x % eachBox g) (eachBox g - 1 - y % eachBox g) (at-of x (omega arith)) (at-of y l) e (two-faced x y h l e) (le-refl _)

@@ -6,20 +6,20 @@ use Rattle.refusal.specs.declared.Counted.the-variants as Counted
 use Rattle.refusal.specs.Table.{crowdedFacet}
 use Rattle.complex.specs.Skeleton.{edgesOf}
 use Rattle.quotient.specs.declared.Grid.{Grid}
-use Rattle.quotient.specs.Shape.{cellsOf}
+use Rattle.quotient.specs.Shape.{cellCount}
 use Rattle.grid_mesh.specs.Words.{gluedCells}
 use Rattle.grid_order.specs.declared.Triangulated.{Triangulated}
 use Rattle.grid_order.specs.declared.Triangulated.the-variants.{Ordered, Unordered, Refused}
 
 -- where a number of cells is said, it is d! for each box
 abbrev pub SaysCells : Grid → Triangulated → Type 0
-SaysCells g (Ordered m) = m ≡ cellsOf g
-SaysCells g (Unordered m) = m ≡ cellsOf g
+SaysCells g (Ordered m) = m ≡ cellCount g
+SaysCells g (Unordered m) = m ≡ cellCount g
 SaysCells g (Refused n p) = Unit {0}
 
 -- where a number of words is said, it is d! for each box
 abbrev pub SaysWords : Grid → Counted → Type 0
-SaysWords g (Counted.Count m) = m ≡ cellsOf g
+SaysWords g (Counted.Count m) = m ≡ cellCount g
 SaysWords g (Counted.Refused n p) = Unit {0}
 
 -- where a number of edges is said, it is how many the glued cells have

@@ -26,11 +26,11 @@ use Rattle.sorting.proofs.Rows.{rowsOf-pos, pos-room}
 use Rattle.complex.specs.Cells.{inOrder}
 use Rattle.complex_cells.proofs.Making.{key-length, key-row, key-table, made-same, made-cell, low-numbers}
 use Rattle.quotient.specs.declared.Grid.{Grid}
-use Rattle.quotient.specs.Shape.{checkOf, cellsOf}
+use Rattle.quotient.specs.Shape.{checkOf, cellCount}
 use Rattle.quotient.specs.Reduce.{vertexOf}
 use Rattle.quotient.proofs.Taken.{taken-low}
 use Rattle.grid_words.specs.Cells.{flatWords}
-use Rattle.grid_words.specs.Numbered.{cornerOf}
+use Rattle.grid_words.specs.WorkNumbered.{cornerOf}
 use Rattle.grid_words.proofs.Corners.{dim}
 use Rattle.grid_words.proofs.Listed.{words-long}
 use Rattle.grid_words.proofs.Good.{word-at, words-pass}
@@ -66,15 +66,15 @@ module _ (g : Grid) (fine : checkOf g ≡ Fine) where
   abbrev from-to : ℕ → List ℕ
   from-to r = vertexOf g (fromAt g r) ∷ vertexOf g (toAt g r) ∷ []
 
-  corners-fit : cellsOf g * suc (g .d) ≤ visitsOf g * 2
+  corners-fit : cellCount g * suc (g .d) ≤ visitsOf g * 2
   corners-fit =
-      let a : cellsOf g * suc (g .d) ≤ cellsOf g * (edgesEach (g .d) * 2) = mul-le-mul-left (cellsOf g) (ends-enough (g .d) (taken-low g fine) (dim g fine)) in
-      omega (arith, mul-assoc (cellsOf g) (edgesEach (g .d)) 2)
+      let a : cellCount g * suc (g .d) ≤ cellCount g * (edgesEach (g .d) * 2) = mul-le-mul-left (cellCount g) (ends-enough (g .d) (taken-low g fine) (dim g fine)) in
+      omega (arith, mul-assoc (cellCount g) (edgesEach (g .d)) 2)
 
   -- all ends are numbers below the room
-  corner-low : (x j : ℕ) → x < cellsOf g → j ≤ g .d → vertexOf g (cornerOf g x j) < visitsOf g * 2
+  corner-low : (x j : ℕ) → x < cellCount g → j ≤ g .d → vertexOf g (cornerOf g x j) < visitsOf g * 2
   corner-low x j h l =
-      let i : x * suc (g .d) + j < cellsOf g * suc (g .d) = omega (arith, pos-room x (cellsOf g) (suc (g .d)) h) in
+      let i : x * suc (g .d) + j < cellCount g * suc (g .d) = omega (arith, pos-room x (cellCount g) (suc (g .d)) h) in
       let a = low-numbers (g .d) (flatWords g) (words-pass g fine) (x * suc (g .d) + j) (omega (arith, words-long g fine)) in
       rw (← (word-at g fine x j h l)) (omega (arith, words-long g fine, corners-fit))
 

@@ -1,4 +1,4 @@
--- Laws that the proofs of `gridlengths` cite.
+-- Laws that the proofs of `grid_lengths` cite.
 pub mod Measuring
 pub mod Values
 pub mod Notes

@@ -19,10 +19,10 @@ use Rattle.grid_sides.specs.Counts.{sideOf}
 use Rattle.grid_sides.specs.Lengths.{spacingOf, lengthSq}
 use Rattle.quotient.specs.declared.Axis.{Axis}
 use Rattle.quotient.specs.declared.Grid.{Grid}
-use Rattle.quotient.specs.Shape.{axisOf, cellsOn, checkOf, cellsOf}
+use Rattle.quotient.specs.Shape.{axisOf, cellsOn, checkOf, cellCount}
 use Rattle.quotient.specs.Reduce.{coordAt, vertexOf}
 use Rattle.quotient.proofs.Taken.{taken-low, taken-cells}
-use Rattle.grid_words.specs.Numbered.{cellNo, cornerOf}
+use Rattle.grid_words.specs.WorkNumbered.{cellNo, cornerOf}
 use Rattle.grid_words.proofs.Corners.{dim, corner-lt, points-few}
 use Rattle.grid_words.proofs.Listed.{listed}
 use Rattle.grid_lengths.specs.Edges.{firstEnd, secondEnd, edgesEach, visitsOf, cornerAt, fromAt, toAt, spacingsOf, stepsOf, squareAt, sameEnds, visitsEdge}
@@ -54,12 +54,12 @@ module _ (g : Grid) (fine : checkOf g ≡ Fine) where
 
   pub visits-few : visitsOf g ≤ 24576
   visits-few =
-      let a : cellsOf g * edgesEach (g .d) ≤ cellsOf g * 6 = mul-le-mul-left (cellsOf g) (each-few (g .d) (dim g fine)) in
+      let a : cellCount g * edgesEach (g .d) ≤ cellCount g * 6 = mul-le-mul-left (cellCount g) (each-few (g .d) (dim g fine)) in
       omega (arith, taken-cells g fine)
 
   -- the cells in sorted order, by number
-  pub corner-at : (x j : ℕ) → x < cellsOf g → cornerAt g x j ≡ cornerOf g x j
-  corner-at x j h = ap (λ (cs : List (List ℕ)). getD (getD cs x []) j 0) (listed g fine) ∙ ap (λ (w : List ℕ). getD w j 0) (getD-tab (cellsOf g) (cellNo g) x [] h)
+  pub corner-at : (x j : ℕ) → x < cellCount g → cornerAt g x j ≡ cornerOf g x j
+  corner-at x j h = ap (λ (cs : List (List ℕ)). getD (getD cs x []) j 0) (listed g fine) ∙ ap (λ (w : List ℕ). getD w j 0) (getD-tab (cellCount g) (cellNo g) x [] h)
 
   module _ (r k : ℕ) (e : k ≡ edgesEach (g .d)) where
     pub place-in : r % k < edgesEach (g .d)
@@ -71,8 +71,8 @@ module _ (g : Grid) (fine : checkOf g ≡ Fine) where
     pub each-pos : 0 < k
     each-pos = rw e some-edges
 
-    pub cell-in : r < visitsOf g → r / k < cellsOf g
-    cell-in h = subst (λ (n : ℕ). r / n < cellsOf g) (sym e) (div-lt-iff-lt-mul some-edges .1 h)
+    pub cell-in : r < visitsOf g → r / k < cellCount g
+    cell-in h = subst (λ (n : ℕ). r / n < cellCount g) (sym e) (div-lt-iff-lt-mul some-edges .1 h)
 
     pub first-low : (j : ℕ) → j ≡ firstEnd (r % k) → j ≤ g .d
     first-low j q = rw q (ends-below (g .d) (r % k) (dim g fine) place-in .0)

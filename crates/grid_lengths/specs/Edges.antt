@@ -12,7 +12,7 @@ use Rattle.grid_sides.specs.Counts.{sideOf}
 use Rattle.grid_sides.specs.Lengths.{spacingOf, lengthSq}
 use Rattle.complex.specs.Cells.{inOrder}
 use Rattle.quotient.specs.declared.Grid.{Grid}
-use Rattle.quotient.specs.Shape.{cellsOn, cellsOf}
+use Rattle.quotient.specs.Shape.{cellsOn, cellCount}
 use Rattle.quotient.specs.Reduce.{coordAt, vertexOf}
 use Rattle.grid_words.specs.Cells.{gridCells}
 
@@ -28,7 +28,7 @@ edgesEach d = d * (d + 1) / 2
 
 -- how many visits there are: each edge of each cell
 abbrev pub visitsOf : Grid → ℕ
-visitsOf g = cellsOf g * edgesEach (g .d)
+visitsOf g = cellCount g * edgesEach (g .d)
 
 -- the grid points between which visit r measures
 abbrev pub cornerAt : Grid → ℕ → ℕ → ℕ

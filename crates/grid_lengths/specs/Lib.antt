@@ -1,4 +1,4 @@
--- What the contracts of `gridlengths` cite.
+-- What the contracts of `grid_lengths` cite.
 pub mod Edges
 pub mod Settled
 pub mod Noted

@@ -1,5 +1,6 @@
 // Squared lengths of the edges of a flat grid. An edge is measured before gluing, where its steps along the axes are plain; every cell that has the glued edge
 // measures it again, in the order of the cells, and a later value must agree with the one before it.
+// Follows `FlatQuotient::edge_lengths_sq` (crates/regge/src/mesher/quotient.rs); the port added the question for one edge.
 //
 // What the working lists of `edge_lengths_sq` hold, one phase after the other:
 //   keys     ends of the edges, sorted

@@ -1,4 +1,4 @@
--- Laws that the proofs of `gridmesh` cite.
+-- Laws that the proofs of `grid_mesh` cite.
 pub mod Steps
 pub mod Entry
 pub mod Determined

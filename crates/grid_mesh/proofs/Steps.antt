@@ -26,13 +26,13 @@ use Rattle.sorting.specs.Gather.{rowsOf}
 use Rattle.complex.specs.Check.{Passed}
 use Rattle.complex.specs.Room.{keyRoom}
 use Rattle.complex.specs.Facets.{Crowded, Cells, slots}
-use Rattle.complex_cells.specs.Made.{Made}
+use Rattle.complex_cells.specs.WorkMade.{Made}
 use Rattle.complex_cells.proofs.Making.{few-corners, words-table, made}
 use Rattle.complex_mates.specs.Table.{none, MateTable, Meeting}
 use Rattle.complex_mates.proofs.Meeting.{slots-most}
 use Rattle.orientation_signs.proofs.Linking.{not-crowded}
 use Rattle.quotient.specs.declared.Grid.{Grid}
-use Rattle.quotient.specs.Shape.{checkOf, cellsOf}
+use Rattle.quotient.specs.Shape.{checkOf, cellCount}
 use Rattle.quotient.proofs.Taken.{taken-cells}
 use Rattle.grid_words.specs.Cells.{gridCells, wordsOf, flatWords}
 use Rattle.grid_words.proofs.Corners.{dim}
@@ -55,17 +55,17 @@ module _ (g : Grid) (fine : checkOf g ≡ Fine) where
   corners-few = omega (arith, words-long g fine, few-corners (g .d) (flatWords g) (words-pass g fine))
 
   -- the number of corners as the code has it
-  pub corners-are : (count : ℕ) → count ≡ cellsOf g → count * (g .d + 1) ≡ cornersOf g
+  pub corners-are : (count : ℕ) → count ≡ cellCount g → count * (g .d + 1) ≡ cornersOf g
   corners-are count e = rw (e, add-one (g .d))
 
-  pub count-few : (count : ℕ) → count ≡ cellsOf g → count ≤ 4096
+  pub count-few : (count : ℕ) → count ≡ cellCount g → count ≤ 4096
   count-few count e = rw e (taken-cells g fine)
 
-  pub words-many : length (wordsOf g) ≡ cellsOf g
-  words-many = ap length (words-tab g fine) ∙ length-tab (cellsOf g) _
+  pub words-many : length (wordsOf g) ≡ cellCount g
+  words-many = ap length (words-tab g fine) ∙ length-tab (cellCount g) _
 
   -- ---- the cells of the words
-  module _ (count : ℕ) (e : count ≡ cellsOf g) (rest K : List ℕ) (k : K ≡ sortWords (g .d + 1) count (flatWords g ++ rest)) where
+  module _ (count : ℕ) (e : count ≡ cellCount g) (rest K : List ℕ) (k : K ≡ sortWords (g .d + 1) count (flatWords g ++ rest)) where
     count-is : count ≡ length (flatWords g) / (g .d + 1)
     count-is = e ∙ sym (words-count g fine)
 
@@ -83,7 +83,7 @@ module _ (g : Grid) (fine : checkOf g ≡ Fine) where
     keys-hold = omega (arith, ap length k, words-length (g .d + 1) count (flatWords g ++ rest), length-append (flatWords g) rest, words-long g fine)
 
     pub count-fits : count ≤ cornersOf g
-    count-fits = omega (arith, mul-suc (cellsOf g) (g .d))
+    count-fits = omega (arith, mul-suc (cellCount g) (g .d))
 
     pub rows-fit : count * (g .d + 1) ≤ length K
     rows-fit = omega (arith, keys-hold, corners-are count e)
@@ -139,7 +139,7 @@ module _ (g : Grid) (keys rows spare counts : List ℕ) (w : Working g keys rows
       worked-short out len e h = record { handed = []; ends = short free (omega (arith, corners-long)); result = refl }
 
       -- the words
-      pub worked-written : (out part : List ℕ) (count len : ℕ) → count ≡ cellsOf g → len ≡ cornersOf g → len ≤ length out → part ≡ flatWords g → Worked g (Count count) out (part ++ drop len out)
+      pub worked-written : (out part : List ℕ) (count len : ℕ) → count ≡ cellCount g → len ≡ cornersOf g → len ≤ length out → part ≡ flatWords g → Worked g (Count count) out (part ++ drop len out)
       worked-written out part count len c e h p =
           record {
             handed = flatWords g;

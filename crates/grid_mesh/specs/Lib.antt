@@ -1,3 +1,3 @@
--- What the contracts of `gridmesh` cite.
+-- What the contracts of `grid_mesh` cite.
 pub mod Words
 pub mod Work

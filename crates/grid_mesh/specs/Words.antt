@@ -13,7 +13,7 @@ use Rattle.complex.specs.Room.{needOf}
 use Rattle.complex.specs.Cells as Complex
 use Rattle.complex.specs.Facets.{Crowded}
 use Rattle.quotient.specs.declared.Grid.{Grid}
-use Rattle.quotient.specs.Shape.{checkOf, cellsOf}
+use Rattle.quotient.specs.Shape.{checkOf, cellCount}
 use Rattle.grid_words.specs.Cells.{wordsOf, flatWords}
 
 -- the cells of the grid after gluing: its words sorted, in colex order, without duplicates
@@ -22,7 +22,7 @@ gluedCells g = Complex.cellsOf (g .d) (flatWords g)
 
 -- how many corners the words of a grid that is taken have, and what a call on them needs of its working lists
 abbrev pub cornersOf : Grid → ℕ
-cornersOf g = cellsOf g * suc (g .d)
+cornersOf g = cellCount g * suc (g .d)
 
 abbrev pub gridNeed : Grid → Room
 gridNeed g = needOf (g .d) (cornersOf g)

@@ -1,4 +1,5 @@
 // From a grid to cells: its words in the order of the sorted grid cells, and its cells with the order that the words give.
+// Follows `FlatQuotient::cell_words` and `triangulate` (crates/regge/src/mesher/quotient.rs).
 //
 // What the working lists hold, one phase after the other:
 //   keys     sorted words     facet rows
@@ -8,7 +9,7 @@
 ghost use mathlib.Core.Path.{_≡_};
 ghost use Rattle.refusal.specs.declared.Answer.the-variants.{Fine};
 ghost use Rattle.lists.specs.Zero.{AllZero};
-ghost use Rattle.complex_cells.specs.Made.{Made};
+ghost use Rattle.complex_cells.specs.WorkMade.{Made};
 ghost use Rattle.quotient.specs.Shape.{checkOf};
 ghost use Rattle.grid_words.specs.Cells.{flatWords};
 ghost use Rattle.grid_mesh.specs.Words.{gridNeed, CellWords};

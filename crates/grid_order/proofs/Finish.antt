@@ -19,13 +19,13 @@ use Rattle.sorting.proofs.Rows.{rowsOf-pos, pos-room}
 use Rattle.complex.specs.Cells as Complex
 use Rattle.complex.specs.Facets.{Cells, Crowded, cellAt}
 use Rattle.complex_mates.specs.Table.{none, MateTable, Meeting}
-use Rattle.complex_cells.specs.Made.{Made}
+use Rattle.complex_cells.specs.WorkMade.{Made}
 use Rattle.complex_cells.proofs.Words.{In, in-at}
 use Rattle.complex_cells.proofs.Order.{order-from}
 use Rattle.complex_mates.proofs.Meeting.{slots-most}
 use Rattle.orientation_signs.proofs.Linking.{not-crowded, mate-below}
 use Rattle.quotient.specs.declared.Grid.{Grid}
-use Rattle.quotient.specs.Shape.{cellsOf}
+use Rattle.quotient.specs.Shape.{cellCount}
 use Rattle.grid_words.specs.Cells.{flatWords}
 use Rattle.grid_words.proofs.Listed.{words-long}
 use Rattle.grid_words.proofs.Good.{words-count}
@@ -33,13 +33,13 @@ use Rattle.grid_words.proofs.Corners.{dim}
 use Rattle.grid_mesh.specs.Words.{gluedCells, cornersOf}
 use Rattle.grid_mesh.proofs.Steps.{meeting, corners-few}
 use Rattle.ordering.specs.Order.{wordOf}
-use Rattle.ordering.specs.Agree.{Agreeing}
+use Rattle.ordering.specs.WorkAgree.{Agreeing}
 use Rattle.ordering.proofs.Lists.{cut-front, front-at}
 use Rattle.ordering.proofs.Steps.{need-bound}
 use Rattle.ordering.proofs.Orders.{word-found, by-cell-at, by-cell-rows}
 use Rattle.grid_order.specs.declared.Triangulated.{Triangulated}
 use Rattle.grid_order.specs.declared.Triangulated.the-variants.{Ordered, Unordered, Refused}
-use Rattle.grid_order.specs.Promise.{ownWords, wordsByCell, sizeOf, HandsOut, Handed, nothing, Ends}
+use Rattle.grid_order.specs.Promise.{ownWords, wordsByCell, cellsLength, HandsOut, Handed, nothing, Ends}
 use Rattle.grid_order.specs.Promise.Ends.{crowded, short as ends-short, short-order as ends-short-order, ordered as ends-ordered, unordered as ends-unordered}
 use Rattle.grid_order.specs.Work.{Finding, Found, Laying, Laid, Decided, Handing, Out, HandedOut, Working, Worked}
 use Rattle.grid_order.specs.Work.Out.{short, short-order, ordered, unordered}
@@ -77,7 +77,7 @@ cell-has g c h =
     word-found (ownWords g) (cellAt (gluedCells g) c) (u .0) (u .1) (u .2)
 
 -- what is handed out is the end
-module _ (g : Grid) (free : Crowded (g .d) (gluedCells g) → ⊥) (size m : ℕ) (list : List ℕ) (many : length (gluedCells g) ≡ m) (long : size ≡ sizeOf g) (cells-are : take size (drop size list) ≡ flat (gluedCells g)) (words-are : take size list ≡ flat (wordsByCell g)) where
+module _ (g : Grid) (free : Crowded (g .d) (gluedCells g) → ⊥) (size m : ℕ) (list : List ℕ) (many : length (gluedCells g) ≡ m) (long : size ≡ cellsLength g) (cells-are : take size (drop size list) ≡ flat (gluedCells g)) (words-are : take size list ≡ flat (wordsByCell g)) where
   ended : (cells order : ℕ) (b : Bool) (r : Triangulated) (h : Handed) → (b ≡ true → HandsOut g) → (b ≡ false → HandsOut g → ⊥) → Out size m list cells order b r h → Ends g cells order r h
   ended cells order b r h given never (short x) = ends-short free (omega (arith, long))
   ended cells order b r h given never (short-order x) = ends-short-order free (given refl) (omega (arith, long))
@@ -110,7 +110,7 @@ module _ (g : Grid) (at : ℕ) (keys rows₀ spare counts : List ℕ) (w : Worki
           few = f .few;
           list-long = omega (arith, part-long);
           rows-long = lr ∙ w .rows-long;
-          reps-long = omega (arith, f .few, w .spare-long, mul-suc (cellsOf g) (g .d));
+          reps-long = omega (arith, f .few, w .spare-long, mul-suc (cellCount g) (g .d));
           below = f .below;
         }
 
@@ -200,10 +200,10 @@ module _ (g : Grid) (at : ℕ) (keys rows₀ spare counts : List ℕ) (w : Worki
         table = subst (λ (cs : List (List ℕ)). MateTable (g .d) cs rows₃) (a₂ .same) t
 
         reps-long : m ≤ length spare₁
-        reps-long = omega (arith, f .few, ls, w .spare-long, mul-suc (cellsOf g) (g .d))
+        reps-long = omega (arith, f .few, ls, w .spare-long, mul-suc (cellCount g) (g .d))
 
-        words-in : (r : ℕ) → r < cellsOf g → r * suc (g .d) + suc (g .d) ≤ length (flatWords g)
-        words-in r h = omega (arith, pos-room r (cellsOf g) (suc (g .d)) h, words-long g (w .taken))
+        words-in : (r : ℕ) → r < cellCount g → r * suc (g .d) + suc (g .d) ≤ length (flatWords g)
+        words-in r h = omega (arith, pos-room r (cellCount g) (suc (g .d)) h, words-long g (w .taken))
 
         gathered-long : length (rowsOf (flatWords g) (suc (g .d)) (take m spare₁)) ≡ m * suc (g .d)
         gathered-long = rowsOf-pos (flatWords g) (suc (g .d)) spare₁ m m (λ j h. words-in (getD spare₁ j 0) (f .below j h)) (omega arith) reps-long
@@ -271,12 +271,12 @@ module _ (g : Grid) (at : ℕ) (keys rows₀ spare counts : List ℕ) (w : Worki
               record {
                 long = omega (arith, ap length el, ys-long, size-code, size-most);
                 small = omega (arith, size-code, size-most, corners-few g (w .taken));
-                few = omega (arith, f .few, corners-few g (w .taken), mul-suc (cellsOf g) (g .d));
+                few = omega (arith, f .few, corners-few g (w .taken), mul-suc (cellCount g) (g .d));
               }
 
-          module _ (count : ℕ) (ec : count ≡ cellsOf g) (o : Bool) (q : Decided (g .d) m count rows₃ list o) where
+          module _ (count : ℕ) (ec : count ≡ cellCount g) (o : Bool) (q : Decided (g .d) m count rows₃ list o) where
             own-many : length (ownWords g) ≡ count
-            own-many = cut-length (suc (g .d)) (length (flatWords g) / suc (g .d)) (flatWords g) ∙ subst (λ (n : ℕ). length (flatWords g) / n ≡ cellsOf g) (add-one (g .d)) (words-count g (w .taken)) ∙ sym ec
+            own-many = cut-length (suc (g .d)) (length (flatWords g) / suc (g .d)) (flatWords g) ∙ subst (λ (n : ℕ). length (flatWords g) / n ≡ cellCount g) (add-one (g .d)) (words-count g (w .taken)) ∙ sym ec
 
             q-ys : Decided (g .d) m count rows₃ ys o
             q-ys = subst (λ (l : List ℕ). Decided (g .d) m count rows₃ l o) el q

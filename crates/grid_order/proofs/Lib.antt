@@ -1,4 +1,4 @@
--- Laws that the proofs of `gridorder` cite.
+-- Laws that the proofs of `grid_order` cite.
 pub mod Steps
 pub mod Determined
 pub mod Finish

@@ -25,14 +25,14 @@ use Rattle.complex_mates.proofs.Laws.{row-cell-below}
 use Rattle.complex_cells.proofs.Making.{key-row, made-cell, whole-words}
 use Rattle.orientation_signs.proofs.Linking.{rows-few, facet-row, mates-row}
 use Rattle.quotient.specs.declared.Grid.{Grid}
-use Rattle.quotient.specs.Shape.{checkOf, cellsOf}
+use Rattle.quotient.specs.Shape.{checkOf, cellCount}
 use Rattle.grid_words.specs.Cells.{flatWords}
 use Rattle.grid_words.proofs.Listed.{words-long}
 use Rattle.grid_words.proofs.Good.{words-count, words-pass}
 use Rattle.grid_mesh.specs.Words.{gluedCells, cornersOf}
 use Rattle.grid_mesh.proofs.Steps.{grid-made, corners-are, corners-few}
 use Rattle.ordering.specs.Order.{wordOf, without, AgreeOnFacets}
-use Rattle.ordering.specs.Agree.{rowWord, AgreesAt, Clash}
+use Rattle.ordering.specs.WorkAgree.{rowWord, AgreesAt, Clash}
 use Rattle.ordering.proofs.Orders.{word-first}
 use Rattle.grid_order.specs.declared.Triangulated.the-variants.{Ordered, Unordered, Refused}
 use Rattle.grid_order.specs.Promise.{nothing}
@@ -55,7 +55,7 @@ module _ (n count : ℕ) (ws rest : List ℕ) (whole : count * n ≡ length ws) 
       ∙ cut-at n count ws r hr
 
 -- ---- the cells of a grid that is taken, and each cell's first word
-module _ (g : Grid) (fine : checkOf g ≡ Fine) (count : ℕ) (e : count ≡ cellsOf g) (rest K : List ℕ) (k : K ≡ sortWords (g .d + 1) count (flatWords g ++ rest)) (m : ℕ) (reps ids rows₀ tail : List ℕ) (q : Distinct (cell K (g .d + 1)) (g .d + 1) count m reps ids)
+module _ (g : Grid) (fine : checkOf g ≡ Fine) (count : ℕ) (e : count ≡ cellCount g) (rest K : List ℕ) (k : K ≡ sortWords (g .d + 1) count (flatWords g ++ rest)) (m : ℕ) (reps ids rows₀ tail : List ℕ) (q : Distinct (cell K (g .d + 1)) (g .d + 1) count m reps ids)
     (long : m ≤ length reps) (f : rows₀ ≡ rowsOf K (g .d + 1) (take m reps) ++ tail) (room : cornersOf g ≤ length rows₀) where
   whole : count * (g .d + 1) ≡ length (flatWords g)
   whole = corners-are g fine count e ∙ sym (words-long g fine)
@@ -72,7 +72,7 @@ module _ (g : Grid) (fine : checkOf g ≡ Fine) (count : ℕ) (e : count ≡ cel
   word-suc = subst (λ (n : ℕ). (c : ℕ) → c < m → wordOf (cut n count (flatWords g)) (getD (cut n m rows₀) c []) ≡ row (flatWords g) n (getD reps c 0)) (add-one (g .d)) word-here
 
   words-are : length (flatWords g) / suc (g .d) ≡ count
-  words-are = subst (λ (n : ℕ). length (flatWords g) / n ≡ cellsOf g) (add-one (g .d)) (words-count g fine) ∙ sym e
+  words-are = subst (λ (n : ℕ). length (flatWords g) / n ≡ cellCount g) (add-one (g .d)) (words-count g fine) ∙ sym e
 
   pub found : Found g m rows₀ reps
   found =
@@ -93,7 +93,7 @@ module _ (g : Grid) (m : ℕ) (list rows₀ reps : List ℕ) (w : Laying g m lis
   size-fits = rw (add-one (g .d)) (mul-le-mul-right (suc (g .d)) (w .few))
 
   pub rows-in : (i : ℕ) → i < m → getD reps i 0 * (g .d + 1) + (g .d + 1) ≤ cornersOf g
-  rows-in i h = rw (add-one (g .d)) (pos-room (getD reps i 0) (cellsOf g) (suc (g .d)) (w .below i h))
+  rows-in i h = rw (add-one (g .d)) (pos-room (getD reps i 0) (cellCount g) (suc (g .d)) (w .below i h))
 
   pub size-small : m * (g .d + 1) < 65536
   size-small = omega (arith, size-fits, corners-few g (w .taken))

@@ -1,3 +1,3 @@
--- What the contracts of `gridorder` cite.
+-- What the contracts of `grid_order` cite.
 pub mod Promise
 pub mod Work

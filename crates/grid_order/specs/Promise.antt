@@ -35,8 +35,8 @@ abbrev pub orderRoom : Grid → Room
 orderRoom g = orderNeed (g .d) (cornersOf g)
 
 -- how many numbers the cells have
-abbrev pub sizeOf : Grid → ℕ
-sizeOf g = length (gluedCells g) * suc (g .d)
+abbrev pub cellsLength : Grid → ℕ
+cellsLength g = length (gluedCells g) * suc (g .d)
 
 -- what is handed out: the cells and the order's words by cell, one after the other
 pub record Handed : Type 0 where
@@ -51,13 +51,13 @@ pub data Ends (g : Grid) (cells order : ℕ) : Triangulated → Handed → Type 
   -- a facet in three or more cells
   crowded : Crowded (g .d) (gluedCells g) → Ends g cells order (Refused crowdedFacet 0) nothing
   -- the list of the cells is too short
-  short : (Crowded (g .d) (gluedCells g) → ⊥) → cells < sizeOf g → Ends g cells order (Refused tooShort 0) nothing
+  short : (Crowded (g .d) (gluedCells g) → ⊥) → cells < cellsLength g → Ends g cells order (Refused tooShort 0) nothing
   -- an order is to be handed out, and its list is too short
-  short-order : (Crowded (g .d) (gluedCells g) → ⊥) → HandsOut g → order < sizeOf g → Ends g cells order (Refused tooShort 0) nothing
+  short-order : (Crowded (g .d) (gluedCells g) → ⊥) → HandsOut g → order < cellsLength g → Ends g cells order (Refused tooShort 0) nothing
   -- the cells and the order
-  ordered : (Crowded (g .d) (gluedCells g) → ⊥) → HandsOut g → sizeOf g ≤ cells → sizeOf g ≤ order → Ends g cells order (Ordered (length (gluedCells g))) (record { cells = flat (gluedCells g); order = flat (wordsByCell g) })
+  ordered : (Crowded (g .d) (gluedCells g) → ⊥) → HandsOut g → cellsLength g ≤ cells → cellsLength g ≤ order → Ends g cells order (Ordered (length (gluedCells g))) (record { cells = flat (gluedCells g); order = flat (wordsByCell g) })
   -- the cells, and no order
-  unordered : (Crowded (g .d) (gluedCells g) → ⊥) → (HandsOut g → ⊥) → sizeOf g ≤ cells → Ends g cells order (Unordered (length (gluedCells g))) (record { cells = flat (gluedCells g); order = [] })
+  unordered : (Crowded (g .d) (gluedCells g) → ⊥) → (HandsOut g → ⊥) → cellsLength g ≤ cells → Ends g cells order (Unordered (length (gluedCells g))) (record { cells = flat (gluedCells g); order = [] })
 
 -- the promise: r is what the call says, and a list with ′ is what it holds at exit
 pub record TriangulateOrdered (g : Grid) (r : Triangulated) (cells cells′ order order′ keys keys′ rows rows′ spare spare′ counts counts′ : List ℕ) : Type 0 where

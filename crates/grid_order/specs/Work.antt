@@ -10,13 +10,13 @@ use Rattle.refusal.specs.Lent.{onto}
 use Rattle.sorting.specs.Gather.{row, rowsOf}
 use Rattle.complex.specs.Room.{keyRoom}
 use Rattle.complex.specs.Facets.{cellAt, slots}
-use Rattle.complex_cells.specs.Made.{Made}
+use Rattle.complex_cells.specs.WorkMade.{Made}
 use Rattle.quotient.specs.declared.Grid.{Grid}
-use Rattle.quotient.specs.Shape.{checkOf, cellsOf}
+use Rattle.quotient.specs.Shape.{checkOf, cellCount}
 use Rattle.grid_words.specs.Cells.{flatWords}
 use Rattle.grid_mesh.specs.Words.{gluedCells, cornersOf}
 use Rattle.ordering.specs.Order.{wordOf}
-use Rattle.ordering.specs.Agree.{AgreesAt, Clash}
+use Rattle.ordering.specs.WorkAgree.{AgreesAt, Clash}
 use Rattle.grid_order.specs.declared.Triangulated.{Triangulated}
 use Rattle.grid_order.specs.declared.Triangulated.the-variants.{Ordered, Unordered, Refused}
 use Rattle.grid_order.specs.Promise.{ownWords, Handed, nothing, Ends}
@@ -32,18 +32,18 @@ pub record Finding (g : Grid) (keys rows spare counts : List ℕ) : Type 0 where
 -- m cells stand in rows, and the number of each cell's first word in reps
 pub record Found (g : Grid) (m : ℕ) (rows reps : List ℕ) : Type 0 where
   pub made : Made (g .d) (flatWords g) m rows
-  pub few : m ≤ cellsOf g
-  pub below : (c : ℕ) → c < m → getD reps c 0 < cellsOf g
+  pub few : m ≤ cellCount g
+  pub below : (c : ℕ) → c < m → getD reps c 0 < cellCount g
   pub words : (c : ℕ) → c < m → wordOf (ownWords g) (cellAt (gluedCells g) c) ≡ row (flatWords g) (suc (g .d)) (getD reps c 0)
 
 -- room for the words by cell and the cells behind them
 pub record Laying (g : Grid) (m : ℕ) (list rows reps : List ℕ) : Type 0 where
   pub taken : checkOf g ≡ Fine
-  pub few : m ≤ cellsOf g
+  pub few : m ≤ cellCount g
   pub list-long : cornersOf g + cornersOf g ≤ length list
   pub rows-long : length rows ≡ cornersOf g
   pub reps-long : m ≤ length reps
-  pub below : (c : ℕ) → c < m → getD reps c 0 < cellsOf g
+  pub below : (c : ℕ) → c < m → getD reps c 0 < cellCount g
 
 -- there they stand, and the cells stay
 pub record Laid (g : Grid) (m : ℕ) (rows reps list′ rows′ : List ℕ) : Type 0 where

@@ -1,5 +1,6 @@
 // From a grid to its cells with an order. A grid's own words are an order of its cells where no two of them sort to one cell; the order is handed out where, besides,
 // the words of two cells list every shared facet in one sequence.
+// Follows `FlatQuotient::triangulate_ordered` (crates/regge/src/mesher/quotient.rs).
 //
 // What the working lists hold, one phase after the other; the keys' last part begins where the facet rows end:
 //   keys, first part   sorted words     -                      facet rows
@@ -13,7 +14,7 @@ ghost use Rattle.lists.specs.Zero.{AllZero};
 ghost use Rattle.quotient.specs.Shape.{checkOf};
 ghost use Rattle.grid_order.specs.Promise.{orderRoom, TriangulateOrdered};
 ghost use Rattle.grid_order.specs.Work.{Finding, Found, Laying, Laid, Decided, Handing, HandedOut, Working, Worked};
-ghost use Rattle.ordering.specs.Agree.{Agreeing};
+ghost use Rattle.ordering.specs.WorkAgree.{Agreeing};
 use quotient::Grid;
 use refusal::Answer;
 use refusal::CROWDED_FACET;

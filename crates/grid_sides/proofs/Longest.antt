@@ -11,7 +11,7 @@ use borrow.Author.Tests.{ltb-false, not-false}
 use lib.Ieee.{Float, nan, inf, fin, binary64, up, down, le, lt}
 use lib.Ieee.Positive.{positive, num, den, cross→le, le-trans-positive}
 use Rattle.grid_sides.specs.declared.Sides.{Sides}
-use Rattle.grid_sides.specs.Counts.{sideFits, sideOf, unfit, badFrom, firstBad, largerOf, longestTo, longestOf, nearestWhole, share, countOf}
+use Rattle.grid_sides.specs.Counts.{sideFits, sideOf, unfit, badFrom, firstBad, largerOf, longestTo, longestOf, nearestWhole, share, axisCount}
 use Rattle.grid_sides.proofs.Share.{fits-positive, share-le, S-positive}
 use Rattle.grid_sides.proofs.Nearest.{Nearest, whole-is}
 
@@ -88,8 +88,8 @@ module _ (s : Sides) (d : ℕ) (ok : d ≤ firstBad s d) where
       (lt-or-ge i (suc k))
 
   -- a count is at most the number asked for, 1 or the floor
-  pub count-le : (i n f : ℕ) → i < d → n ≤ 2 ^ 53 → countOf (sideOf s i) (longestOf s d) n f ≤ max (max n 1) f
-  unfolding countOf
+  pub count-le : (i n f : ℕ) → i < d → n ≤ 2 ^ 53 → axisCount (sideOf s i) (longestOf s d) n f ≤ max (max n 1) f
+  unfolding axisCount
   count-le i n f h b =
       let kd : d - 1 < d = omega arith in
       let ik : i ≤ d - 1 = omega arith in

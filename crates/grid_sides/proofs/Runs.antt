@@ -12,7 +12,7 @@ use lib.Ieee.{Float, fin, binary64, add}
 use Rattle.grid_sides.specs.declared.Sides.{Sides}
 use Rattle.grid_sides.specs.declared.Steps.{Steps}
 use Prim.Native.Nat.{max}
-use Rattle.grid_sides.specs.Counts.{share, nearestWhole, countOf, sideFits, sideOf, unfit, badFrom, largerOf, longestTo}
+use Rattle.grid_sides.specs.Counts.{share, nearestWhole, axisCount, sideFits, sideOf, unfit, badFrom, largerOf, longestTo}
 use Rattle.grid_sides.specs.Lengths.{stepOf, squareOf, squaresTo}
 
 pub side-past : (s : Sides) (i : ℕ) → 3 ≤ i → fin false 0 (pos 0) ≡ sideOf s i
@@ -69,6 +69,6 @@ pub squares-first : (g : Sides) (s : Steps) (n : ℕ) (h q : Float) → n ≡ st
 unfolding squaresTo
 squares-first g s n h q hn hh hq = rw (hq, hn, hh)
 
-pub count-of : (x l t : Float) (n f w a r : ℕ) → t ≡ share x l n → w ≡ nearestWhole t → a ≡ max w 1 → r ≡ max a f → r ≡ countOf x l n f
-unfolding countOf
+pub count-of : (x l t : Float) (n f w a r : ℕ) → t ≡ share x l n → w ≡ nearestWhole t → a ≡ max w 1 → r ≡ max a f → r ≡ axisCount x l n f
+unfolding axisCount
 count-of x l t n f w a r ht hw ha hr = rw (hr, ha, hw, ht)

@@ -36,8 +36,8 @@ abbrev pub share : Float → Float → ℕ → Float
 share extent longest n = mul binary64 (div binary64 extent longest) (ofInt binary64 (pos n))
 
 -- the count of an axis: the nearest whole number, at least 1, raised to the floor
-unfoldable pub countOf : Float → Float → ℕ → ℕ → ℕ
-countOf extent longest n floor = max (max (nearestWhole (share extent longest n)) 1) floor
+unfoldable pub axisCount : Float → Float → ℕ → ℕ → ℕ
+axisCount extent longest n floor = max (max (nearestWhole (share extent longest n)) 1) floor
 
 -- ---- the sides of a grid
 

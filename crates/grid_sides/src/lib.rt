@@ -1,9 +1,10 @@
 // Sides of a grid, the counts of cells that follow from them, and squared lengths of edges: every operation on floats is rounded once, and the promises name the
 // operations in their order.
+// Follows `quasi_uniform_counts` (crates/regge/src/mesher.rs), and the sides and lengths of `FlatQuotient` (crates/regge/src/mesher/quotient.rs).
 ghost use mathlib.Core.Path.{_≡_};
 ghost use Prim.Native.Nat.{ℕ, suc, _+_, _*_, _<_, _≤_, _^_, min, max};
 ghost use lib.Ieee.{binary64};
-ghost use Rattle.grid_sides.specs.Counts.{sideFits, nearestWhole, share, countOf, largerOf, sideOf, unfit, firstBad, longestOf, keptSide, sidesBelow};
+ghost use Rattle.grid_sides.specs.Counts.{sideFits, nearestWhole, share, axisCount, largerOf, sideOf, unfit, firstBad, longestOf, keptSide, sidesBelow};
 ghost use Rattle.grid_sides.specs.Lengths.{spacingOf, squareOf, agrees, stepOf, lengthSq};
 
 // A number for each axis, as its side or its spacing.
@@ -85,7 +86,7 @@ fn nearest_whole(x: f64) -> u64
 
 // The count of cells of an axis, rounded twice and then to a whole number, at least 1, raised to the floor.
 pub fn count(extent: f64, longest: f64, n: u32, floor: u32) -> u64
-    ensures { λ r. ⌜ r ≡ countOf extent longest n floor ⌝ }
+    ensures { λ r. ⌜ r ≡ axisCount extent longest n floor ⌝ }
 {
     let w = nearest_whole(shared(extent, longest, n));
     at_least(at_least(w, 1), floor as u64)

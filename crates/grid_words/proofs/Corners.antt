@@ -18,22 +18,22 @@ use Rattle.multiindex.proofs.Tables.{allBelow, at-below}
 use Rattle.refine_lattice.proofs.Sums.{same-yes, same-no}
 use Rattle.quotient.specs.declared.Grid.{Grid}
 use Rattle.quotient.specs.Fold.{product, factorial}
-use Rattle.quotient.specs.Shape.{cellsOn, pointsOn, closedAt, closedFloor, openFloor, checkOf, cellsOf}
+use Rattle.quotient.specs.Shape.{cellsOn, pointsOn, closedAt, closedFloor, openFloor, checkOf, cellCount}
 use Rattle.quotient.specs.Reduce.{coordAt, vertexOf}
-use Rattle.quotient.specs.Points.{numberOf, pointsOf, pointOf, InBox}
+use Rattle.quotient.specs.Points.{fromDigits, pointsOf, pointOf, InBox}
 use Rattle.quotient.proofs.Laws.{lt-or-ge, lt-or-eq, product-mono, product-pos, product-step, place}
 use Rattle.quotient.proofs.Taken.{taken-low, taken-high, taken-cells, enough}
 use Rattle.quotient.proofs.Radix.{number-same, number-lt, point-lt, coord-of-point}
 use Rattle.quotient.proofs.Boxes.{corners, box-one}
 use Rattle.grid_words.specs.Cells.{boxesOf, boxAt, stepAlong, met}
-use Rattle.grid_words.specs.Numbered.{strideOf, eachBox, orderAt, cellNo, cornerOf}
+use Rattle.grid_words.specs.WorkNumbered.{strideOf, eachBox, orderAt, cellNo, cornerOf}
 
 -- ---- one step along an axis
-step-before : (f c : ℕ → ℕ) (a k : ℕ) → k ≤ a → numberOf f (stepAlong a c) k ≡ numberOf f c k
+step-before : (f c : ℕ → ℕ) (a k : ℕ) → k ≤ a → fromDigits f (stepAlong a c) k ≡ fromDigits f c k
 step-before f c a k h = number-same f (stepAlong a c) c k (λ i l. let z : same a i ≡ 0 = same-no a i (λ e. omega arith) in omega arith)
 
-pub step-after : (f c : ℕ → ℕ) (a k : ℕ) → a < k → numberOf f (stepAlong a c) k ≡ numberOf f c k + product f a
-unfolding numberOf product
+pub step-after : (f c : ℕ → ℕ) (a k : ℕ) → a < k → fromDigits f (stepAlong a c) k ≡ fromDigits f c k + product f a
+unfolding fromDigits product
 step-after f c a zero h = omega arith
 step-after f c a (suc k) h =
     ⊎-elim
@@ -144,7 +144,7 @@ module _ (g : Grid) (fine : checkOf g ≡ Fine) where
   boxes-few =
       let s : 1 ≤ factorial (g .d) = rw (orders-factorial (g .d) dim) at (some-order (g .d) dim) in
       let m : 1 * boxesOf g ≤ factorial (g .d) * boxesOf g = mul-le-mul-right (boxesOf g) s in
-      let c : cellsOf g ≤ mostCells = taken-cells g fine in
+      let c : cellCount g ≤ mostCells = taken-cells g fine in
       omega (arith, one-mul (boxesOf g))
 
   pub boxes-part : (k : ℕ) → k ≤ g .d → product (cellsOn g) k ≤ mostCells
@@ -251,9 +251,9 @@ module _ (g : Grid) (fine : checkOf g ≡ Fine) where
       (e, rw e (points-few g fine (k + 1) (omega arith)))
 
   -- what one axis more adds to the number of a box's origin
-  pub origin-more : (b k s x rest n : ℕ) → s ≡ product (pointsOn g) k → x ≡ numberOf (pointsOn g) (boxAt g b) k → rest ≡ b / product (cellsOn g) k → n ≡ cellsOn g k →
-      (x + s * (rest % n) ≡ numberOf (pointsOn g) (boxAt g b) (k + 1)) × (rest / n ≡ b / product (cellsOn g) (k + 1))
-  unfolding numberOf product
+  pub origin-more : (b k s x rest n : ℕ) → s ≡ product (pointsOn g) k → x ≡ fromDigits (pointsOn g) (boxAt g b) k → rest ≡ b / product (cellsOn g) k → n ≡ cellsOn g k →
+      (x + s * (rest % n) ≡ fromDigits (pointsOn g) (boxAt g b) (k + 1)) × (rest / n ≡ b / product (cellsOn g) (k + 1))
+  unfolding fromDigits product
   origin-more b k s x rest n hs hx hr hn =
       (rw (hs, hx, hr, hn, add-one k), rw (hr, hn, add-one k) (div-div-eq-div-mul b (product (cellsOn g) k) (cellsOn g k)))
 
@@ -285,5 +285,5 @@ module _ (g : Grid) (fine : checkOf g ≡ Fine) (x n : ℕ) (e : n ≡ eachBox g
 
 -- as many cells as orders, in each box
 module _ (g : Grid) (fine : checkOf g ≡ Fine) where
-  pub cells-product : (n b : ℕ) → n ≡ eachBox g → b ≡ boxesOf g → n * b ≡ cellsOf g
+  pub cells-product : (n b : ℕ) → n ≡ eachBox g → b ≡ boxesOf g → n * b ≡ cellCount g
   cells-product n b hn hb = rw (hn, hb, orders-factorial (g .d) (dim g fine))

@@ -13,7 +13,7 @@ use Rattle.quotient.specs.declared.Grid.{Grid}
 use Rattle.quotient.specs.Fold.{product}
 use Rattle.quotient.specs.Shape.{noAxis, axisOf}
 use Rattle.quotient.specs.Reduce.{restAt, reflectedBy, numberTo}
-use Rattle.quotient.specs.Points.{numberOf}
+use Rattle.quotient.specs.Points.{fromDigits}
 use Rattle.grid_words.specs.Cells.{met, gridCells, wordsOf}
 
 abbrev band : Glue → Grid
@@ -27,9 +27,9 @@ band g =
     }
 
 pub twisted-words : wordsOf (band (Twisted 2)) ≡ (0 ∷ 1 ∷ 4 ∷ []) ∷ (0 ∷ 3 ∷ 4 ∷ []) ∷ (1 ∷ 2 ∷ 5 ∷ []) ∷ (1 ∷ 4 ∷ 5 ∷ []) ∷ (2 ∷ 3 ∷ 0 ∷ []) ∷ (2 ∷ 5 ∷ 0 ∷ []) ∷ []
-unfolding gridCells met inOrder place placed comesBefore decides sortWord insert insertBy numberOf product restAt reflectedBy numberTo axisOf
+unfolding gridCells met inOrder place placed comesBefore decides sortWord insert insertBy fromDigits product restAt reflectedBy numberTo axisOf
 twisted-words = refl
 
 pub periodic-words : wordsOf (band Periodic) ≡ (0 ∷ 1 ∷ 4 ∷ []) ∷ (0 ∷ 3 ∷ 4 ∷ []) ∷ (1 ∷ 2 ∷ 5 ∷ []) ∷ (1 ∷ 4 ∷ 5 ∷ []) ∷ (2 ∷ 0 ∷ 3 ∷ []) ∷ (2 ∷ 5 ∷ 3 ∷ []) ∷ []
-unfolding gridCells met inOrder place placed comesBefore decides sortWord insert insertBy numberOf product restAt reflectedBy numberTo axisOf
+unfolding gridCells met inOrder place placed comesBefore decides sortWord insert insertBy fromDigits product restAt reflectedBy numberTo axisOf
 periodic-words = refl

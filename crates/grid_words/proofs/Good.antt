@@ -24,16 +24,16 @@ use Rattle.sorting.proofs.Colex.{row-cell, row-length}
 use Rattle.complex.specs.Check.{Passed}
 use Rattle.quotient.specs.declared.Grid.{Grid}
 use Rattle.quotient.specs.Fold.{product}
-use Rattle.quotient.specs.Shape.{cellsOn, pointsOn, checkOf, cellsOf, verticesOf}
+use Rattle.quotient.specs.Shape.{cellsOn, pointsOn, checkOf, cellCount, verticesOf}
 use Rattle.quotient.specs.Reduce.{coordAt, vertexOf}
-use Rattle.quotient.specs.Points.{numberOf, pointsOf, pointOf, InBox, Cornered}
+use Rattle.quotient.specs.Points.{fromDigits, pointsOf, pointOf, InBox, Cornered}
 use Rattle.quotient.proofs.Laws.{lt-or-ge, lt-or-eq, product-pos}
 use Rattle.quotient.proofs.Taken.{taken-low, taken-cells, taken-vertices}
 use Rattle.quotient.proofs.Radix.{number-lt, number-same, number-one, number-digits, digitOf, digit-lt, point-of-coords}
 use Rattle.quotient.proofs.Onto.{vertex-lt}
 use Rattle.quotient.proofs.Boxes.{every-corner}
 use Rattle.grid_words.specs.Cells.{boxesOf, boxAt, flatWords}
-use Rattle.grid_words.specs.Numbered.{eachBox, orderAt, cellNo, cornerOf}
+use Rattle.grid_words.specs.WorkNumbered.{eachBox, orderAt, cellNo, cornerOf}
 use Rattle.grid_words.proofs.Corners.{timesIn, dim, some-cell, some-order, orders-factorial, order-long, box-lt, at, corner-point, corner-lt, corners-apart}
 use Rattle.grid_words.proofs.Listed.{words-long, words-at}
 
@@ -121,7 +121,7 @@ bit x y h l = elim (decLt x y) [ yes m ↦ inr (omega arith) | no m ↦ inl (ome
 
 module _ (g : Grid) (fine : checkOf g ≡ Fine) where
   -- ---- the flat list by word and place
-  pub word-at : (x j : ℕ) → x < cellsOf g → j ≤ g .d → getD (flatWords g) (x * suc (g .d) + j) 0 ≡ vertexOf g (cornerOf g x j)
+  pub word-at : (x j : ℕ) → x < cellCount g → j ≤ g .d → getD (flatWords g) (x * suc (g .d) + j) 0 ≡ vertexOf g (cornerOf g x j)
   word-at x j h l =
       let r : j < suc (g .d) = omega arith in
       words-at g fine (x * suc (g .d) + j) (digits-lt h r)
@@ -131,18 +131,18 @@ module _ (g : Grid) (fine : checkOf g ≡ Fine) where
   -- no number is as large as the number of vertices
   pub words-low : (i : ℕ) → i < length (flatWords g) → getD (flatWords g) i 0 < verticesOf g
   words-low i h =
-      let b : i < cellsOf g * suc (g .d) = omega (arith, words-long g fine) in
+      let b : i < cellCount g * suc (g .d) = omega (arith, words-long g fine) in
       let r : i % suc (g .d) < suc (g .d) = mod-lt i (omega arith) in
       rw (words-at g fine i b) (vertex-lt g fine (cornerOf g (i / suc (g .d)) (i % suc (g .d))) (corner-lt g fine (i / suc (g .d)) (i % suc (g .d)) (omega arith)))
 
   -- ---- 4: no word names a vertex twice
-  word-row : (x c : ℕ) → x < cellsOf g → c ≤ g .d → getD (row (flatWords g) (suc (g .d)) x) c 0 ≡ vertexOf g (cornerOf g x c)
+  word-row : (x c : ℕ) → x < cellCount g → c ≤ g .d → getD (row (flatWords g) (suc (g .d)) x) c 0 ≡ vertexOf g (cornerOf g x c)
   word-row x c h l = row-cell (flatWords g) (suc (g .d)) x c (omega arith) ∙ word-at x c h l
 
-  row-in : (x : ℕ) → x < cellsOf g → x * suc (g .d) + suc (g .d) ≤ length (flatWords g)
+  row-in : (x : ℕ) → x < cellCount g → x * suc (g .d) + suc (g .d) ≤ length (flatWords g)
   row-in x h = omega (arith, words-long g fine, suc-mul x (suc (g .d)), mul-le-mul-right (suc (g .d)) h)
 
-  pub row-apart : (x : ℕ) → x < cellsOf g → hasRepeat (row (flatWords g) (suc (g .d)) x) ≡ false
+  pub row-apart : (x : ℕ) → x < cellCount g → hasRepeat (row (flatWords g) (suc (g .d)) x) ≡ false
   row-apart x h =
       no-repeat (row (flatWords g) (suc (g .d)) x)
       (Pairs-of (λ x y. x ≡ y → ⊥) (row (flatWords g) (suc (g .d)) x)
@@ -151,26 +151,26 @@ module _ (g : Grid) (fine : checkOf g ≡ Fine) where
       corners-apart g fine x i j l k (sym (word-row x i h (omega arith)) ∙ e ∙ word-row x j h k)))
 
   -- ---- 5: every vertex is a corner of a cell
-  box-of : (c : ℕ → ℕ) → ((k : ℕ) → k < g .d → c k < cellsOn g k) → (k : ℕ) → k < g .d → boxAt g (numberOf (cellsOn g) c (g .d)) k ≡ c k
+  box-of : (c : ℕ → ℕ) → ((k : ℕ) → k < g .d → c k < cellsOn g k) → (k : ℕ) → k < g .d → boxAt g (fromDigits (cellsOn g) c (g .d)) k ≡ c k
   box-of c h k l =
-      number-one (cellsOn g) (digitOf (cellsOn g) (numberOf (cellsOn g) c (g .d))) c (g .d) (λ i m. digit-lt (cellsOn g) (numberOf (cellsOn g) c (g .d)) i (some-cell g fine i m)) h
-      (number-digits (cellsOn g) (numberOf (cellsOn g) c (g .d)) (g .d) (number-lt (cellsOn g) c (g .d) h)) k l
+      number-one (cellsOn g) (digitOf (cellsOn g) (fromDigits (cellsOn g) c (g .d))) c (g .d) (λ i m. digit-lt (cellsOn g) (fromDigits (cellsOn g) c (g .d)) i (some-cell g fine i m)) h
+      (number-digits (cellsOn g) (fromDigits (cellsOn g) c (g .d)) (g .d) (number-lt (cellsOn g) c (g .d) h)) k l
 
-  cells-count : cellsOf g ≡ boxesOf g * eachBox g
+  cells-count : cellCount g ≡ boxesOf g * eachBox g
   cells-count = rw (orders-factorial (g .d) (dim g fine)) (mul-comm _ (boxesOf g))
 
   -- a corner of a box is a corner of one of its cells
   pub record Met (q : ℕ) : Type 0 where
     pub cell : ℕ
     pub place : ℕ
-    pub cell-in : cell < cellsOf g
+    pub cell-in : cell < cellCount g
     pub place-in : place ≤ g .d
     pub is : cornerOf g cell place ≡ q
 
   pub meets : (o q : ℕ) → InBox g o q → ((k : ℕ) → k < g .d → coordAt g o k < cellsOn g k) → Met q
   meets o q box begins =
       let n = eachBox g in
-      let b = numberOf (cellsOn g) (coordAt g o) (g .d) in
+      let b = fromDigits (cellsOn g) (coordAt g o) (g .d) in
       let hb : b < boxesOf g = number-lt (cellsOn g) (coordAt g o) (g .d) begins in
       let r = reach (g .d) (λ k. coordAt g q k - coordAt g o k) (taken-low g fine) (dim g fine) (λ k l. bit (coordAt g o k) (coordAt g q k) (box .rising k l) (box .near k l)) in
       let s : n - 1 - r .turn < n = let z : 0 < n = some-order (g .d) (dim g fine) in omega arith in
@@ -202,24 +202,24 @@ module _ (g : Grid) (fine : checkOf g ≡ Fine) where
       mem-among v (flatWords g) (subst (λ (u : ℕ). Mem u (flatWords g)) e (Mem-of (flatWords g) (m .cell * suc (g .d) + m .place) (rw (words-long g fine) (digits-lt (m .cell-in) p))))
 
   -- ---- the checks
-  pub words-count : length (flatWords g) / (g .d + 1) ≡ cellsOf g
+  pub words-count : length (flatWords g) / (g .d + 1) ≡ cellCount g
   words-count =
-      let e : length (flatWords g) ≡ cellsOf g * (g .d + 1) + 0 = omega (arith, words-long g fine, ap (λ (n : ℕ). cellsOf g * n) (add-one (g .d))) in
-      ap (λ (l : ℕ). l / (g .d + 1)) e ∙ digits-div (cellsOf g) (omega arith)
+      let e : length (flatWords g) ≡ cellCount g * (g .d + 1) + 0 = omega (arith, words-long g fine, ap (λ (n : ℕ). cellCount g * n) (add-one (g .d))) in
+      ap (λ (l : ℕ). l / (g .d + 1)) e ∙ digits-div (cellCount g) (omega arith)
 
   words-whole : length (flatWords g) % (g .d + 1) ≡ 0
   words-whole =
-      let e : length (flatWords g) ≡ cellsOf g * (g .d + 1) + 0 = omega (arith, words-long g fine, ap (λ (n : ℕ). cellsOf g * n) (add-one (g .d))) in
-      ap (λ (l : ℕ). l % (g .d + 1)) e ∙ digits-mod (cellsOf g) (omega arith)
+      let e : length (flatWords g) ≡ cellCount g * (g .d + 1) + 0 = omega (arith, words-long g fine, ap (λ (n : ℕ). cellCount g * n) (add-one (g .d))) in
+      ap (λ (l : ℕ). l % (g .d + 1)) e ∙ digits-mod (cellCount g) (omega arith)
 
-  pub some-cells : 1 ≤ cellsOf g
+  pub some-cells : 1 ≤ cellCount g
   some-cells =
-      let b : numberOf (cellsOn g) (λ k. 0) (g .d) < boxesOf g = number-lt (cellsOn g) (λ k. 0) (g .d) (λ k l. some-cell g fine k l) in
+      let b : fromDigits (cellsOn g) (λ k. 0) (g .d) < boxesOf g = number-lt (cellsOn g) (λ k. 0) (g .d) (λ k l. some-cell g fine k l) in
       let c : 1 ≤ boxesOf g = omega arith in
       rw cells-count (omega (arith, mul-le-mul-right (eachBox g) c, some-order (g .d) (dim g fine)))
 
   some-vertex : 0 < verticesOf g
-  some-vertex = let l : getD (flatWords g) 0 0 < verticesOf g = words-low 0 (omega (arith, words-long g fine, some-cells, mul-suc (cellsOf g) (g .d))) in omega arith
+  some-vertex = let l : getD (flatWords g) 0 0 < verticesOf g = words-low 0 (omega (arith, words-long g fine, some-cells, mul-suc (cellCount g) (g .d))) in omega arith
 
   -- the words of a grid that is taken pass 1, 2, 3, 4, 6 and 5
   pub words-pass : Passed (g .d) (flatWords g)
@@ -227,7 +227,7 @@ module _ (g : Grid) (fine : checkOf g ≡ Fine) where
       let low : largestOf (flatWords g) < verticesOf g = largest-below (verticesOf g) (flatWords g) some-vertex (All-of (λ x. x < verticesOf g) (flatWords g) (λ i h. words-low i h)) in
       record {
         small = dim g fine;
-        some-words = λ e. omega (arith, words-long g fine, some-cells, mul-suc (cellsOf g) (g .d));
+        some-words = λ e. omega (arith, words-long g fine, some-cells, mul-suc (cellCount g) (g .d));
         whole = words-whole;
         few = rw words-count (taken-cells g fine);
         apart = λ k h. subst (λ (n : ℕ). hasRepeat (wordAt n (flatWords g) k) ≡ false) (sym (add-one (g .d))) (row-apart k (rw words-count at h));

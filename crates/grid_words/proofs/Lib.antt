@@ -1,4 +1,4 @@
--- Laws that the proofs of `gridwords` cite.
+-- Laws that the proofs of `grid_words` cite.
 pub mod Corners
 pub mod Inside
 pub mod Flat

@@ -1,3 +1,3 @@
--- What the contracts of `gridwords` cite.
+-- What the contracts of `grid_words` cite.
 pub mod Cells
-pub mod Numbered
+pub mod WorkNumbered

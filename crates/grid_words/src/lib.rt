@@ -1,5 +1,6 @@
 // From a grid to words. A box of the grid is cut into d! cells, one for each order of the axes: from the box's origin one step along each axis, in that order.
 // The corners of a cell are grid points; each is reduced to its vertex, and the cell's word is read off in the order in which its corners were met.
+// Follows `FlatQuotient::cell_words` (crates/regge/src/mesher/quotient.rs) and `CartesianTopology::cell_skeleton` (crates/simplicial/src/mesher/grid.rs).
 //
 // The cells are numbered in colex order of their grid points. Boxes come in the order of their numbers, axis 0 fastest, and inside a box the orders stand from the
 // last to the first, so a cell's number tells its box and its order, and nothing has to be sorted.
@@ -8,10 +9,10 @@ ghost use Prim.Native.Nat.{ℕ, suc, _+_, _*_, _<_, _≤_};
 ghost use lib.ListN.{length};
 ghost use Rattle.refusal.specs.declared.Answer.the-variants.{Fine};
 ghost use Rattle.quotient.specs.Fold.{product};
-ghost use Rattle.quotient.specs.Shape.{cellsOn, pointsOn, checkOf, cellsOf};
+ghost use Rattle.quotient.specs.Shape.{cellsOn, pointsOn, checkOf, cellCount};
 ghost use Rattle.quotient.specs.Points.{pointOf};
 ghost use Rattle.grid_words.specs.Cells.{boxAt, flatWords};
-ghost use Rattle.grid_words.specs.Numbered.{strideOf, cornerOf};
+ghost use Rattle.grid_words.specs.WorkNumbered.{strideOf, cornerOf};
 use multiindex::permutation;
 use quotient::Grid;
 
@@ -34,7 +35,7 @@ fn boxes(grid: Grid) -> usize
 // How many cells a grid has that is taken.
 pub fn cells(grid: Grid) -> usize
     requires { ⌜ checkOf grid ≡ Fine ⌝ }
-    ensures { λ r. ⌜ r ≡ cellsOf grid ⌝ }
+    ensures { λ r. ⌜ r ≡ cellCount grid ⌝ }
 {
     let d = grid.d as usize;
     permutation::count(d) * boxes(grid)
@@ -95,7 +96,7 @@ pub fn corner(grid: Grid, x: usize, j: usize) -> usize
 
 // Writes the words of all cells, one after the other, over a list of their length.
 pub fn grid_words(grid: Grid, words: &mut [u32])
-    requires { ⌜ (checkOf grid ≡ Fine) × (length (now words) ≡ cellsOf grid * suc (grid .d)) ⌝ }
+    requires { ⌜ (checkOf grid ≡ Fine) × (length (now words) ≡ cellCount grid * suc (grid .d)) ⌝ }
     ensures { λ _. ⌜ now (words .exit) ≡ flatWords grid ⌝ }
 {
     let n = grid.d as usize + 1;

@@ -20,11 +20,11 @@ use Rattle.complex.specs.Facets.{cellAt, slots, Mates}
 use Rattle.complex_mates.specs.Table.{none, MateTable}
 use Rattle.complex_mates.proofs.Laws.{row-cell-below, row-slot-below}
 use Rattle.complex_mates.proofs.Meeting.{slots-most}
-use Rattle.orientation_walk.specs.Signs as walk
-use Rattle.orientation_signs.specs.Found.{signOf}
+use Rattle.orientation_walk.specs.WorkSigns as walk
+use Rattle.orientation_signs.specs.WorkFound.{signOf}
 use Rattle.orientation_signs.proofs.Linking.{facet-row, mates-row, mate-below, rows-few}
 use Rattle.ordering.specs.Order.{wordOf, without, AgreeOnFacets}
-use Rattle.ordering.specs.Agree.{rowWord, AgreesAt, Clash, markAt}
+use Rattle.ordering.specs.WorkAgree.{rowWord, AgreesAt, Clash, markAt}
 use Rattle.ordering.specs.Promise.{wordsBy, wordSign, Ready}
 use Rattle.ordering.proofs.Orders.{by-cell-at, by-cell-length}
 

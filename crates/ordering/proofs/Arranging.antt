@@ -16,11 +16,11 @@ use Rattle.sorting.specs.Gather.{row, rowsOf}
 use Rattle.sorting.proofs.Colex.{row-cell, row-length}
 use Rattle.sorting.proofs.Rows.{RowIn, rowsOf-length, rowsOf-pos, pos-room}
 use Rattle.complex.specs.Cells.{inOrder, cellsOf}
-use Rattle.complex_cells.specs.Made.{Made}
+use Rattle.complex_cells.specs.WorkMade.{Made}
 use Rattle.complex_cells.proofs.Words.{Word, Each, Rising, In, each-of, in-at, at-in}
 use Rattle.complex_cells.proofs.Order.{Colex, order-rising, order-has}
 use Rattle.ordering.specs.Order.{wordOf, byCell, IsOrder, Orders}
-use Rattle.ordering.specs.Arrange.{Matching, Fits, Matched, Arranging, Arranged}
+use Rattle.ordering.specs.WorkArrange.{Matching, Fits, Matched, Arranging, Arranged}
 use Rattle.ordering.proofs.Orders.{order-same, same-order, by-cell-rows}
 use Rattle.ordering.proofs.Lists.{sort-back}
 

@@ -22,7 +22,7 @@ use Rattle.complex_cells.proofs.Making.{few-corners}
 use Rattle.orientation_signs.proofs.Linking.{mate-below}
 use Rattle.ordering.specs.declared.Ordered.{Ordered}
 use Rattle.ordering.specs.declared.Ordered.the-variants.{Agree, Differ, Refused}
-use Rattle.ordering.specs.Agree.{AgreesAt, Clash, Agreeing}
+use Rattle.ordering.specs.WorkAgree.{AgreesAt, Clash, Agreeing}
 use Rattle.ordering.specs.Promise.{wordsBy, Preparing, Ready, Prepared, Ends, Worked}
 use Rattle.ordering.specs.Promise.Prepared.{crowded as prepared-crowded, unordered as prepared-unordered, ready as prepared-ready}
 use Rattle.ordering.specs.Promise.Ends.{crowded as ends-crowded, unordered as ends-unordered, short as ends-short, agreed as ends-agreed, differs as ends-differs}

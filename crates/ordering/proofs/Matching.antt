@@ -20,7 +20,7 @@ use Rattle.complex.specs.Cells.{inOrder}
 use Rattle.complex_cells.proofs.Words.{Word}
 use Rattle.complex_cells.proofs.Making.{key-table, key-length, key-row, made-cell, made-same}
 use Rattle.ordering.specs.Order.{wordOf}
-use Rattle.ordering.specs.Arrange.{Matching, Fits, Matched}
+use Rattle.ordering.specs.WorkArrange.{Matching, Fits, Matched}
 use Rattle.ordering.proofs.Orders.{word-first}
 use Rattle.ordering.proofs.Lists.{cut-front, front-cut, words-drop}
 

@@ -15,7 +15,7 @@ use Rattle.complex_mates.specs.Table.{none}
 use Rattle.complex_mates.proofs.Laws.{slots-some, row-cell-below}
 use Rattle.complex_mates.proofs.Meeting.{slots-most}
 use Rattle.ordering.specs.Order.{sameWord, without}
-use Rattle.ordering.specs.Agree.{rowWord, Reading, Agreeing, AgreesAt, Clash}
+use Rattle.ordering.specs.WorkAgree.{rowWord, Reading, Agreeing, AgreesAt, Clash}
 
 -- where the words of rows x and y stand
 pub record Placed (d k m : ℕ) (list : List ℕ) (x y : ℕ) : Type 0 where

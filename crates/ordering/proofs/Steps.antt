@@ -17,12 +17,12 @@ use Rattle.complex.specs.Room.{keyRoom}
 use Rattle.complex.specs.Cells.{cellsOf}
 use Rattle.complex.specs.Facets.{Cells, Crowded}
 use Rattle.complex_mates.specs.Table.{MateTable, Meeting}
-use Rattle.complex_cells.specs.Made.{Making, Made}
+use Rattle.complex_cells.specs.WorkMade.{Making, Made}
 use Rattle.orientation_signs.proofs.Linking.{not-crowded}
 use Rattle.orientation.specs.Work.{Working}
 use Rattle.orientation.proofs.Steps.{meeting}
 use Rattle.ordering.specs.Order.{byCell, Orders}
-use Rattle.ordering.specs.Arrange.{Arranging, Arranged}
+use Rattle.ordering.specs.WorkArrange.{Arranging, Arranged}
 use Rattle.ordering.specs.Promise.{wordsBy, Preparing, Ready, Prepared, crowded, unordered, ready}
 use Rattle.ordering.proofs.Lists.{cut-front, front-at}
 

@@ -19,13 +19,13 @@ use Rattle.complex.specs.Cells.{cellsOf}
 use Rattle.complex.specs.Facets.{cellAt, slots}
 use Rattle.complex_mates.specs.Table.{none, MateTable}
 use Rattle.complex_mates.proofs.Meeting.{slots-most}
-use Rattle.orientation_walk.specs.Signs as walk
+use Rattle.orientation_walk.specs.WorkSigns as walk
 use Rattle.orientation_signs.specs.Signs.{Coherent}
-use Rattle.orientation_signs.specs.Found.{signOf, Finding}
+use Rattle.orientation_signs.specs.WorkFound.{signOf, Finding}
 use Rattle.orientation.proofs.Steps.{room-least}
-use Rattle.orientation_by.specs.Test.{Testing, Tested}
+use Rattle.orientation_by.specs.WorkTest.{Testing, Tested}
 use Rattle.orientation_by.proofs.Determined.{coherent-same}
-use Rattle.ordering.specs.Agree.{markAt, Marking}
+use Rattle.ordering.specs.WorkAgree.{markAt, Marking}
 use Rattle.ordering.specs.Promise.{wordsBy, wordSign, Preparing, Ready, Prepared, Wound}
 use Rattle.ordering.specs.Promise.Prepared.{crowded as prepared-crowded, unordered as prepared-unordered, ready as prepared-ready}
 use Rattle.ordering.specs.Promise.Wound.{crowded as wound-crowded, unordered as wound-unordered, coherent as wound-coherent, incoherent as wound-incoherent}

@@ -5,7 +5,7 @@ ghost use mathlib.Core.List.{_++_};
 ghost use Prim.Native.Nat.{ℕ, _+_, _*_, _<_, _≤_};
 ghost use lib.ListN.{length, getD, take, drop};
 ghost use Rattle.multiindex.specs.Sort.{sortWords};
-ghost use Rattle.ordering.specs.Arrange.{Matching, Matched, Arranging, Arranged};
+ghost use Rattle.ordering.specs.WorkArrange.{Matching, Matched, Arranging, Arranged};
 
 fn wide(x: u32) -> usize
     ensures { λ r. ⌜ r ≡ x ⌝ }

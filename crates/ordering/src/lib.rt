@@ -1,5 +1,6 @@
 // Cell orders. An order gives each cell one word: the cell's vertices in a sequence of their own. It agrees on a facet of two cells if both list the facet's
 // vertices in one sequence.
+// Follows `CellOrdering`: `try_new`, `is_face_consistent`, `induced_orientation` (crates/simplicial/src/topology/ordering.rs).
 //
 // What the working lists hold, one phase after the other; the keys' last part begins where the facet rows end:
 //   keys, first part   sorted words     -                      facet rows     the cell across each slot

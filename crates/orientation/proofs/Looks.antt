@@ -1,4 +1,4 @@
--- What the looks that `orientation` reports are, read off its promise: those of the defined walk (signs/proofs/Whole), so one number for one list of words, whatever lists are lent; one
+-- What the looks that `orientation` reports are, read off its promise: those of the defined walk (orientation_signs/proofs/Whole), so one number for one list of words, whatever lists are lent; one
 -- a facet of each cell on success, and never more. Assumes nothing.
 use mathlib.Core.List.{List, []}
 use mathlib.Core.Path.{_≡_, refl, sym, _∙_}

@@ -18,11 +18,11 @@ use Rattle.lists.proofs.Rows.{cut-length}
 use Rattle.complex.specs.Facets.{Crowded, Cells, slots}
 use Rattle.complex_mates.specs.Table.{none, MateTable, Meeting}
 use Rattle.complex_mates.proofs.Meeting.{slots-most}
-use Rattle.complex_cells.specs.Made.{Making, Made}
+use Rattle.complex_cells.specs.WorkMade.{Making, Made}
 use Rattle.multiindex.specs.Sign.{Sign, signNumber}
 use Rattle.orientation_signs.specs.Signs.{Coherent, Oriented, signList}
 use Rattle.orientation_signs.specs.Looks.{looksOf}
-use Rattle.orientation_signs.specs.Found.{signOf, numberOf, handedOut, Finding, Found}
+use Rattle.orientation_signs.specs.WorkFound.{signOf, markNumber, handedOut, Finding, Found}
 use Rattle.orientation_signs.proofs.Linking.{not-crowded}
 use Rattle.orientation_signs.proofs.Whole.{looks-whole}
 use Rattle.complex.specs.Room.{keyRoom}
@@ -42,7 +42,7 @@ pub length-signs : (σ : ℕ → Sign) (n : ℕ) → length (signList σ n) ≡ 
 length-signs σ zero = refl
 length-signs σ (suc n) = ap suc (length-signs (λ c. σ (suc c)) n)
 
-number-sign : (n : ℕ) → numberOf n ≡ signNumber (signOf n)
+number-sign : (n : ℕ) → markNumber n ≡ signNumber (signOf n)
 number-sign zero = refl
 number-sign (suc zero) = refl
 number-sign (suc (suc n)) = refl
@@ -51,7 +51,7 @@ pub handed-signs : (marks : List ℕ) (m : ℕ) → m ≤ length marks → hande
 handed-signs marks zero h = refl
 handed-signs [] (suc m) h = absurd (omega arith)
 handed-signs (x ∷ xs) (suc m) h =
-    let e : numberOf x ≡ signNumber (signOf x) = number-sign x in
+    let e : markNumber x ≡ signNumber (signOf x) = number-sign x in
     let r : handedOut (take m xs) ≡ signList (λ c. signOf (getD xs c 0)) m = handed-signs xs m (omega arith) in
     cc
 

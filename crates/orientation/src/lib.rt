@@ -1,5 +1,6 @@
 // Coherent signs. A facet of two cells has an induced sign from each; signs of cells are coherent if the products of cell sign and induced sign are opposite on each such
 // facet. On a facet-connected piece one sign decides all others, so signs that are + at the lowest cell of each piece are the only ones, or there are none.
+// Follows `Complex::orientation` (crates/simplicial/src/topology/orientation.rs).
 //
 // What the working lists hold, one phase after the other:
 //   keys     sorted words     facet rows     the cell across each slot

@@ -11,13 +11,13 @@ use mir.Facts.{toZ-ofZ}
 use mir.Syntax.{w32}
 use lib.ListN.{length, getD, set}
 use lib.Seq.{getD-set-same, getD-set-other}
-use Rattle.orientation_walk.specs.Signs as walk
+use Rattle.orientation_walk.specs.WorkSigns as walk
 use Rattle.multiindex.specs.Sign.{Sign, plus, minus, signNumber}
 use Rattle.orientation_signs.specs.Signs.{signList}
-use Rattle.orientation_signs.specs.Found.{signOf}
+use Rattle.orientation_signs.specs.WorkFound.{signOf}
 use Rattle.orientation.proofs.Steps.{length-signs}
 use Rattle.orientation_by.specs.Promise.{Given}
-use Rattle.orientation_by.specs.Test.{markOf, TakenOver}
+use Rattle.orientation_by.specs.WorkTest.{markOf, TakenOver}
 
 sign-mark : (z : ℤ) → (markOf z ≡ 0 → ⊥) → signNumber (signOf (markOf z)) ≡ z
 sign-mark (pos zero) h = absurd (h refl)

@@ -1,4 +1,4 @@
--- The slots' test says what coherent signs of cells say: the walk's links are the cells' mates (signs/proofs/Linking). Assumes nothing.
+-- The slots' test says what coherent signs of cells say: the walk's links are the cells' mates (orientation_signs/proofs/Linking). Assumes nothing.
 use mathlib.Core.Bool.{Bool, true, false}
 use mathlib.Core.List.{List}
 use mathlib.Core.Path.{_≡_, refl, sym, ap, _∙_, subst}
@@ -10,13 +10,13 @@ use lib.ListN.{length, getD}
 use Rattle.complex.specs.Facets.{slots}
 use Rattle.complex_mates.specs.Table.{none, MateTable, Across}
 use Rattle.complex_mates.proofs.Laws.{slots-some, row-cell-below, row-slot-below, row-is}
-use Rattle.orientation_walk.specs.Signs as walk
-use Rattle.orientation_walk.specs.Signs.{turned, Link}
+use Rattle.orientation_walk.specs.WorkSigns as walk
+use Rattle.orientation_walk.specs.WorkSigns.{turned, Link}
 use Rattle.multiindex.specs.Sign.{Sign, plus, minus}
 use Rattle.orientation_signs.specs.Signs.{Coherent}
-use Rattle.orientation_signs.specs.Found.{signOf, Finding}
+use Rattle.orientation_signs.specs.WorkFound.{signOf, Finding}
 use Rattle.orientation_signs.proofs.Linking.{finding-links, coherent-up, coherent-down}
-use Rattle.orientation_by.specs.Test.{AgreesAt, Clash, Looking, Testing, Tested}
+use Rattle.orientation_by.specs.WorkTest.{AgreesAt, Clash, Looking, Testing, Tested}
 
 -- what looking at the slots asks
 pub looking : (d m : ℕ) (rows keys spare marks : List ℕ) → Testing d m rows keys spare marks → (k : ℕ) → k ≡ slots d → (o fl : List ℕ) → length o ≡ length keys → length fl ≡ length spare → ((x : ℕ) → x < m * k → Across k rows o fl x) → Looking k (m * k) o fl marks

@@ -14,15 +14,15 @@ use Rattle.lists.proofs.Rows.{cut-length}
 use Rattle.complex.specs.Cells.{cellsOf}
 use Rattle.complex.specs.Facets.{Crowded}
 use Rattle.complex_mates.specs.Table.{MateTable}
-use Rattle.complex_cells.specs.Made.{Made}
+use Rattle.complex_cells.specs.WorkMade.{Made}
 use Rattle.multiindex.specs.Sign.{Sign}
 use Rattle.orientation_signs.specs.Signs.{Coherent}
-use Rattle.orientation_signs.specs.Found.{signOf}
+use Rattle.orientation_signs.specs.WorkFound.{signOf}
 use Rattle.orientation_signs.proofs.Linking.{not-crowded}
 use Rattle.orientation.specs.Work.{Working}
 use Rattle.orientation.proofs.Steps.{finding}
 use Rattle.orientation_by.specs.Promise.{Given, Ends, crowded, unfit, agreed, differs}
-use Rattle.orientation_by.specs.Test.{Testing, Tested, TakenOver}
+use Rattle.orientation_by.specs.WorkTest.{Testing, Tested, TakenOver}
 
 module _ (d : ℕ) (ws keys rows spare counts : List ℕ) (w : Working d ws keys rows spare counts) (m : ℕ) (keys′ rows′ spare′ counts′ : List ℕ) (lk : length keys′ ≡ length keys) (lr : length rows′ ≡ length rows) (ls : length spare′ ≡ length spare) (lc : length counts′ ≡ length counts) (a : Made d ws m rows′) (signs : List ℤ) where
   cells-many : length (cellsOf d ws) ≡ m

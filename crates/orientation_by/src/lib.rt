@@ -1,4 +1,5 @@
 // A caller's own signs, one for each cell: are they coherent? Every facet of two cells is looked at, not only those that a walk would come through.
+// Follows `Complex::orient_by` (crates/simplicial/src/topology/orientation.rs).
 //
 // What the working lists hold, one phase after the other:
 //   keys     sorted words     facet rows     the cell across each slot
@@ -17,14 +18,14 @@ ghost use mathlib.Core.List.{List};
 ghost use Prim.Native.Nat.{ℕ, _<_, _≤_};
 ghost use lib.ListN.{length, getD};
 ghost use Rattle.lists.specs.Zero.{AllZero};
-ghost use Rattle.orientation_walk.specs.Signs.{turned};
+ghost use Rattle.orientation_walk.specs.WorkSigns.{turned};
 ghost use Rattle.complex_mates.specs.Table.{MateTable};
 ghost use Rattle.multiindex.specs.Sign.{Sign};
-ghost use Rattle.orientation_signs.specs.Found.{signOf};
+ghost use Rattle.orientation_signs.specs.WorkFound.{signOf};
 ghost use Rattle.complex.specs.Cells.{cellsOf};
 ghost use Rattle.orientation.specs.Work.{Working};
 ghost use Rattle.orientation_by.specs.Promise.{Given, Ends, OrientBy};
-ghost use Rattle.orientation_by.specs.Test.{markOf, AgreesAt, Clash, Looking, Testing, Tested, TakenOver};
+ghost use Rattle.orientation_by.specs.WorkTest.{markOf, AgreesAt, Clash, Looking, Testing, Tested, TakenOver};
 
 fn wide(x: u32) -> usize
     ensures { λ r. ⌜ r ≡ x ⌝ }

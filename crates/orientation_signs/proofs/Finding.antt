@@ -6,9 +6,9 @@ use Prim.Native.Nat.{ℕ, suc, _*_, _<_, _≤_}
 use lib.ListN.{length, getD}
 use Rattle.complex.specs.Facets.{slots}
 use Rattle.complex_mates.specs.Table.{none, MateTable, Across}
-use Rattle.orientation_walk.specs.Signs as walk
-use Rattle.orientation_walk.specs.Steps as steps
-use Rattle.orientation_signs.specs.Found.{Finding, Found}
+use Rattle.orientation_walk.specs.WorkSigns as walk
+use Rattle.orientation_walk.specs.WorkSteps as steps
+use Rattle.orientation_signs.specs.WorkFound.{Finding, Found}
 use Rattle.orientation_signs.proofs.Linking.{code, coherent-down, oriented-up, finding-links}
 use Rattle.orientation_signs.proofs.Looking.{looks-are}
 

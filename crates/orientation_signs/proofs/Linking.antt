@@ -12,13 +12,13 @@ use Rattle.complex.specs.Facets.{FacetOf, Mates, Crowded, slots}
 use Rattle.complex_mates.specs.Table.{none, Meet, MateTable, Across, Crossing}
 use Rattle.complex_mates.proofs.Laws.{row-cell-below, row-slot-below, row-is, slots-some}
 use Rattle.complex_mates.proofs.Meeting.{slots-most, slots-dim}
-use Rattle.orientation_walk.specs.Signs as walk
-use Rattle.orientation_walk.specs.Signs.{turned, Link}
-use Rattle.orientation_walk.specs.Signs.Way.{here, on}
+use Rattle.orientation_walk.specs.WorkSigns as walk
+use Rattle.orientation_walk.specs.WorkSigns.{turned, Link}
+use Rattle.orientation_walk.specs.WorkSigns.Way.{here, on}
 use Rattle.multiindex.specs.Sign.{Sign, plus, minus, opposite, times, induced}
 use Rattle.orientation_signs.specs.Signs.{Coherent, Joined, Lowest, Oriented}
 use Rattle.orientation_signs.specs.Signs.Joined.{here as start, across}
-use Rattle.orientation_signs.specs.Found.{signOf, Finding}
+use Rattle.orientation_signs.specs.WorkFound.{signOf, Finding}
 use Rattle.orientation_signs.proofs.Unique.{double, cancel, forced}
 
 -- ---- signs and the walk's numbers
@@ -236,7 +236,7 @@ module _ (d m : ℕ) (cs : List (List ℕ)) (many : length cs ≡ m) (mates : Li
         }
 
     -- coherent signs of cells are coherent to the walk
-    pub coherent-down : (σ : ℕ → Sign) → Coherent d cs σ → walk.Coherent m (slots d) o fl (λ c. code (σ c))
+    pub coherent-down : (σ : ℕ → Sign) → Coherent d cs σ → walk.CoherentMarks m (slots d) o fl (λ c. code (σ c))
     coherent-down σ p =
         record {
           signs = λ c h. code-is (σ c);
@@ -251,7 +251,7 @@ module _ (d m : ℕ) (cs : List (List ℕ)) (many : length cs ≡ m) (mates : Li
     code-inj x y e = sym (code-sign x) ∙ ap signOf e ∙ code-sign y
 
     -- and the walk's are coherent
-    pub coherent-up : (τ : ℕ → ℕ) → walk.Coherent m (slots d) o fl τ → Coherent d cs (λ c. signOf (τ c))
+    pub coherent-up : (τ : ℕ → ℕ) → walk.CoherentMarks m (slots d) o fl τ → Coherent d cs (λ c. signOf (τ c))
     coherent-up τ p =
         record {
           opposed =
@@ -271,7 +271,7 @@ module _ (d m : ℕ) (cs : List (List ℕ)) (many : length cs ≡ m) (mates : Li
     way-joined (here e) = start
     way-joined (on w l e) = across (way-joined w) (link-mates l .3)
 
-    pub oriented-up : (τ : ℕ → ℕ) → walk.Oriented m (slots d) o fl τ → Oriented d cs (λ c. signOf (τ c))
+    pub oriented-up : (τ : ℕ → ℕ) → walk.OrientedMarks m (slots d) o fl τ → Oriented d cs (λ c. signOf (τ c))
     oriented-up τ p =
         record {
           coherent = coherent-up τ (p .coherent);

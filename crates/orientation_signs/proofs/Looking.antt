@@ -16,15 +16,15 @@ use lib.Seq.{getD-set-same, getD-set-other}
 use Rattle.complex.specs.Facets.{cellAt, facetAt, slots}
 use Rattle.complex_mates.specs.Table.{none, MateTable, Across}
 use Rattle.complex_mates.proofs.Meeting.{slots-most, slots-dim}
-use Rattle.orientation_walk.specs.Signs as walk
-use Rattle.orientation_walk.specs.Signs.{turned}
-use Rattle.orientation_walk.specs.Steps as steps
-use Rattle.orientation_walk.specs.Steps.{Look, Clash, Slots, Stuck, Drain, Broken, Pieces, Ready, Taking, Draining, Starting, Walking}
-use Rattle.orientation_walk.specs.Steps.Look.{edge, fresh, fits}
+use Rattle.orientation_walk.specs.WorkSigns as walk
+use Rattle.orientation_walk.specs.WorkSigns.{turned}
+use Rattle.orientation_walk.specs.WorkSteps as steps
+use Rattle.orientation_walk.specs.WorkSteps.{Look, Clash, Slots, Stuck, Drain, Broken, Pieces, Ready, Taking, Draining, Starting, Walking}
+use Rattle.orientation_walk.specs.WorkSteps.Look.{edge, fresh, fits}
 use Rattle.orientation_walk.proofs.Lemmas.{room-for, ready, moved-slots, taking-top, spent-drain, start-draining, start-sum, paused, spread-starting}
 use Rattle.orientation_walk.proofs.Theory.{walking}
 use Rattle.multiindex.specs.Sign.{Sign, plus, minus}
-use Rattle.orientation_signs.specs.Found.{signOf}
+use Rattle.orientation_signs.specs.WorkFound.{signOf}
 use Rattle.orientation_signs.specs.Looks.{droppedFor, cellBeyond, signBeyond, Mark, unsigned, signed, given, signIn, Walk, at, conflict, looksIn, sameSign, finds, look, looksBelow, emptied, beginsAt, begins, walked, looksOf}
 use Rattle.orientation_signs.proofs.Beyond.{false-true, beyond-mates, mates-beyond}
 use Rattle.orientation_signs.proofs.Linking.{code, sign-code, turned-code, across-sign, row-in, row-div, row-mod, moved, rows-few, facet-row, mates-row}

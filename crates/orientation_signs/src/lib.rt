@@ -1,11 +1,12 @@
 // Coherent signs over a table of mates.
+// Follows `Complex::compute_orientation` (crates/simplicial/src/topology/orientation.rs): the signs that its walk asks across a facet.
 ghost use mathlib.Core.Bool.{true, false};
 ghost use mathlib.Core.Path.{_≡_};
 ghost use mathlib.Core.List.{List};
 ghost use Prim.Native.Nat.{ℕ, suc, _+_, _*_, _<_, _≤_};
 ghost use lib.ListN.{length, getD, take};
 ghost use Rattle.complex_mates.specs.Table.{MateTable};
-ghost use Rattle.orientation_signs.specs.Found.{Finding, Found, numberOf, handedOut};
+ghost use Rattle.orientation_signs.specs.WorkFound.{Finding, Found, markNumber, handedOut};
 
 // What a search for coherent signs comes to: whether it found them, and its facet looks.
 pub struct Searched {
@@ -48,7 +49,7 @@ pub fn hand_out(marks: &[u32], signs: &mut [i32])
 
 // +1 for 1, else -1.
 fn sign_of(mark: u32) -> i32
-    ensures { λ r. ⌜ r ≡ numberOf mark ⌝ }
+    ensures { λ r. ⌜ r ≡ markNumber mark ⌝ }
 {
     if mark == 1 {
         return 1;

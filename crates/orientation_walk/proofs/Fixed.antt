@@ -7,10 +7,10 @@ use mathlib.Core.List.{List}
 use native.Mathlib.Omega.{arith}
 use native.Mathlib.Decide.{ℕ-discrete, decLt}
 use lib.ListN.{length, getD, set}
-use Rattle.orientation_walk.specs.Signs.{turned, Table, Coherent, Oriented}
-use Rattle.orientation_walk.specs.Steps.{Look, Clash, Slots, Stuck, Drain, Broken, Pieces, Refused, wiped, Looks, Answer}
-use Rattle.orientation_walk.specs.Steps.Look.{edge, fresh, fits}
-use Rattle.orientation_walk.specs.Steps.Pieces.{signed, begun}
+use Rattle.orientation_walk.specs.WorkSigns.{turned, Table, CoherentMarks, OrientedMarks}
+use Rattle.orientation_walk.specs.WorkSteps.{Look, Clash, Slots, Stuck, Drain, Broken, Pieces, Refused, wiped, Looks, Answer}
+use Rattle.orientation_walk.specs.WorkSteps.Look.{edge, fresh, fits}
+use Rattle.orientation_walk.specs.WorkSteps.Pieces.{signed, begun}
 use Rattle.orientation_walk.proofs.Lemmas.{not-both}
 
 -- one state of the walk

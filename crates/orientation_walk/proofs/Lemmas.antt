@@ -11,11 +11,11 @@ use native.Mathlib.Nat.{eq-zero-or-pos, mul-le-mul-right, suc-mul}
 use native.Mathlib.Decide.{ℕ-discrete}
 use lib.ListN.{length, getD, set, length-set, replicate, drop}
 use lib.Seq.{getD-set-same, getD-set-other}
-use Rattle.orientation_walk.specs.Signs.{turned, Sign, Link, Table, Coherent, Way, Lowest, Oriented}
-use Rattle.orientation_walk.specs.Steps.{blank, zeros, Fit, Look, Clash, Slots, Stuck, Drain, Broken, Pieces, Refused, Ready, Looked, Taking, Took, Draining, Drained, Starting, Walking, Spread, wiped, Looks, Answer}
-use Rattle.orientation_walk.specs.Steps.Look.{edge, fresh, fits}
-use Rattle.orientation_walk.specs.Steps.Slots.{none-yet, one-more}
-use Rattle.orientation_walk.specs.Steps.Pieces.{signed, begun}
+use Rattle.orientation_walk.specs.WorkSigns.{turned, Sign, Link, Table, CoherentMarks, Way, Lowest, OrientedMarks}
+use Rattle.orientation_walk.specs.WorkSteps.{blank, zeros, Fit, Look, Clash, Slots, Stuck, Drain, Broken, Pieces, Refused, Ready, Looked, Taking, Took, Draining, Drained, Starting, Walking, Spread, wiped, Looks, Answer}
+use Rattle.orientation_walk.specs.WorkSteps.Look.{edge, fresh, fits}
+use Rattle.orientation_walk.specs.WorkSteps.Slots.{none-yet, one-more}
+use Rattle.orientation_walk.specs.WorkSteps.Pieces.{signed, begun}
 
 pub turned-same : (f s : ℕ) → f ≡ 0 → s ≡ turned f s
 unfolding turned

@@ -11,12 +11,12 @@ use lib.ListN.{length, getD, set, length-set, length-append, length-replicate, r
 use mir.Syntax.{w64}
 use mir.Val.{Fits}
 use lib.Seq.{getD-set-same, getD-set-other}
-use Rattle.orientation_walk.specs.Signs.{turned, Sign, Link, Table, Coherent, Way, Lowest, Oriented}
-use Rattle.orientation_walk.specs.Signs.Way.{here, on}
-use Rattle.orientation_walk.specs.Steps.{blank, zeros, Fit, Look, Clash, Slots, Stuck, Drain, Broken, Pieces, Refused, Ready, Looked, Taking, Draining, Starting, Walking, Spread, wiped, Looks, Answer}
-use Rattle.orientation_walk.specs.Steps.Look.{edge, fresh, fits}
-use Rattle.orientation_walk.specs.Steps.Slots.{none-yet, one-more}
-use Rattle.orientation_walk.specs.Steps.Pieces.{signed, begun}
+use Rattle.orientation_walk.specs.WorkSigns.{turned, Sign, Link, Table, CoherentMarks, Way, Lowest, OrientedMarks}
+use Rattle.orientation_walk.specs.WorkSigns.Way.{here, on}
+use Rattle.orientation_walk.specs.WorkSteps.{blank, zeros, Fit, Look, Clash, Slots, Stuck, Drain, Broken, Pieces, Refused, Ready, Looked, Taking, Draining, Starting, Walking, Spread, wiped, Looks, Answer}
+use Rattle.orientation_walk.specs.WorkSteps.Look.{edge, fresh, fits}
+use Rattle.orientation_walk.specs.WorkSteps.Slots.{none-yet, one-more}
+use Rattle.orientation_walk.specs.WorkSteps.Pieces.{signed, begun}
 use Rattle.orientation_walk.proofs.Lemmas.{turned-sign, Grows, grows-set, Moved, moved-look, moved-slots, or-set, or-top, at-top, below-top, at-j, slot-in, not-both, ready, zeros-all, Paused, Spent, taking-top, spent-drain, start-draining, start-sum, sign-plus, blank-pos, paused, spread-starting}
 use Rattle.orientation_walk.proofs.Ways.{way-sign, way-end, forced, same-sign, lowest-plus}
 
@@ -179,7 +179,7 @@ module _ {n k : ℕ} {o fl : List ℕ} (table : Table n k o fl) (old : List ℕ)
   -- a clash leaves no coherent signs, where all pieces before this one are done
   clashed : {c s : ℕ} {g t : List ℕ} {h : ℕ} → r < n → c < n → s < k → Fit n g t h → 0 < getD g c 0 → getD old c 0 ≡ 0 →
       ((x : ℕ) → x < n → 0 < getD old x 0 → Sign (getD old x 0)) → ((x : ℕ) → x < n → 0 < getD old x 0 → Done n k o fl old x) →
-      Piece n k o fl old r g t h → Clash o fl c (c * k + s) g → {σ : ℕ → ℕ} → Coherent n k o fl σ → ⊥
+      Piece n k o fl old r g t h → Clash o fl c (c * k + s) g → {σ : ℕ → ℕ} → CoherentMarks n k o fl σ → ⊥
   clashed {c} {s} {g} lr lc ls fit sc z small closed p q {σ} co =
       let j = getD o (c * k + s) 0 in
       let f = getD fl (c * k + s) 0 in
@@ -278,11 +278,11 @@ module _ {n k : ℕ} {o fl : List ℕ} {g t : List ℕ} (a : Walking n k o fl g 
   between l (begun w z d) = after (omega arith) w (between (omega arith) w) z d
 
   -- the signs of a whole walk
-  pub oriented : {m : ℕ} {g1 t1 : List ℕ} → Pieces k o fl g t n m g1 t1 → Oriented n k o fl (λ c. getD g1 c 0)
+  pub oriented : {m : ℕ} {g1 t1 : List ℕ} → Pieces k o fl g t n m g1 t1 → OrientedMarks n k o fl (λ c. getD g1 c 0)
   oriented {g1 = g1} w =
       let b = between (omega arith) w in
       let p = paused a (omega arith) w in
-      let co : Coherent n k o fl (λ c. getD g1 c 0) =
+      let co : CoherentMarks n k o fl (λ c. getD g1 c 0) =
       record { signs = λ c l. sign-of c (p .fit) l (b .filled c l); agree = λ c j f q. b .closed c (q .from) (b .filled c (q .from)) j f q } in
       record {
         coherent = co;
@@ -293,7 +293,7 @@ module _ {n k : ℕ} {o fl : List ℕ} {g t : List ℕ} (a : Walking n k o fl g 
       }
 
   -- no signs where the walk stops
-  pub refuted : {m s : ℕ} {g' t' : List ℕ} → Refused n k o fl g t m s g' t' → (σ : ℕ → ℕ) → Coherent n k o fl σ → ⊥
+  pub refuted : {m s : ℕ} {g' t' : List ℕ} → Refused n k o fl g t m s g' t' → (σ : ℕ → ℕ) → CoherentMarks n k o fl σ → ⊥
   refuted f σ co =
       let i = f .i in
       let l : i < n = f .below in

@@ -5,8 +5,8 @@ use mathlib.Core.List.{List}
 use native.Mathlib.Omega.{arith}
 use native.Mathlib.Decide.{ℕ-discrete, decLt}
 use lib.ListN.{length, getD}
-use Rattle.orientation_walk.specs.Signs.{turned, Sign, Link, Table, Coherent, Way, Lowest, Oriented}
-use Rattle.orientation_walk.specs.Signs.Way.{here, on}
+use Rattle.orientation_walk.specs.WorkSigns.{turned, Sign, Link, Table, CoherentMarks, Way, Lowest, OrientedMarks}
+use Rattle.orientation_walk.specs.WorkSigns.Way.{here, on}
 use Rattle.orientation_walk.proofs.Lemmas.{turned-sign}
 
 -- the sign s at a way's end, where x stands at its start, turns x by s - 1
@@ -46,7 +46,7 @@ module _ {n k : ℕ} {o fl : List ℕ} where
   way-end h (on w l e) = l .cell
 
   -- a coherent σ is forced along a way
-  pub forced : {σ : ℕ → ℕ} → Coherent n k o fl σ → {r c s : ℕ} → r < n → Way n k o fl r c s → σ c ≡ turned (s - 1) (σ r)
+  pub forced : {σ : ℕ → ℕ} → CoherentMarks n k o fl σ → {r c s : ℕ} → r < n → Way n k o fl r c s → σ c ≡ turned (s - 1) (σ r)
   unfolding turned
   forced {σ} q {r} h (here e) = rw e
   forced {σ} q {r} h (on {c = c} {j = j} {s = s} {f = f} w l e) =
@@ -62,7 +62,7 @@ module _ {n k : ℕ} {o fl : List ℕ} where
   way-back t (on {c = c} {j = j} {f = f} w l e) = way-trans (on (here refl) (t .back c j f l) refl) (way-back t w .1)
 
   -- the lowest cell of a piece has + where its sign is that of a way from a cell not above it
-  pub lowest-plus : Table n k o fl → {σ : ℕ → ℕ} → Coherent n k o fl σ → (c r : ℕ) → c < n → r ≤ c → Way n k o fl r c (σ c) → Lowest n k o fl c → σ c ≡ 1
+  pub lowest-plus : Table n k o fl → {σ : ℕ → ℕ} → CoherentMarks n k o fl σ → (c r : ℕ) → c < n → r ≤ c → Way n k o fl r c (σ c) → Lowest n k o fl c → σ c ≡ 1
   unfolding turned
   lowest-plus t {σ} q c r h l w low =
       let b = way-back t w in
@@ -78,7 +78,7 @@ module _ {n k : ℕ} {o fl : List ℕ} where
       last (suc (suc (suc x))) a e = absurd (omega (arith, a .small))
 
   -- two oriented assignments are equal at each cell
-  module _ {σ τ : ℕ → ℕ} (p : Oriented n k o fl σ) (q : Oriented n k o fl τ) where
+  module _ {σ τ : ℕ → ℕ} (p : OrientedMarks n k o fl σ) (q : OrientedMarks n k o fl τ) where
     below : (m c : ℕ) → c < m → c < n → σ c ≡ τ c
     below zero c l h = absurd (omega arith)
     below (suc m) c l h = here-too c l h (λ j a b. below m j a b)

@@ -1,9 +1,10 @@
 // The walk that gives cells coherent signs, over a flat table of neighbours.
+// Follows the walk of `Complex::compute_orientation` (crates/simplicial/src/topology/orientation.rs).
 ghost use mathlib.Core.Path.{_≡_};
 ghost use Prim.Native.Nat.{ℕ, _+_, _-_, _*_, _<_, _≤_};
 ghost use lib.ListN.{length, getD, set};
-ghost use Rattle.orientation_walk.specs.Signs.{turned, Table};
-ghost use Rattle.orientation_walk.specs.Steps.{Ready, Looked, Taking, Took, Draining, Drained, Starting, Walking, Spread, Answer, wiped};
+ghost use Rattle.orientation_walk.specs.WorkSigns.{turned, Table};
+ghost use Rattle.orientation_walk.specs.WorkSteps.{Ready, Looked, Taking, Took, Draining, Drained, Starting, Walking, Spread, Answer, wiped};
 
 fn wide(x: u32) -> usize
     ensures { λ r. ⌜ r ≡ x ⌝ }

@@ -14,7 +14,7 @@ use Rattle.quotient.specs.declared.Parity.the-variants as Parity
 use Rattle.quotient.specs.declared.Reduced.{Reduced}
 use Rattle.quotient.specs.declared.Reduced.the-variants as Reduced
 use Rattle.quotient.specs.Fold.{least, product, factorial, some, count, member}
-use Rattle.quotient.specs.Shape.{axisOf, closedOf, maskOf, maskAt, gluedOn, pointsOn, badReflection, shortAxis, cellsOf, verticesOf, badSet, oddSet, reflectsOdd, checkOf, parityOf, parityAfter}
+use Rattle.quotient.specs.Shape.{axisOf, closedOf, maskOf, maskAt, gluedOn, pointsOn, badReflection, shortAxis, cellCount, verticesOf, badSet, oddSet, reflectsOdd, checkOf, parityOf, parityAfter}
 use Rattle.quotient.specs.Reduce.{restAt, coordAt, flipsAt, reflectedBy, foldedAt, numberTo, vertexOf, reduceOf, reducedAfter}
 use Rattle.quotient.specs.Points.{pointsOf}
 use Rattle.quotient.specs.Chain.{Alike}
@@ -29,7 +29,7 @@ module _ (g h : Grid) (alike : Alike g h) where
   eight-alike : shortAxis g ≡ shortAxis h
   eight-alike = λ i. least (λ k. ltb (alike .cells k i) (cond (alike .closed k i) 3 1)) (alike .dimension i)
 
-  cells-alike : cellsOf g ≡ cellsOf h
+  cells-alike : cellCount g ≡ cellCount h
   cells-alike = λ i. factorial (alike .dimension i) * product (λ k. alike .cells k i) (alike .dimension i)
 
   -- each axis has as many points after gluing

@@ -16,7 +16,7 @@ use Rattle.refusal.specs.declared.Counted.the-variants as Counted
 use Rattle.refusal.specs.Table.{badDimension, tooManyCells, tooManyVertices, shortAxisNumber, badReflectionNumber, badSide}
 use Rattle.refusal.specs.Limits.{mostDimension, mostCells, mostVertices}
 use Rattle.grid_sides.specs.Counts.{firstBad}
-use Rattle.quotient.specs.Shape.{reflectsOdd, parityOf, shapeCheck, checkOf, sidesCheckOf, nverticesOf, badReflection, shortAxis, cellsOf, verticesOf}
+use Rattle.quotient.specs.Shape.{reflectsOdd, parityOf, shapeCheck, checkOf, sidesCheckOf, nverticesOf, badReflection, shortAxis, cellCount, verticesOf}
 
 -- ---- from 9 on
 module _ (g : Grid) (b : ℕ) (eb : b ≡ badReflection g) where
@@ -27,12 +27,12 @@ module _ (g : Grid) (b : ℕ) (eb : b ≡ badReflection g) where
     pub is-8 : s < g .d → Refused shortAxisNumber s ≡ shapeCheck g
     is-8 h = rw (← eb, le-ltb _ _ hb, ← es, lt-ltb _ _ h)
 
-    module _ (hs : g .d ≤ s) (n : ℕ) (en : n ≡ min (cellsOf g) (mostCells + 1)) where
+    module _ (hs : g .d ≤ s) (n : ℕ) (en : n ≡ min (cellCount g) (mostCells + 1)) where
       pub is-3 : mostCells < n → Refused tooManyCells 0 ≡ shapeCheck g
-      is-3 h = let m : mostCells < cellsOf g = omega arith in rw (← eb, le-ltb _ _ hb, ← es, le-ltb _ _ hs, lt-ltb _ _ m)
+      is-3 h = let m : mostCells < cellCount g = omega arith in rw (← eb, le-ltb _ _ hb, ← es, le-ltb _ _ hs, lt-ltb _ _ m)
 
       module _ (hn : n ≤ mostCells) (k : ℕ) (ek : k ≡ min (verticesOf g) (mostVertices + 1)) where
-        cells-fine : cellsOf g ≤ mostCells
+        cells-fine : cellCount g ≤ mostCells
         cells-fine = omega arith
 
         pub is-6 : mostVertices < k → Refused tooManyVertices 0 ≡ shapeCheck g

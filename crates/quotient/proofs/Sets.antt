@@ -7,7 +7,7 @@ use native.Mathlib.Nat.{not-suc-le-zero}
 use lib.Dec.{T, eqb, eqb→eq}
 use lib.Count.{ones, onesIn}
 use Rattle.quotient.specs.Fold.{member, count}
-use Rattle.quotient.specs.Shape.{sizeOf}
+use Rattle.quotient.specs.Shape.{setSize}
 use Rattle.quotient.proofs.Laws.{lt-or-eq}
 
 -- the test passes at each number below n
@@ -31,12 +31,12 @@ all-at p (suc n) t k h =
     (λ (q : k ≡ n). subst (λ (x : ℕ). T (p x)) (sym q) (and-left (p n) (all p n) t)) (lt-or-eq k n h)
 
 right : ℕ → Bool
-right m = eqb (ones m) (sizeOf m)
+right m = eqb (ones m) (setSize m)
 
 computed : T (all right 256)
 unfolding ones onesIn count all right
 computed = tt
 
-pub ones-size : (m : ℕ) → m < 2 ^ 8 → ones m ≡ sizeOf m
+pub ones-size : (m : ℕ) → m < 2 ^ 8 → ones m ≡ setSize m
 unfolding right
-ones-size m h = eqb→eq (ones m) (sizeOf m) (all-at right 256 computed m h)
+ones-size m h = eqb→eq (ones m) (setSize m) (all-at right 256 computed m h)

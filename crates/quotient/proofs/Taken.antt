@@ -18,7 +18,7 @@ use Rattle.refusal.specs.Limits.{mostDimension, mostCells, mostVertices}
 use Rattle.refusal.proofs.Chain.{refuse-fine}
 use Rattle.grid_sides.specs.Counts.{firstBad}
 use Rattle.quotient.specs.Fold.{product, firstFrom}
-use Rattle.quotient.specs.Shape.{axisOf, closedOf, closedFloor, openFloor, tooFew, fallsShort, closedAt, cellsOn, gluedOn, pointsOn, badReflection, shortAxis, cellsOf, verticesOf, shapeCheck, checkOf, sidesCheckOf}
+use Rattle.quotient.specs.Shape.{axisOf, closedOf, closedFloor, openFloor, tooFew, fallsShort, closedAt, cellsOn, gluedOn, pointsOn, badReflection, shortAxis, cellCount, verticesOf, shapeCheck, checkOf, sidesCheckOf}
 use Rattle.quotient.specs.declared.GridVertex.{GridVertex}
 use Rattle.quotient.specs.declared.Reduced.{Reduced}
 use Rattle.quotient.specs.declared.Reduced.the-variants as Reduced
@@ -66,13 +66,13 @@ module _ (g : Grid) (fine : sidesCheckOf g ≡ Fine) where
   sides-fit = ltb-false _ _ (side-tests .2)
 
 module _ (g : Grid) (fine : checkOf g ≡ Fine) where
-  tests : (ltb (g .d) 1 ≡ false) × (ltb mostDimension (g .d) ≡ false) × (ltb (badReflection g) (g .d) ≡ false) × (ltb (shortAxis g) (g .d) ≡ false) × (ltb mostCells (cellsOf g) ≡ false) × (ltb mostVertices (verticesOf g) ≡ false)
+  tests : (ltb (g .d) 1 ≡ false) × (ltb mostDimension (g .d) ≡ false) × (ltb (badReflection g) (g .d) ≡ false) × (ltb (shortAxis g) (g .d) ≡ false) × (ltb mostCells (cellCount g) ≡ false) × (ltb mostVertices (verticesOf g) ≡ false)
   unfolding checkOf
   tests =
       let p2 : Answer = refuse (ltb mostDimension (g .d)) badDimension 0 (shapeCheck g) in
       let e1 = refuse-fine (ltb (g .d) 1) badDimension 0 p2 fine in
       let e2 = refuse-fine (ltb mostDimension (g .d)) badDimension 0 (shapeCheck g) (e1 .1) in
-      let e = shape-passed (ltb (badReflection g) (g .d)) (ltb (shortAxis g) (g .d)) (ltb mostCells (cellsOf g)) (ltb mostVertices (verticesOf g)) (badReflection g) (shortAxis g) (e2 .1) in
+      let e = shape-passed (ltb (badReflection g) (g .d)) (ltb (shortAxis g) (g .d)) (ltb mostCells (cellCount g)) (ltb mostVertices (verticesOf g)) (badReflection g) (shortAxis g) (e2 .1) in
       (e1 .0, e2 .0, e .0, e .1, e .2, e .3)
 
   pub taken-low : 1 ≤ g .d
@@ -84,7 +84,7 @@ module _ (g : Grid) (fine : checkOf g ≡ Fine) where
   pub taken-reflections : g .d ≤ badReflection g
   taken-reflections = ltb-false _ _ (tests .2)
 
-  pub taken-cells : cellsOf g ≤ mostCells
+  pub taken-cells : cellCount g ≤ mostCells
   taken-cells = ltb-false _ _ (tests .4)
 
   pub taken-short : g .d ≤ shortAxis g

@@ -83,8 +83,8 @@ abbrev pub pointsOn : Grid → ℕ → ℕ
 pointsOn g i = cellsOn g i + 1
 
 -- how many cells, and how many vertices after gluing
-abbrev pub cellsOf : Grid → ℕ
-cellsOf g = factorial (g .d) * product (cellsOn g) (g .d)
+abbrev pub cellCount : Grid → ℕ
+cellCount g = factorial (g .d) * product (cellsOn g) (g .d)
 
 abbrev pub verticesOf : Grid → ℕ
 verticesOf g = product (gluedOn g) (g .d)
@@ -108,7 +108,7 @@ abbrev pub shapeCheck : Grid → Answer
 shapeCheck g =
     refuse (ltb (badReflection g) (g .d)) badReflectionNumber (badReflection g)
     (refuse (ltb (shortAxis g) (g .d)) shortAxisNumber (shortAxis g)
-    (refuse (ltb mostCells (cellsOf g)) tooManyCells 0
+    (refuse (ltb mostCells (cellCount g)) tooManyCells 0
     (refuse (ltb mostVertices (verticesOf g)) tooManyVertices 0
     Fine)))
 
@@ -140,11 +140,11 @@ nverticesOf g = countedAfter (checkOf g) (Counted.Count (verticesOf g))
 -- ---- orientation
 
 -- how many axes the set of the mask m has, and whether that number is odd
-abbrev pub sizeOf : ℕ → ℕ
-sizeOf m = count (member m) 8
+abbrev pub setSize : ℕ → ℕ
+setSize m = count (member m) 8
 
 unfoldable pub oddSet : ℕ → Bool
-oddSet m = eqb (sizeOf m % 2) 1
+oddSet m = eqb (setSize m % 2) 1
 
 abbrev pub reflectsOdd : Grid → ℕ → Bool
 reflectsOdd g i = oddSet (maskAt g i)

@@ -2,7 +2,7 @@
 ghost use mathlib.Core.Path.{_≡_};
 ghost use Prim.Native.Nat.{_+_, _*_, _≤_, _<_, _^_, min};
 ghost use Rattle.refusal.specs.Limits.{mostCells, mostVertices};
-ghost use Rattle.quotient.specs.Shape.{reflectsBadly, fallsShort, cellsOf, verticesOf, badReflection, shortAxis, shapeCheck, checkOf, sidesCheckOf, nverticesOf};
+ghost use Rattle.quotient.specs.Shape.{reflectsBadly, fallsShort, cellCount, verticesOf, badReflection, shortAxis, shapeCheck, checkOf, sidesCheckOf, nverticesOf};
 use crate::Grid;
 use crate::mask;
 use refusal::Answer;
@@ -72,7 +72,7 @@ impl Grid {
 
     // The number of cells, or one more than the limit where it is larger.
     fn cells(self) -> usize
-        ensures { λ r. ⌜ r ≡ min (cellsOf self) (mostCells + 1) ⌝ }
+        ensures { λ r. ⌜ r ≡ min (cellCount self) (mostCells + 1) ⌝ }
     {
         let d = self.d;
         let mut p = 1usize;

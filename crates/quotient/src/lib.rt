@@ -1,4 +1,5 @@
 // Grids whose axes are glued: a box of cells with one gluing for each axis, and the one rule that says which vertex a grid point becomes.
+// Follows `FlatQuotient` and `Identification` (crates/regge/src/mesher/quotient.rs).
 //
 // An axis of n cells has n + 1 points. Left open it keeps them all; closed, its last point is its first one again, and n are left. A twisted axis is closed and
 // turns the axes of its set round on the way: coordinate c becomes n - c. Rings, Moebius bands, tori and Klein bottles are this one construction with

@@ -21,31 +21,31 @@ use Rattle.multiindex.proofs.SortLaws.{AtLeast, Sorted, sort-sorted, sort-lengt
 use Rattle.complex.specs.Check.{Passed}
 use Rattle.complex.specs.Cells.{cellsOf}
 use Rattle.complex.specs.Facets.{cellAt}
-use Rattle.complex_cells.specs.Made.{Made}
+use Rattle.complex_cells.specs.WorkMade.{Made}
 use Rattle.complex_cells.proofs.Words.{Word, In, in-at, at-in}
 use Rattle.complex_cells.proofs.Order.{order-from}
 use Rattle.complex_cells.proofs.Strict.{sort-all}
 use Rattle.complex_cells.proofs.Making.{whole-words}
-use Rattle.refine_lattice.specs.Complex.{times, same}
+use Rattle.refine_lattice.specs.Complex.{occurrences, same}
 use Rattle.refine_lattice.proofs.Enumerate.{once-of-apart}
 use Rattle.ordering.specs.Order.{wordOf, byCell, IsOrder}
 use Rattle.ordering.proofs.Lists.{cut-front, sort-back}
 use Rattle.ordering.proofs.Orders.{by-cell-at, by-cell-length}
 use Rattle.refine_results.specs.Refined.{coarse}
-use Rattle.refine_results.specs.Flat.{Along}
+use Rattle.refine_results.specs.WorkFlat.{Along}
 
 -- ---- a word and the word sorted
 -- as often in one as in the other
-insert-times : (x : ℕ) (ys : List ℕ) (v : ℕ) → times (insert x ys) v ≡ same v x + times ys v
+insert-times : (x : ℕ) (ys : List ℕ) (v : ℕ) → occurrences (insert x ys) v ≡ same v x + occurrences ys v
 unfolding insert insertBy
 insert-times x [] v = refl
 insert-times x (y ∷ ys) v = go (ltb y x) (insert-times x ys v)
   where
-    go : (t : Bool) → times (insert x ys) v ≡ same v x + times ys v → times (insertBy t x y ys (insert x ys)) v ≡ same v x + (same v y + times ys v)
+    go : (t : Bool) → occurrences (insert x ys) v ≡ same v x + occurrences ys v → occurrences (insertBy t x y ys (insert x ys)) v ≡ same v x + (same v y + occurrences ys v)
     go true e = omega arith
     go false e = refl
 
-sort-times : (w : List ℕ) (v : ℕ) → times (sortWord w) v ≡ times w v
+sort-times : (w : List ℕ) (v : ℕ) → occurrences (sortWord w) v ≡ occurrences w v
 unfolding sortWord
 sort-times [] v = refl
 sort-times (x ∷ w) v = insert-times x (sortWord w) v ∙ ap (λ (n : ℕ). same v x + n) (sort-times w v)
@@ -103,7 +103,7 @@ module _ (d : ℕ) (ws : List ℕ) (m : ℕ) (cells : List ℕ) (p : Passed d ws
   cell-long : (c : ℕ) → c < m → length (row cells (suc d) c) ≡ suc d
   cell-long c h = ap length (sym (cell-row c h)) ∙ a .cells .long c (omega (arith, cut-length (suc d) m cells))
 
-  cell-plain : (c : ℕ) → c < m → (v : ℕ) → times (row cells (suc d) c) v ≤ 1
+  cell-plain : (c : ℕ) → c < m → (v : ℕ) → occurrences (row cells (suc d) c) v ≤ 1
   cell-plain c h =
       once-of-apart (row cells (suc d) c)
       (λ i j l k e.
@@ -131,7 +131,7 @@ module _ (d : ℕ) (ws : List ℕ) (m : ℕ) (cells : List ℕ) (p : Passed d ws
               let hc : i % suc d < suc d = mod-lt i some in
               let g : getD along i 0 ≡ getD (row along (suc d) (i / suc d)) (i % suc d) 0 = ap (λ (j : ℕ). getD along j 0) (sym (div-add-mod' i (suc d))) ∙ sym (row-cell along (suc d) (i / suc d) (i % suc d) hc) in
               rw g (All-at (λ x. x < coarse ws) (row along (suc d) (i / suc d)) (i % suc d) (low-word (i / suc d) hr) (omega (arith, long-word (i / suc d) hr)));
-          plain = λ c h v. subst (λ (k : ℕ). k ≤ 1) (ap (λ (w : Word). times w v) (sym (sorts c h)) ∙ sort-times (row along (suc d) c) v) (cell-plain c h v);
+          plain = λ c h v. subst (λ (k : ℕ). k ≤ 1) (ap (λ (w : Word). occurrences w v) (sym (sorts c h)) ∙ sort-times (row along (suc d) c) v) (cell-plain c h v);
           matched = sorts;
         }
 

@@ -15,18 +15,18 @@ use Rattle.lists.specs.Rows.{cut, rows, flat}
 use Rattle.lists.proofs.Rows.{cut-length}
 use Rattle.complex.specs.Cells.{cellsOf}
 use Rattle.complex.specs.Facets.{Cells, Crowded, slots}
-use Rattle.complex_cells.specs.Made.{Made}
+use Rattle.complex_cells.specs.WorkMade.{Made}
 use Rattle.complex_mates.specs.Table.{MateTable, Meeting}
 use Rattle.complex_mates.proofs.Meeting.{slots-most}
 use Rattle.orientation_signs.proofs.Linking.{not-crowded}
 use Rattle.ordering.specs.Order.{byCell, Orders}
-use Rattle.ordering.specs.Arrange.{Arranging, Arranged}
+use Rattle.ordering.specs.WorkArrange.{Arranging, Arranged}
 use Rattle.ordering.proofs.Lists.{cut-front, front-at}
 use Rattle.refine_results.specs.Refined.{coarse, orderWords}
-use Rattle.refine.specs.Reading.{wordsBy, OrderedBy, Making, Reads}
-use Rattle.refine.specs.Reading.Reads.{crowded as reads-crowded, unordered as reads-unordered, read as reads-read}
-use Rattle.refine.specs.Coarse.{Listing, Listed, Naming, Named}
-use Rattle.refine.specs.Coarse.Listed.{crowded as listed-crowded, listed as listed-cells}
+use Rattle.refine.specs.WorkReading.{wordsBy, OrderedBy, Making, Reads}
+use Rattle.refine.specs.WorkReading.Reads.{crowded as reads-crowded, unordered as reads-unordered, read as reads-read}
+use Rattle.refine.specs.WorkCoarse.{Listing, Listed, Naming, Named}
+use Rattle.refine.specs.WorkCoarse.Listed.{crowded as listed-crowded, listed as listed-cells}
 use Rattle.refine.proofs.Along.{along-cells, same-words, along-order, ordered-words}
 
 no-true : _≡_ {A = Bool} false true → ⊥

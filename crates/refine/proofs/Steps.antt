@@ -23,11 +23,11 @@ use Rattle.complex_cells.proofs.Pigeon.{largest-low}
 use Rattle.refine_results.specs.declared.Refinement.{Refinement}
 use Rattle.refine_results.specs.declared.Refinement.the-variants.{Refused}
 use Rattle.refine_results.specs.Refined.{coarse}
-use Rattle.refine_results.specs.Flat.{Along}
+use Rattle.refine_results.specs.WorkFlat.{Along}
 use Rattle.refine_results.specs.Results.{nothing, Lengths, lengthsOf, Inside, Finishes}
-use Rattle.refine_results.specs.Stage.{Spacious, Ready, Handed}
+use Rattle.refine_results.specs.WorkStage.{Spacious, Ready, Handed}
 use Rattle.refine.specs.Space.{childrenRoom}
-use Rattle.refine.specs.Reading.{Making, Reads, crowded, unordered, read}
+use Rattle.refine.specs.WorkReading.{Making, Reads, crowded, unordered, read}
 use Rattle.refine.specs.Promise as promise
 use Rattle.refine.specs.Work.{Working, Worked}
 use Rattle.refine.proofs.Needed.{children-fit}

@@ -1,5 +1,5 @@
 pub mod Space
-pub mod Reading
-pub mod Coarse
+pub mod WorkReading
+pub mod WorkCoarse
 pub mod Promise
 pub mod Work

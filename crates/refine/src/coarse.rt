@@ -10,8 +10,8 @@ ghost use Rattle.lists.specs.Words.{largestOf};
 ghost use Rattle.complex.specs.Cells.{cellsOf};
 ghost use Rattle.ordering.specs.Order.{Orders};
 ghost use Rattle.refine_results.specs.Refined.{coarse, orderWords};
-ghost use Rattle.refine.specs.Reading.{wordsBy, OrderedBy, Making, Reads};
-ghost use Rattle.refine.specs.Coarse.{Listing, Listed, Naming, Named};
+ghost use Rattle.refine.specs.WorkReading.{wordsBy, OrderedBy, Making, Reads};
+ghost use Rattle.refine.specs.WorkCoarse.{Listing, Listed, Naming, Named};
 
 fn wide(x: u32) -> usize
     ensures { λ r. ⌜ r ≡ x ⌝ }

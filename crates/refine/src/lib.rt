@@ -1,4 +1,5 @@
 // The public calls of refinement: every cell of a complex is refined by R, along its sorted vertices or along a caller's word for it.
+// Follows `Complex::refine` and `refine_with` (crates/simplicial/src/topology/refine.rs).
 //
 // What the working lists hold, one phase after the other:
 //   cells    -                the coarse cells
@@ -22,7 +23,7 @@ use refusal::TOO_SHORT;
 ghost use Rattle.complex.specs.Cells.{cellsOf};
 ghost use Rattle.ordering.specs.Order.{Orders};
 ghost use Rattle.refine_results.specs.Refined.{orderWords};
-ghost use Rattle.refine.specs.Reading.{OrderedBy, wordsBy};
+ghost use Rattle.refine.specs.WorkReading.{OrderedBy, wordsBy};
 ghost use Rattle.refine.specs.Promise.{Refining};
 ghost use Rattle.refine.specs.Work.{Working, Worked, AllTen};
 

@@ -31,8 +31,8 @@ use Rattle.refine_lattice.proofs.Enumerate.{of-gather}
 use Rattle.refine_lattice.proofs.Pattern.{added, child-corners, row-sum, row-count, gather-at, flat-row, flat-count, visits-pattern}
 use Rattle.refine_lattice.proofs.Refines.{mem-at}
 use Rattle.refine_births.specs.Support.{none, rowOf, total}
-use Rattle.refine_births.specs.Visits.{visitAt, Visiting, Visited}
-use Rattle.refine_births.specs.Numbers.{Classing, Classed, Numbering, Told, Numbered}
+use Rattle.refine_births.specs.WorkVisits.{visitAt, Visiting, Visited}
+use Rattle.refine_births.specs.WorkNumbers.{Classing, Classed, Numbering, Told, Numbered}
 use Rattle.refine_births.specs.Promise.{Resolving, Resolved, Supports}
 use Rattle.refine_births.proofs.Numbering.{enter}
 use Rattle.refine_births.proofs.Points.{row-told, row-below, positives-most, point-most}

@@ -17,7 +17,7 @@ use Rattle.refine_lattice.specs.Children.{pick}
 use Rattle.refine_lattice.specs.Refine.{positives, first, equal, place, births-from, number}
 use Rattle.refine_lattice.proofs.Refines.{yes-pick, no-pick, dec-T, equal-eq, equal-refl}
 use Rattle.refine_births.specs.Support.{none, supporters, rowOf, Starts}
-use Rattle.refine_births.specs.Numbers.{Numbering, Told, Numbered}
+use Rattle.refine_births.specs.WorkNumbers.{Numbering, Told, Numbered}
 use Rattle.refine_births.proofs.Points.{supporters-first, supporters-high, row-vertex}
 use Rattle.refine_births.proofs.Seek.{eqb-yes, one-first}
 use Rattle.refine_births.proofs.Visiting.{part-is-row}

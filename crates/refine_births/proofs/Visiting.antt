@@ -12,7 +12,7 @@ use Rattle.complex_mates.proofs.Laws.{row-fits, slots-some, row-cell-below, row
 use Rattle.refine_lattice.specs.Lattice.{tab}
 use Rattle.refine_lattice.specs.Complex.{weigh}
 use Rattle.refine_births.specs.Support.{none, rowOf, total, Weighing, Supporting}
-use Rattle.refine_births.specs.Visits.{visitAt, Visiting, Visited}
+use Rattle.refine_births.specs.WorkVisits.{visitAt, Visiting, Visited}
 use Rattle.refine_births.proofs.Points.{row-long}
 
 -- what a turn of the loop knows

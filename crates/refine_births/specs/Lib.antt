@@ -1,4 +1,4 @@
 pub mod Support
-pub mod Visits
-pub mod Numbers
+pub mod WorkVisits
+pub mod WorkNumbers
 pub mod Promise

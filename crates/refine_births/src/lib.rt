@@ -1,6 +1,7 @@
 // The vertices of a refined complex. Each corner of each child is a point of its parent's lattice, and a point is its support: the coarse vertices with a
 // positive weight, and these weights. A support of one vertex is that vertex; any other is a birth, numbered after the coarse vertices by first visit.
 // Points are told apart by sorting their rows: the support's vertices, rising, then their weights, padded to one length.
+// Follows `resolve` in `Complex::refine_with`, and `VertexBirth` (crates/simplicial/src/topology/refine.rs).
 //
 // What the four working lists hold:
 //   keys    the rows of the visits                             from the first step on
@@ -13,7 +14,7 @@ ghost use Prim.Native.Nat.{ℕ, suc, _+_, _*_, _≤_, _<_};
 ghost use lib.ListN.{length, getD, replicate};
 ghost use Rattle.lists.specs.Rows.{cut};
 ghost use Rattle.refine_births.specs.Support.{none, supporters, shares, padded, Starts};
-ghost use Rattle.refine_births.specs.Numbers.{Classing, Classed, Numbering, Told, Numbered};
+ghost use Rattle.refine_births.specs.WorkNumbers.{Classing, Classed, Numbering, Told, Numbered};
 ghost use Rattle.refine_births.specs.Promise.{birthVertices, birthWeights, Resolving, Resolved, Supports, Bearing, Born};
 
 mod support;

@@ -1,7 +1,7 @@
 // The points that are visited: parents, then children, then corners.
 use crate::support;
 ghost use Prim.Native.Nat.{_*_};
-ghost use Rattle.refine_births.specs.Visits.{Visiting, Visited};
+ghost use Rattle.refine_births.specs.WorkVisits.{Visiting, Visited};
 
 // Writes the row of each visit: the word of its parent with the weights of its row of the pattern.
 pub fn write(

@@ -11,8 +11,8 @@ use Rattle.sorting.specs.Gather.{row}
 use Rattle.sorting.specs.Order.{Table}
 use Rattle.multiindex.specs.Sort.{sortWords}
 use Rattle.complex_cells.proofs.Making.{key-table}
-use Rattle.refine_jacobian.specs.Weights.{Seated}
-use Rattle.refine_children.specs.Family.{joined, Family}
+use Rattle.refine_jacobian.specs.WorkWeights.{Seated}
+use Rattle.refine_children.specs.WorkFamily.{joined, Family}
 
 module _ {A : Type 0} where
   pub joined-length : (k m : ℕ) (f : ℕ → List A) → ((i : ℕ) → i < m → length (f i) ≡ k) → length (joined m f) ≡ m * k

@@ -1,2 +1,2 @@
-pub mod Colex
-pub mod Family
+pub mod WorkColex
+pub mod WorkFamily

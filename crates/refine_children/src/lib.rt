@@ -1,12 +1,13 @@
 // The children of a refined complex in the colex order of their cells: which child comes first for each cell, its parent, and its Jacobian.
+// Follows the last part of `Complex::refine_with`, which brings the children into colex order (crates/simplicial/src/topology/refine.rs).
 //
 // The children's words stand in visiting order, parent after parent, `size` of them for each parent. The functions here are for the crate above, which checks before it calls them.
 ghost use mathlib.Core.Path.{_≡_};
 ghost use Prim.Native.Nat.{ℕ, suc, _*_, _/_, _≤_, _<_};
 ghost use lib.ListN.{length, getD};
 ghost use Rattle.multiindex.specs.Permutation.{tab};
-ghost use Rattle.refine_children.specs.Colex.{Arranging, Arranged};
-ghost use Rattle.refine_children.specs.Family.{joined, wholeAt, floatAt, Family, Families};
+ghost use Rattle.refine_children.specs.WorkColex.{Arranging, Arranged};
+ghost use Rattle.refine_children.specs.WorkFamily.{joined, wholeAt, floatAt, Family, Families};
 
 fn wide(x: u32) -> usize
     ensures { λ r. ⌜ r ≡ x ⌝ }

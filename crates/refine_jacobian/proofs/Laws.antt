@@ -18,7 +18,7 @@ use borrow.Author.Tests.{eq-eqb, ne-eqb, le-ltb, lt-ltb}
 use Rattle.lists.specs.Words.{foundAt}
 use Rattle.multiindex.specs.Permutation.{tab}
 use Rattle.refine_lattice.proofs.Tab.{length-tab}
-use Rattle.refine_jacobian.specs.Weights.{placeOf, weightOf, Seated}
+use Rattle.refine_jacobian.specs.WorkWeights.{placeOf, weightOf, Seated}
 
 module _ {A : Type 0} where
   snoc-tab : (n : ℕ) (f : ℕ → A) → tab (suc n) f ≡ tab n f ++ (f n ∷ [])

@@ -1,2 +1,2 @@
 pub mod Entries
-pub mod Weights
+pub mod WorkWeights

@@ -1,4 +1,5 @@
 // The Jacobian of a child in its parent's local coordinates, as whole numbers over R and as floats, and shares as floats.
+// Follows the Jacobian of a `Child` in `Complex::refine_with` (crates/simplicial/src/topology/refine.rs); the port added whole numbers.
 //
 // A child's corners are known by their weights over the places of the parent's word (the pattern's part of the child). Its Jacobian goes by sorted vertices: column j is the child's
 // corner j + 1 minus its corner 0, row l the share of the parent's vertex l + 1. The functions here are for the crates above, which check before they call them.
@@ -7,7 +8,7 @@ ghost use mathlib.Core.List.{map};
 ghost use Prim.Native.Nat.{suc, _*_, _/_, _%_, _<_, _≤_};
 ghost use lib.ListN.{length, getD};
 ghost use Rattle.refine_jacobian.specs.Entries.{shareOf, wholeOf, floatOf};
-ghost use Rattle.refine_jacobian.specs.Weights.{placeOf, weightOf, Seated};
+ghost use Rattle.refine_jacobian.specs.WorkWeights.{placeOf, weightOf, Seated};
 
 // Weight w over R as a float.
 fn share(r: u32, w: u32) -> f64

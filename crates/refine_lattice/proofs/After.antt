@@ -8,7 +8,7 @@ use native.Mathlib.Decide.{decLt, ℕ-discrete}
 use native.Mathlib.Omega.{arith}
 use lib.ListN.{length, getD}
 use Rattle.refine_lattice.specs.Lattice.{tab, Falls, dot, weights}
-use Rattle.refine_lattice.specs.Complex.{same, sum, times, keep, common, weigh}
+use Rattle.refine_lattice.specs.Complex.{same, sum, occurrences, keep, common, weigh}
 use Rattle.refine_lattice.proofs.Tab.{tab-ext}
 use Rattle.refine_lattice.proofs.Sums.{same-self, same-yes, same-no, same-eq, sum-ext, sum-add, sum-zero, sum-pick}
 use Rattle.refine_lattice.proofs.Shares.{pull, map-is}
@@ -17,15 +17,15 @@ use Rattle.refine_lattice.proofs.Weights.{dot-const}
 -- how often `u` stands after `v` in `k`
 abbrev pub after : List ℕ → ℕ → ℕ → ℕ
 after [] v u = 0
-after (x ∷ k) v u = same v x * times k u + (1 - same v x) * after k v u
+after (x ∷ k) v u = same v x * occurrences k u + (1 - same v x) * after k v u
 
-pub after-here : (x : ℕ) (k : List ℕ) (v u : ℕ) → v ≡ x → after (x ∷ k) v u ≡ times k u
-after-here x k v u e = ap (λ (y : ℕ). y * times k u + (1 - y) * after k v u) (same-yes v x e) ∙ omega arith
+pub after-here : (x : ℕ) (k : List ℕ) (v u : ℕ) → v ≡ x → after (x ∷ k) v u ≡ occurrences k u
+after-here x k v u e = ap (λ (y : ℕ). y * occurrences k u + (1 - y) * after k v u) (same-yes v x e) ∙ omega arith
 
 pub after-there : (x : ℕ) (k : List ℕ) (v u : ℕ) → v ≢ x → after (x ∷ k) v u ≡ after k v u
-after-there x k v u e = ap (λ (y : ℕ). y * times k u + (1 - y) * after k v u) (same-no v x e) ∙ omega arith
+after-there x k v u e = ap (λ (y : ℕ). y * occurrences k u + (1 - y) * after k v u) (same-no v x e) ∙ omega arith
 
-pub after-le : (k : List ℕ) (v u : ℕ) → after k v u ≤ times k u
+pub after-le : (k : List ℕ) (v u : ℕ) → after k v u ≤ occurrences k u
 after-le [] v u = omega arith
 after-le (x ∷ k) v u =
     elim (ℕ-discrete v x) [
@@ -33,7 +33,7 @@ after-le (x ∷ k) v u =
       | no e ↦ omega (arith, after-there x k v u e, after-le k v u)
     ]
 
-pub after-self : (k : List ℕ) (v : ℕ) → times k v ≤ 1 → after k v v ≡ 0
+pub after-self : (k : List ℕ) (v : ℕ) → occurrences k v ≤ 1 → after k v v ≡ 0
 after-self [] v h = refl
 after-self (x ∷ k) v h =
     elim (ℕ-discrete v x) [
@@ -42,7 +42,7 @@ after-self (x ∷ k) v h =
     ]
 
 -- of two vertices one stands after the other
-pub after-both : (k : List ℕ) → ((v : ℕ) → times k v ≤ 1) → (u v : ℕ) → u ≢ v → 0 < times k u → 0 < times k v → after k u v + after k v u ≡ 1
+pub after-both : (k : List ℕ) → ((v : ℕ) → occurrences k v ≤ 1) → (u v : ℕ) → u ≢ v → 0 < occurrences k u → 0 < occurrences k v → after k u v + after k v u ≡ 1
 after-both [] p u v n h l = omega arith
 after-both (x ∷ k) p u v n h l =
     elim (ℕ-discrete u x) [
@@ -89,40 +89,40 @@ pub keep-no : (n x : ℕ) (r : List ℕ) → n ≡ 0 → keep n x r ≡ r
 keep-no zero x r h = refl
 keep-no (suc n) x r h = absurd (omega arith)
 
-pub times-common : (k l : List ℕ) (v : ℕ) → 0 < times l v → times (common k l) v ≡ times k v
+pub times-common : (k l : List ℕ) (v : ℕ) → 0 < occurrences l v → occurrences (common k l) v ≡ occurrences k v
 times-common [] l v h = refl
 times-common (x ∷ k) l v h =
-    elim (decLt 0 (times l x)) [
-      | yes m ↦ ap (λ (r : List ℕ). times r v) (keep-yes (times l x) x (common k l) m) ∙ omega (arith, times-common k l v h)
+    elim (decLt 0 (occurrences l x)) [
+      | yes m ↦ ap (λ (r : List ℕ). occurrences r v) (keep-yes (occurrences l x) x (common k l) m) ∙ omega (arith, times-common k l v h)
       | no m ↦
-          let n : v ≢ x = λ e. omega (arith, ap (times l) e) in
-          ap (λ (r : List ℕ). times r v) (keep-no (times l x) x (common k l) (omega arith))
+          let n : v ≢ x = λ e. omega (arith, ap (occurrences l) e) in
+          ap (λ (r : List ℕ). occurrences r v) (keep-no (occurrences l x) x (common k l) (omega arith))
           ∙ omega (arith, times-common k l v h, same-no v x n)
     ]
 
-pub after-common : (k l : List ℕ) (v u : ℕ) → 0 < times l v → 0 < times l u → after (common k l) v u ≡ after k v u
+pub after-common : (k l : List ℕ) (v u : ℕ) → 0 < occurrences l v → 0 < occurrences l u → after (common k l) v u ≡ after k v u
 after-common [] l v u h i = refl
 after-common (x ∷ k) l v u h i =
-    elim (decLt 0 (times l x)) [
+    elim (decLt 0 (occurrences l x)) [
       | yes m ↦
-          ap (λ (r : List ℕ). after r v u) (keep-yes (times l x) x (common k l) m)
+          ap (λ (r : List ℕ). after r v u) (keep-yes (occurrences l x) x (common k l) m)
           ∙ cc (times-common k l u i, after-common k l v u h i)
       | no m ↦
-          let n : v ≢ x = λ e. omega (arith, ap (times l) e) in
-          ap (λ (r : List ℕ). after r v u) (keep-no (times l x) x (common k l) (omega arith))
+          let n : v ≢ x = λ e. omega (arith, ap (occurrences l) e) in
+          ap (λ (r : List ℕ). after r v u) (keep-no (occurrences l x) x (common k l) (omega arith))
           ∙ after-common k l v u h i
           ∙ sym (after-there x k v u n)
     ]
 
 -- of at most two shared vertices each is the first or the second
-pub one-of-two : (l : List ℕ) → length l ≤ 2 → (v : ℕ) → 0 < times l v → (v ≡ getD l 0 0) ⊎ (v ≡ getD l 1 0)
+pub one-of-two : (l : List ℕ) → length l ≤ 2 → (v : ℕ) → 0 < occurrences l v → (v ≡ getD l 0 0) ⊎ (v ≡ getD l 1 0)
 one-of-two [] h v m = absurd (omega arith)
 one-of-two (x ∷ []) h v m = inl (same-eq v x (omega arith))
 one-of-two (x ∷ y ∷ []) h v m =
     elim (ℕ-discrete v x) [ yes e ↦ inl e | no e ↦ inr (same-eq v y (omega (arith, same-no v x e))) ]
 one-of-two (x ∷ y ∷ z ∷ l) h v m = absurd (not-suc-le-zero (le-of-suc-le-suc (le-of-suc-le-suc h)))
 
-pub weigh-absent : (k ws : List ℕ) (v : ℕ) → times k v ≡ 0 → weigh k ws v ≡ 0
+pub weigh-absent : (k ws : List ℕ) (v : ℕ) → occurrences k v ≡ 0 → weigh k ws v ≡ 0
 weigh-absent k [] v h = refl
 weigh-absent [] (w ∷ ws) v h = refl
 weigh-absent (x ∷ k) (w ∷ ws) v h =
@@ -140,8 +140,8 @@ left-out : (p s w a : ℕ) → s ≡ 0 → (p * s + w) * a ≡ w * a
 left-out p s w a e = ap (λ (y : ℕ). (p * y + w) * a) e ∙ omega arith
 
 -- a word with its first vertex `x`, of weight `p`, and the others, with the weights `ws`
-module _ (n p x : ℕ) (k ws : List ℕ) (plain : (v : ℕ) → times (x ∷ k) v ≤ 1) (below : (v : ℕ) → 0 < times (x ∷ k) v → v < n) where
-  fresh : (v : ℕ) → v ≡ x → times k v ≡ 0
+module _ (n p x : ℕ) (k ws : List ℕ) (plain : (v : ℕ) → occurrences (x ∷ k) v ≤ 1) (below : (v : ℕ) → 0 < occurrences (x ∷ k) v → v < n) where
+  fresh : (v : ℕ) → v ≡ x → occurrences k v ≡ 0
   fresh v e = omega (arith, plain v, same-yes v x e)
 
   pub later-first : (v : ℕ) → v ≡ x → later n (x ∷ k) (weigh (x ∷ k) (p ∷ ws)) v ≡ dot ws (map (λ u. 1) k)
@@ -151,7 +151,7 @@ module _ (n p x : ℕ) (k ws : List ℕ) (plain : (v : ℕ) → times (x ∷ k) 
     where
       each : (u : ℕ) → (p * same u x + weigh k ws u) * after (x ∷ k) v u ≡ weigh k ws u * 1
       each u =
-          elim (decLt 0 (times k u)) [
+          elim (decLt 0 (occurrences k u)) [
             | yes m ↦
                 let f : u ≢ x = λ q. omega (arith, fresh u q) in
                 left-out p (same u x) (weigh k ws u) (after (x ∷ k) v u) (same-no u x f)
@@ -182,7 +182,7 @@ weight-rest : (p x : ℕ) (k ws : List ℕ) (v : ℕ) → v ≢ x → weigh (x �
 weight-rest p x k ws v e = omega (arith, ap (λ (y : ℕ). p * y) (same-no v x e))
 
 -- all weights together
-pub total-weight : (n : ℕ) (k s : List ℕ) (R : ℕ) → length k ≡ suc (length s) → Falls R s → ((v : ℕ) → 0 < times k v → v < n)
+pub total-weight : (n : ℕ) (k s : List ℕ) (R : ℕ) → length k ≡ suc (length s) → Falls R s → ((v : ℕ) → 0 < occurrences k v → v < n)
     → sum n (weigh k (weights R s)) ≡ R
 total-weight n k s R h f below =
     sum-ext n (weigh k (weights R s)) (λ v. weigh k (weights R s) v * 1) (λ v l. omega arith)
@@ -197,7 +197,7 @@ module _ (n : ℕ) (g : ℕ → ℕ) (g0 : g 0 ≡ 0) where
   put L W P w q e f h = h ∙ cc (e, f)
 
   pub split-share : (s : List ℕ) (R : ℕ) (k : List ℕ) → length k ≡ suc (length s) → Falls R s
-      → ((v : ℕ) → times k v ≤ 1) → ((v : ℕ) → 0 < times k v → v < n) → (v : ℕ)
+      → ((v : ℕ) → occurrences k v ≤ 1) → ((v : ℕ) → 0 < occurrences k v → v < n) → (v : ℕ)
       → weigh k (weights (g R) (map g s)) v
       ≡ g (weigh k (weights R s) v + later n k (weigh k (weights R s)) v) - g (later n k (weigh k (weights R s)) v)
   split-share s R [] h f p b v = absurd (omega arith)

@@ -8,9 +8,9 @@ use native.Mathlib.Nat.{not-suc-le-zero, le-of-suc-le-suc, suc-inj}
 use native.Mathlib.Decide.{ℕ-discrete, decLt}
 use native.Mathlib.Omega.{arith}
 use lib.ListN.{length, getD}
-use Rattle.refine_lattice.specs.Complex.{Words, same, sum, times, common, Names, Complex, Refined, AgreeOnFacets}
+use Rattle.refine_lattice.specs.Complex.{Words, same, sum, occurrences, common, Names, Complex, Refined, WordsAgreeOnFacets}
 use Rattle.refine_lattice.specs.Conform.{rest, Meet, Distinct}
-use Rattle.refine_lattice.specs.Signs.{Even, Odd, Signs, Coherent, Oriented, less, inversions, rank, Handed, Directed}
+use Rattle.refine_lattice.specs.Signs.{Even, Odd, Signs, CoherentByPlace, CoherentByRank, less, inversions, rank, Handed, Directed}
 use Rattle.refine_lattice.proofs.Tab.{step}
 use Rattle.refine_lattice.proofs.Sums.{same-self, same-yes, same-no, same-eq, sum-ext}
 use Rattle.refine_lattice.proofs.Enumerate.{times-at, place-of}
@@ -20,7 +20,7 @@ use Rattle.refine_lattice.proofs.Parity.{less-step, inverse, falling, s
 use Rattle.refine_lattice.proofs.Direct.{common-skip, coherent-refined}
 
 -- a word's inversions, one vertex left out
-dropped : (d : ℕ) (k : List ℕ) → length k ≡ suc d → ((v : ℕ) → times k v ≤ 1) → (i : ℕ) → i < suc d
+dropped : (d : ℕ) (k : List ℕ) → length k ≡ suc d → ((v : ℕ) → occurrences k v ≤ 1) → (i : ℕ) → i < suc d
     → (x : ℕ) × (inversions k + (x + x) ≡ inverse d (λ a. getD k (skip i a) 0) + (i + rank k (getD k i 0)))
 unfolding beneath
 dropped d k h p i b =
@@ -38,7 +38,7 @@ dropped d k h p i b =
     )
 
 -- two words with one facet, on which they agree
-module _ (d n : ℕ) (K : Words) (complex : Complex d n K) (distinct : Distinct K) (agree : AgreeOnFacets d K)
+module _ (d n : ℕ) (K : Words) (complex : Complex d n K) (distinct : Distinct K) (agree : WordsAgreeOnFacets d K)
     (k l : List ℕ) (in-k : K k) (in-l : K l) (q : k ≢ l) (i j : ℕ) (bi : i < suc d) (bj : j < suc d) where
   row-k : Row d k (getD k i 0)
   row-k = record { long = complex .long k in-k; plain = complex .plain k in-k; i = i; below = bi; at = refl }
@@ -51,18 +51,18 @@ module _ (d n : ℕ) (K : Words) (complex : Complex d n K) (distinct : Distinct 
   apart f w = q (distinct k l in-k in-l (closes d k l (getD k i 0) (getD l j 0) row-k row-l f w))
 
   -- the vertex left out of the one is not in the other, and all others are
-  out-of : Meet k (getD k i 0) l (getD l j 0) → times l (getD k i 0) ≡ 0
+  out-of : Meet k (getD k i 0) l (getD l j 0) → occurrences l (getD k i 0) ≡ 0
   unfolding Meet
   out-of f =
       let v : ℕ = getD k i 0 in
       omega (arith, f v, same-self v, complex .plain k in-k v, same-no v (getD l j 0) (apart f))
 
-  stays-in : Meet k (getD k i 0) l (getD l j 0) → (v : ℕ) → 0 < times k v → v ≢ getD k i 0 → 0 < times l v
+  stays-in : Meet k (getD k i 0) l (getD l j 0) → (v : ℕ) → 0 < occurrences k v → v ≢ getD k i 0 → 0 < occurrences l v
   unfolding Meet
   stays-in f v h w = omega (arith, f v, same-no v (getD k i 0) w)
 
   agreed : Meet k (getD k i 0) l (getD l j 0) → common k l ≡ common l k
-  unfolding AgreeOnFacets
+  unfolding WordsAgreeOnFacets
   agreed f =
       agree k l in-k in-l
       (omega (
@@ -71,10 +71,10 @@ module _ (d n : ℕ) (K : Words) (complex : Complex d n K) (distinct : Distinct 
         all-but-one k l (complex .plain k in-k) (λ v u h w y z. only v h y ∙ sym (only u w z)),
       ))
     where
-      only : (v : ℕ) → 0 < times k v → times l v ≡ 0 → v ≡ getD k i 0
+      only : (v : ℕ) → 0 < occurrences k v → occurrences l v ≡ 0 → v ≡ getD k i 0
       only v h w = elim (ℕ-discrete v (getD k i 0)) [ yes y ↦ y | no y ↦ absurd (omega (arith, stays-in f v h y)) ]
 
-module _ (d n : ℕ) (K : Words) (complex : Complex d n K) (distinct : Distinct K) (agree : AgreeOnFacets d K)
+module _ (d n : ℕ) (K : Words) (complex : Complex d n K) (distinct : Distinct K) (agree : WordsAgreeOnFacets d K)
     (k l : List ℕ) (in-k : K k) (in-l : K l) (q : k ≢ l) (i j : ℕ) (bi : i < suc d) (bj : j < suc d) (f : Meet k (getD k i 0) l (getD l j 0)) where
   f′ : Meet l (getD l j 0) k (getD k i 0)
   f′ = meet-sym k l (getD k i 0) (getD l j 0) f
@@ -122,13 +122,13 @@ pub record Turned (S : Signs) (k : List ℕ) (z : ℕ) : Type 0 where
   pub is : z ≡ sign + inversions k
 
 module _ (d n : ℕ) (K : Words) (S : Signs) (in-S : (k : List ℕ) (s : ℕ) → S k s → K k) (complex : Complex d n K) (distinct : Distinct K)
-    (agree : AgreeOnFacets d K) where
+    (agree : WordsAgreeOnFacets d K) where
   again : (k : List ℕ) (s r : ℕ) (a : Turned S k s) (b : Turned S k r) → Even (a .sign + b .sign) → Even (s + r)
   unfolding Even
   again k s r a b (h, e) = (h + inversions k, omega (arith, a .is, b .is))
 
   -- signs of cells that are coherent give signs of words that are
-  pub words-coherent : Oriented d S → Coherent d (Turned S)
+  pub words-coherent : CoherentByRank d S → CoherentByPlace d (Turned S)
   words-coherent o = record {
     one = λ k s r a b. again k s r a b (o .one k (a .sign) (b .sign) (a .signed) (b .signed));
     across = λ pos k l s r a b q i j bi bj f.
@@ -138,7 +138,7 @@ module _ (d n : ℕ) (K : Words) (S : Signs) (in-S : (k : List ℕ) (s : ℕ) �
   }
 
   -- and the other way round
-  pub cells-oriented : Coherent d S → Oriented d (Turned S)
+  pub cells-oriented : CoherentByPlace d S → CoherentByRank d (Turned S)
   cells-oriented o = record {
     one = λ k s r a b. again k s r a b (o .one k (a .sign) (b .sign) (a .signed) (b .signed));
     across = λ pos k l s r a b q i j bi bj f.
@@ -149,7 +149,7 @@ module _ (d n : ℕ) (K : Words) (S : Signs) (in-S : (k : List ℕ) (s : ℕ) �
 
 -- CHILDREN'S CELLS INHERIT DIRECTION: with coherent signs of the cells, and words that agree on facets
 module _ (d R n n′ : ℕ) (K M : Words) (share : ℕ → ℕ → ℕ) (S : Signs) (in-S : (k : List ℕ) (s : ℕ) → S k s → K k) (pos : 0 < R)
-    (complex : Complex d n K) (complex′ : Complex d n′ M) (refined : Refined d R K M share) (distinct : Distinct K) (agree : AgreeOnFacets d K) where
+    (complex : Complex d n K) (complex′ : Complex d n′ M) (refined : Refined d R K M share) (distinct : Distinct K) (agree : WordsAgreeOnFacets d K) where
   as-turned : (m : List ℕ) (z : ℕ) → Directed d R K M share S m z → Turned (Handed d R K M share (Turned S)) m z
   as-turned m z a = record {
     sign = a .sign + inversions (a .k) + inversions (a .child .order);
@@ -167,9 +167,9 @@ module _ (d R n n′ : ℕ) (K M : Words) (share : ℕ → ℕ → ℕ) (S : Sig
     is = omega (arith, a .is);
   }
 
-  pub oriented-refined : Oriented d S → Oriented d (Directed d R K M share S)
+  pub oriented-refined : CoherentByRank d S → CoherentByRank d (Directed d R K M share S)
   oriented-refined o =
-      let t : Oriented d (Turned (Handed d R K M share (Turned S))) =
+      let t : CoherentByRank d (Turned (Handed d R K M share (Turned S))) =
       cells-oriented d n′ M (Handed d R K M share (Turned S)) (λ m z a. a .in-M) complex′
       (distinct-refined d R n K M share pos complex refined distinct)
       (facets-refined d R n K M share pos complex refined agree)

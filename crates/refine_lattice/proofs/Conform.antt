@@ -8,7 +8,7 @@ use native.Mathlib.Decide.{ℕ-discrete, decLt}
 use native.Mathlib.Omega.{arith}
 use lib.ListN.{length, getD}
 use Rattle.refine_lattice.specs.Lattice.{tab, weights, Perm}
-use Rattle.refine_lattice.specs.Complex.{Words, same, times, weigh, Complex, Apart, Refined}
+use Rattle.refine_lattice.specs.Complex.{Words, same, occurrences, weigh, Complex, Apart, Refined}
 use Rattle.refine_lattice.specs.Conform.{rest, Meet, Distinct, Thin}
 use Rattle.refine_lattice.proofs.Tab.{step, tab-ext}
 use Rattle.refine_lattice.proofs.Sums.{same-self, same-yes, same-no, same-eq}
@@ -37,15 +37,15 @@ meet-trans k l m x y z e f v = e v ∙ f v
 -- places of a facet that two words have
 pub record Row (d : ℕ) (m : List ℕ) (z : ℕ) : Type 0 where
   pub long : length m ≡ suc d
-  pub plain : (v : ℕ) → times m v ≤ 1
+  pub plain : (v : ℕ) → occurrences m v ≤ 1
   pub i : ℕ
   pub below : i < suc d
   pub at : getD m i 0 ≡ z
 
-pub row : (d : ℕ) (m : List ℕ) (z : ℕ) → length m ≡ suc d → ((v : ℕ) → times m v ≤ 1) → 0 < times m z → Row d m z
+pub row : (d : ℕ) (m : List ℕ) (z : ℕ) → length m ≡ suc d → ((v : ℕ) → occurrences m v ≤ 1) → 0 < occurrences m z → Row d m z
 row d m z h p b = let (i, a, e) = place-of m z b in record { long = h; plain = p; i = i; below = omega arith; at = e }
 
-pub apart-at : (m : List ℕ) → ((v : ℕ) → times m v ≤ 1) → (x y : ℕ) → x < length m → y < length m → getD m x 0 ≡ getD m y 0 → x ≡ y
+pub apart-at : (m : List ℕ) → ((v : ℕ) → occurrences m v ≤ 1) → (x y : ℕ) → x < length m → y < length m → getD m x 0 ≡ getD m y 0 → x ≡ y
 apart-at m p x y h b e =
     elim (decLt x y) [
       | yes l ↦ absurd (omega (arith, times-two m x y l b e, p (getD m y 0)))
@@ -73,14 +73,14 @@ across d m m′ z z′ r r′ e x h n =
     )
 
 -- where the facets meet and the vertices against them are one, the words have the same vertices
-pub closes : (d : ℕ) (m m′ : List ℕ) (z z′ : ℕ) → Row d m z → Row d m′ z′ → Meet m z m′ z′ → z ≡ z′ → (v : ℕ) → times m v ≡ times m′ v
+pub closes : (d : ℕ) (m m′ : List ℕ) (z z′ : ℕ) → Row d m z → Row d m′ z′ → Meet m z m′ z′ → z ≡ z′ → (v : ℕ) → occurrences m v ≡ occurrences m′ v
 unfolding Meet
 closes d m m′ z z′ r r′ e q v =
     elim (ℕ-discrete v z) [
       | yes w ↦
-          let a : 0 < times m v = subst (λ (u : ℕ). 0 < times m u) (r .at ∙ sym w) (times-at m (r .i) (omega (arith, r .long, r .below))) in
-          let b : 0 < times m′ v =
-          subst (λ (u : ℕ). 0 < times m′ u) (r′ .at ∙ sym q ∙ sym w) (times-at m′ (r′ .i) (omega (arith, r′ .long, r′ .below))) in
+          let a : 0 < occurrences m v = subst (λ (u : ℕ). 0 < occurrences m u) (r .at ∙ sym w) (times-at m (r .i) (omega (arith, r .long, r .below))) in
+          let b : 0 < occurrences m′ v =
+          subst (λ (u : ℕ). 0 < occurrences m′ u) (r′ .at ∙ sym q ∙ sym w) (times-at m′ (r′ .i) (omega (arith, r′ .long, r′ .below))) in
           omega (arith, r .plain v, r′ .plain v)
       | no w ↦ omega (arith, e v, same-no v z w, same-no v z′ (λ y. w (y ∙ sym q)))
     ]
@@ -155,7 +155,7 @@ module _ (d R n : ℕ) (K M : Words) (share : ℕ → ℕ → ℕ) (pos : 0 < R)
       let (k, c, in-K, child, names) = refined .each m h in
       record { k = k; in-K = in-K; in-M = h; sat = sits child names }
 
-  pub plain-refined : (m : List ℕ) → M m → (v : ℕ) → times m v ≤ 1
+  pub plain-refined : (m : List ℕ) → M m → (v : ℕ) → occurrences m v ≤ 1
   plain-refined m h =
       let s = seat m h in
       plain-word d R share (s .k) (complex .long (s .k) (s .in-K)) (complex .plain (s .k) (s .in-K)) m (s .sat)
@@ -163,16 +163,16 @@ module _ (d R n : ℕ) (K M : Words) (share : ℕ → ℕ → ℕ) (pos : 0 < R)
   pub long-refined : (m : List ℕ) → M m → length m ≡ suc d
   long-refined m h = seat m h .sat .long
 
-  pub row-of : (m : List ℕ) → M m → (z : ℕ) → 0 < times m z → Row d m z
+  pub row-of : (m : List ℕ) → M m → (z : ℕ) → 0 < occurrences m z → Row d m z
   row-of m h z b = row d m z (long-refined m h) (plain-refined m h) b
 
   -- words over the same vertices
-  pub inside : (m m′ : List ℕ) (s : Seat m) (s′ : Seat m′) → ((v : ℕ) → 0 < times m v → 0 < times m′ v)
-      → (v : ℕ) → 0 < times (s .k) v → 0 < times (s′ .k) v
+  pub inside : (m m′ : List ℕ) (s : Seat m) (s′ : Seat m′) → ((v : ℕ) → 0 < occurrences m v → 0 < occurrences m′ v)
+      → (v : ℕ) → 0 < occurrences (s .k) v → 0 < occurrences (s′ .k) v
   inside m m′ s s′ e v h =
       let (i, b, w) = spans d R share (s .k) (complex .long (s .k) (s .in-K)) (complex .plain (s .k) (s .in-K)) m (s .sat) pos v h in
       let (y, a, q) = place-of m′ (getD m i 0) (e (getD m i 0) (times-at m i (omega (arith, s .sat .long)))) in
-      elim (decLt 0 (times (s′ .k) v)) [
+      elim (decLt 0 (occurrences (s′ .k) v)) [
         | yes l ↦ l
         | no l ↦
             absurd
@@ -205,7 +205,7 @@ module _ (d R n : ℕ) (K M : Words) (share : ℕ → ℕ → ℕ) (pos : 0 < R)
     long : length k ≡ suc d
     long = complex .long k in-K
 
-    plain : (v : ℕ) → times k v ≤ 1
+    plain : (v : ℕ) → occurrences k v ≤ 1
     plain = complex .plain k in-K
 
     pub flat-of : (m : List ℕ) (s : Sits d R share k m) (i l : ℕ) → l < suc d → Blank m i (getD k l 0)
@@ -214,7 +214,7 @@ module _ (d R n : ℕ) (K M : Words) (share : ℕ → ℕ → ℕ) (pos : 0 < R)
     flat-of m s i l h b x g n = sym (share-at d R share k long plain m s x l g h) ∙ b x g n
 
     -- at most one vertex has no share on a facet
-    pub one-blank : (m : List ℕ) → Sits d R share k m → (i : ℕ) → i < suc d → (v u : ℕ) → 0 < times k v → 0 < times k u
+    pub one-blank : (m : List ℕ) → Sits d R share k m → (i : ℕ) → i < suc d → (v u : ℕ) → 0 < occurrences k v → 0 < occurrences k u
         → Blank m i v → Blank m i u → v ≡ u
     one-blank m s i h v u a b f g =
         let (l, p, e) = place-of k v a in
@@ -270,7 +270,7 @@ module _ (d R n : ℕ) (K M : Words) (share : ℕ → ℕ → ℕ) (pos : 0 < R)
 
     -- of two words with one facet that lies in a facet of the cell, each is the other
     pub one-at-edge : 0 < d → (m m′ : List ℕ) → M m → M m′ → Sits d R share k m → Sits d R share k m′
-        → (z z′ : ℕ) (r : Row d m z) → Row d m′ z′ → Meet m z m′ z′ → (v : ℕ) → 0 < times k v → Blank m (r .i) v → m ≡ m′
+        → (z z′ : ℕ) (r : Row d m z) → Row d m′ z′ → Meet m z m′ z′ → (v : ℕ) → 0 < occurrences k v → Blank m (r .i) v → m ≡ m′
     one-at-edge p m m′ h h′ s s′ z z′ r r′ e v b blank =
         let mr : Mirror d (s .base) (s .time) (r .i) = mirror d (s .base) (s .time) (s .code .perm) p (r .i) (r .below) in
         ⊎-elim
@@ -286,7 +286,7 @@ module _ (d R n : ℕ) (K M : Words) (share : ℕ → ℕ → ℕ) (pos : 0 < R)
 
   -- a vertex that another cell lacks has no share on a facet that a word of that cell has too
   pub blank-across : (m m′ : List ℕ) → Seat m → (s′ : Seat m′) → (z z′ : ℕ) (r : Row d m z) → Row d m′ z′ → Meet m z m′ z′
-      → (v : ℕ) → times (s′ .k) v ≡ 0 → Blank m (r .i) v
+      → (v : ℕ) → occurrences (s′ .k) v ≡ 0 → Blank m (r .i) v
   unfolding Blank
   blank-across m m′ s s′ z z′ r r′ e v h x b q =
       let (y, a, w, f) = across d m m′ z z′ r r′ e x b q in
@@ -294,19 +294,19 @@ module _ (d R n : ℕ) (K M : Words) (share : ℕ → ℕ → ℕ) (pos : 0 < R)
       ∙ share-out d R share (s′ .k) (complex .long (s′ .k) (s′ .in-K)) (complex .plain (s′ .k) (s′ .in-K)) m′ (s′ .sat) y v a h
 
   -- two cells that are not one each have a vertex that the other lacks
-  pub differ : Distinct K → (k l : List ℕ) → K k → K l → k ≢ l → (v : ℕ) × (0 < times k v) × (times l v ≡ 0)
+  pub differ : Distinct K → (k l : List ℕ) → K k → K l → k ≢ l → (v : ℕ) × (0 < occurrences k v) × (occurrences l v ≡ 0)
   unfolding Distinct
   differ f k l h b q =
       stray k l (λ g.
       q (f k l h b
       (holds-all n k l (complex .below k h) (complex .below l b) (omega (arith, complex .long k h, complex .long l b))
-      (λ v. elim (decLt 0 (times k v)) [ yes a ↦ omega (arith, g v a, complex .plain k h v) | no a ↦ omega arith ]))))
+      (λ v. elim (decLt 0 (occurrences k v)) [ yes a ↦ omega (arith, g v a, complex .plain k h v) | no a ↦ omega arith ]))))
 
   -- all other vertices of the cell are in the other cell
   pub shared : (m m′ : List ℕ) (s : Seat m) (s′ : Seat m′) (z z′ : ℕ) (r : Row d m z) → Row d m′ z′ → Meet m z m′ z′
-      → (v : ℕ) → 0 < times (s .k) v → Blank m (r .i) v → (u : ℕ) → 0 < times (s .k) u → u ≢ v → 0 < times (s′ .k) u
+      → (v : ℕ) → 0 < occurrences (s .k) v → Blank m (r .i) v → (u : ℕ) → 0 < occurrences (s .k) u → u ≢ v → 0 < occurrences (s′ .k) u
   shared m m′ s s′ z z′ r r′ e v h f u b q =
-      elim (decLt 0 (times (s′ .k) u)) [
+      elim (decLt 0 (occurrences (s′ .k) u)) [
         | yes a ↦ a
         | no a ↦
             absurd
@@ -315,15 +315,15 @@ module _ (d R n : ℕ) (K M : Words) (share : ℕ → ℕ → ℕ) (pos : 0 < R)
       ]
 
   pub cells-meet : (m m′ : List ℕ) (s : Seat m) (s′ : Seat m′) (z z′ : ℕ) (r : Row d m z) (r′ : Row d m′ z′) → Meet m z m′ z′
-      → (v v′ : ℕ) → 0 < times (s .k) v → times (s′ .k) v ≡ 0 → 0 < times (s′ .k) v′ → times (s .k) v′ ≡ 0
+      → (v v′ : ℕ) → 0 < occurrences (s .k) v → occurrences (s′ .k) v ≡ 0 → 0 < occurrences (s′ .k) v′ → occurrences (s .k) v′ ≡ 0
       → Meet (s .k) v (s′ .k) v′
   unfolding Meet
   cells-meet m m′ s s′ z z′ r r′ e v v′ h b h′ b′ u =
       elim (ℕ-discrete u v) [
-        | yes q ↦ omega (arith, same-yes u v q, complex .plain (s .k) (s .in-K) u, ap (times (s′ .k)) q)
+        | yes q ↦ omega (arith, same-yes u v q, complex .plain (s .k) (s .in-K) u, ap (occurrences (s′ .k)) q)
         | no q ↦
             elim (ℕ-discrete u v′) [
-              | yes w ↦ omega (arith, same-yes u v′ w, complex .plain (s′ .k) (s′ .in-K) u, ap (times (s .k)) w)
+              | yes w ↦ omega (arith, same-yes u v′ w, complex .plain (s′ .k) (s′ .in-K) u, ap (occurrences (s .k)) w)
               | no w ↦
                   omega (
                     arith,
@@ -361,7 +361,7 @@ module _ (d R n : ℕ) (K M : Words) (share : ℕ → ℕ → ℕ) (pos : 0 < R)
       ⊎-elim q (λ t. ⊎-elim q′ q″ t)
       (g p (s .k) (s′ .k) (s″ .k) (s .in-K) (s′ .in-K) (s″ .in-K) v v′ u″ a a′ x″
       (cells-meet m m′ s s′ z z′ r r′ e v v′ a b a′ b′)
-      (cells-meet m m″ s s″ z z″ r r″ e′ v u″ a (ap (times (s″ .k)) w ∙ y) x″ y″))
+      (cells-meet m m″ s s″ z z″ r r″ e′ v u″ a (ap (occurrences (s″ .k)) w ∙ y) x″ y″))
 
   -- no facet lies in three words
   pub thin-refined : Distinct K → Thin d K → Thin d M

@@ -10,9 +10,9 @@ use native.Mathlib.Omega.{arith}
 use lib.ListN.{length, getD}
 use lib.IntN.{ℤ, pos, negsuc, negℤ, _*ℤ_, pos-ne-negsuc, *ℤ-one}
 use Rattle.refine_lattice.specs.Lattice.{Child}
-use Rattle.refine_lattice.specs.Complex.{Words, same, times, Names, Complex, Refined, AgreeOnFacets, Rises}
+use Rattle.refine_lattice.specs.Complex.{Words, same, occurrences, Names, Complex, Refined, WordsAgreeOnFacets, Rises}
 use Rattle.refine_lattice.specs.Conform.{Meet, Distinct}
-use Rattle.refine_lattice.specs.Signs.{Even, Odd, Signs, Oriented, inversions, rank, Directed}
+use Rattle.refine_lattice.specs.Signs.{Even, Odd, Signs, CoherentByRank, inversions, rank, Directed}
 use Rattle.refine_lattice.specs.Jacobian.{Matrix, Determinant, flips, Sorted, jacobian, laplace, Descends}
 use Rattle.refine_lattice.proofs.Sums.{same-self, same-yes, same-no}
 use Rattle.refine_lattice.proofs.Columns.{flips-add, flips-even}
@@ -76,7 +76,7 @@ flips-times a b =
     turned (suc n) = ap negℤ (turned n)
 
 module _ (d R n n′ : ℕ) (K M : Words) (share : ℕ → ℕ → ℕ) (S : Signs) (in-S : (k : List ℕ) (s : ℕ) → S k s → K k) (pos-R : 0 < R)
-    (complex : Complex d n K) (complex′ : Complex d n′ M) (refined : Refined d R K M share) (distinct : Distinct K) (agree : AgreeOnFacets d K) where
+    (complex : Complex d n K) (complex′ : Complex d n′ M) (refined : Refined d R K M share) (distinct : Distinct K) (agree : WordsAgreeOnFacets d K) where
   module _ (m : List ℕ) (s : ℕ) (a : Descends d R K M share S m s) where
     abbrev N : ℕ
     N = inversions (a .k) + inversions (a .child .order) + inversions m
@@ -105,7 +105,7 @@ module _ (d R n n′ : ℕ) (K M : Words) (share : ℕ → ℕ → ℕ) (S : Sig
         (a .is ∙ ap (λ (x : ℤ). flips (a .sign) (pos 1) *ℤ x) jacobian-sign ∙ flips-times (a .sign) N)
 
   -- CHILDREN INHERIT DIRECTION
-  pub inherits : Oriented d S → Oriented d (Descends d R K M share S)
+  pub inherits : CoherentByRank d S → CoherentByRank d (Descends d R K M share S)
   unfolding Even Odd
   inherits o =
       let t = oriented-refined d R n n′ K M share S in-S pos-R complex complex′ refined distinct agree o in

@@ -9,9 +9,9 @@ use native.Mathlib.Decide.{ℕ-discrete, decLt}
 use native.Mathlib.Omega.{arith}
 use lib.ListN.{length, getD}
 use Rattle.refine_lattice.specs.Lattice.{tab, weights, Perm, Child}
-use Rattle.refine_lattice.specs.Complex.{Words, same, sum, times, keep, common, weigh, Names, Complex, Refined, AgreeOnFacets}
+use Rattle.refine_lattice.specs.Complex.{Words, same, sum, occurrences, keep, common, weigh, Names, Complex, Refined, WordsAgreeOnFacets}
 use Rattle.refine_lattice.specs.Conform.{rest, Meet, Distinct}
-use Rattle.refine_lattice.specs.Signs.{Even, Odd, Signs, Coherent, less, inversions, Handed}
+use Rattle.refine_lattice.specs.Signs.{Even, Odd, Signs, CoherentByPlace, less, inversions, Handed}
 use Rattle.refine_lattice.proofs.Tab.{step, step-le, step-yes, step-no, step-one}
 use Rattle.refine_lattice.proofs.Perms.{Undoes, one-place}
 use Rattle.refine_lattice.proofs.Sums.{same-self, same-yes, same-no, same-eq, sum-ext}
@@ -87,29 +87,29 @@ cut e R base t c r i p bi bp f =
     ]
 
 -- the vertices that a word shares with one that lacks only its vertex at place p
-none-lost : (k l : List ℕ) → ((v : ℕ) → 0 < times k v → 0 < times l v) → common k l ≡ k
+none-lost : (k l : List ℕ) → ((v : ℕ) → 0 < occurrences k v → 0 < occurrences l v) → common k l ≡ k
 none-lost [] l h = refl
 none-lost (x ∷ k) l h =
-    keep-yes (times l x) x (common k l) (h x (omega (arith, same-self x)))
+    keep-yes (occurrences l x) x (common k l) (h x (omega (arith, same-self x)))
     ∙ ap {B = List ℕ} (λ r. x ∷ r) (none-lost k l (λ v a. h v (omega arith)))
 
-pub common-skip : (k l : List ℕ) → ((v : ℕ) → times k v ≤ 1) → (p : ℕ) → p < length k → times l (getD k p 0) ≡ 0
-    → ((v : ℕ) → 0 < times k v → v ≢ getD k p 0 → 0 < times l v) → (a : ℕ) → getD (common k l) a 0 ≡ getD k (skip p a) 0
+pub common-skip : (k l : List ℕ) → ((v : ℕ) → occurrences k v ≤ 1) → (p : ℕ) → p < length k → occurrences l (getD k p 0) ≡ 0
+    → ((v : ℕ) → 0 < occurrences k v → v ≢ getD k p 0 → 0 < occurrences l v) → (a : ℕ) → getD (common k l) a 0 ≡ getD k (skip p a) 0
 common-skip [] l u p b z h a = absurd (not-suc-le-zero b)
 common-skip (x ∷ k) l u zero b z h a =
     ap (λ (r : List ℕ). getD r a 0)
-    (keep-no (times l x) x (common k l) z
+    (keep-no (occurrences l x) x (common k l) z
     ∙ none-lost k l (λ v g. h v (omega arith) (λ e. omega (arith, u v, same-yes v x e))))
 common-skip (x ∷ k) l u (suc p) b z h zero =
     ap (λ (r : List ℕ). getD r 0 0)
-    (keep-yes (times l x) x (common k l)
+    (keep-yes (occurrences l x) x (common k l)
     (h x (omega (arith, same-self x))
-    (λ e. omega (arith, u x, same-self x, times-at k p (le-of-suc-le-suc b), ap (times k) e))))
+    (λ e. omega (arith, u x, same-self x, times-at k p (le-of-suc-le-suc b), ap (occurrences k) e))))
 common-skip (x ∷ k) l u (suc p) b z h (suc a) =
     ap (λ (r : List ℕ). getD r (suc a) 0)
-    (keep-yes (times l x) x (common k l)
+    (keep-yes (occurrences l x) x (common k l)
     (h x (omega (arith, same-self x))
-    (λ e. omega (arith, u x, same-self x, times-at k p (le-of-suc-le-suc b), ap (times k) e))))
+    (λ e. omega (arith, u x, same-self x, times-at k p (le-of-suc-le-suc b), ap (occurrences k) e))))
     ∙ common-skip k l (λ v. omega (arith, u v)) p (le-of-suc-le-suc b) z (λ v g. h v (omega arith)) a
 
 module _ (e R n : ℕ) (K M : Words) (share : ℕ → ℕ → ℕ) (pos : 0 < R) (complex : Complex (suc e) n K) (refined : Refined (suc e) R K M share) where
@@ -132,7 +132,7 @@ module _ (e R n : ℕ) (K M : Words) (share : ℕ → ℕ → ℕ) (pos : 0 < R)
         sym (low-in d R (s .sat .base) (s .sat .time) (s .sat .code) l x bl)
         ∙ sym (seen d R n K M share pos complex refined m s x l bx (omega arith))
         ∙ level d R n K M share pos complex refined m m′ s s′ agree x y bx by f u (times-at (s .k) l w)
-        (subst (λ (z : ℕ). 0 < times (s′ .k) z) (sym g) (times-at (s′ .k) l′ w′))
+        (subst (λ (z : ℕ). 0 < occurrences (s′ .k) z) (sym g) (times-at (s′ .k) l′ w′))
         ∙ ap (λ (z : ℕ). later n (s′ .k) (share z) u) f
         ∙ ap (λ (z : ℕ). later n (s′ .k) (share (getD m′ y 0)) z) g
         ∙ seen d R n K M share pos complex refined m′ s′ y l′ by (omega arith)
@@ -237,7 +237,7 @@ unfolding Even Odd
 odd-sum g g′ x y (h, e) (l, f) = (h + l, omega arith)
 
 -- one word in one cell has one code
-one-time : (d R : ℕ) (share : ℕ → ℕ → ℕ) (k m : List ℕ) → length k ≡ suc d → ((v : ℕ) → times k v ≤ 1) → (s s′ : Sits d R share k m)
+one-time : (d R : ℕ) (share : ℕ → ℕ → ℕ) (k m : List ℕ) → length k ≡ suc d → ((v : ℕ) → occurrences k v ≤ 1) → (s s′ : Sits d R share k m)
     → inverse d (s .time) ≡ inverse d (s′ .time)
 one-time d R share k m h p s s′ =
     sum-2 d d (falling (s .time)) (falling (s′ .time)) (λ i j a b. cc (same-time i a, same-time j b))
@@ -256,7 +256,7 @@ one-time d R share k m h p s s′ =
         )
 
 module _ (d R n : ℕ) (K M : Words) (share : ℕ → ℕ → ℕ) (S : Signs) (pos : 0 < R) (complex : Complex d n K) (refined : Refined d R K M share)
-    (distinct : Distinct K) (coherent : Coherent d S) where
+    (distinct : Distinct K) (coherent : CoherentByPlace d S) where
   abbrev seat-of : (k m : List ℕ) (z : ℕ) → Pack d R K M share S k m z → Seat d R n K M share pos complex refined m
   seat-of k m z a = record { k = k; in-K = a .in-K; in-M = a .in-M; sat = a .sat }
 
@@ -292,7 +292,7 @@ module _ (d R n : ℕ) (K M : Words) (share : ℕ → ℕ → ℕ) (S : Signs) (
   }
 
 module _ (e R n : ℕ) (K M : Words) (share : ℕ → ℕ → ℕ) (S : Signs) (pos : 0 < R) (complex : Complex (suc e) n K) (refined : Refined (suc e) R K M share)
-    (distinct : Distinct K) (coherent : Coherent (suc e) S) (agree : AgreeOnFacets (suc e) K) where
+    (distinct : Distinct K) (coherent : CoherentByPlace (suc e) S) (agree : WordsAgreeOnFacets (suc e) K) where
   abbrev Packed : List ℕ → List ℕ → ℕ → Type 0
   Packed = Pack (suc e) R K M share S
 
@@ -337,11 +337,11 @@ module _ (e R n : ℕ) (K M : Words) (share : ℕ → ℕ → ℕ) (S : Signs) (
     f′ = meet-sym m m′ (getD m i 0) (getD m′ j 0) f
 
     -- the vertices that the cells do not share, and their places
-    module _ (p p′ : ℕ) (bp : p < suc (suc e)) (bp′ : p′ < suc (suc e)) (out : times k′ (getD k p 0) ≡ 0) (out′ : times k (getD k′ p′ 0) ≡ 0) where
-      there : 0 < times k (getD k p 0)
+    module _ (p p′ : ℕ) (bp : p < suc (suc e)) (bp′ : p′ < suc (suc e)) (out : occurrences k′ (getD k p 0) ≡ 0) (out′ : occurrences k (getD k′ p′ 0) ≡ 0) where
+      there : 0 < occurrences k (getD k p 0)
       there = times-at k p (omega (arith, complex .long k (a .in-K)))
 
-      there′ : 0 < times k′ (getD k′ p′ 0)
+      there′ : 0 < occurrences k′ (getD k′ p′ 0)
       there′ = times-at k′ p′ (omega (arith, complex .long k′ (b .in-K)))
 
       blank : Blank (suc e) R n K M share pos complex refined m i (getD k p 0)
@@ -350,17 +350,17 @@ module _ (e R n : ℕ) (K M : Words) (share : ℕ → ℕ → ℕ) (S : Signs) (
       blank′ : Blank (suc e) R n K M share pos complex refined m′ j (getD k′ p′ 0)
       blank′ = blank-across (suc e) R n K M share pos complex refined m′ m s′ s (getD m′ j 0) (getD m i 0) r′ r f′ (getD k′ p′ 0) out′
 
-      others : (v : ℕ) → 0 < times k v → v ≢ getD k p 0 → 0 < times k′ v
+      others : (v : ℕ) → 0 < occurrences k v → v ≢ getD k p 0 → 0 < occurrences k′ v
       others v = shared (suc e) R n K M share pos complex refined m m′ s s′ (getD m i 0) (getD m′ j 0) r r′ f (getD k p 0) there blank v
 
-      others′ : (v : ℕ) → 0 < times k′ v → v ≢ getD k′ p′ 0 → 0 < times k v
+      others′ : (v : ℕ) → 0 < occurrences k′ v → v ≢ getD k′ p′ 0 → 0 < occurrences k v
       others′ v = shared (suc e) R n K M share pos complex refined m′ m s′ s (getD m′ j 0) (getD m i 0) r′ r f′ (getD k′ p′ 0) there′ blank′ v
 
-      only : (v : ℕ) → 0 < times k v → times k′ v ≡ 0 → v ≡ getD k p 0
+      only : (v : ℕ) → 0 < occurrences k v → occurrences k′ v ≡ 0 → v ≡ getD k p 0
       only v h w = elim (ℕ-discrete v (getD k p 0)) [ yes y ↦ y | no y ↦ absurd (omega (arith, others v h y)) ]
 
       agreed : common k k′ ≡ common k′ k
-      unfolding AgreeOnFacets
+      unfolding WordsAgreeOnFacets
       agreed =
           agree k k′ (a .in-K) (b .in-K)
           (omega (
@@ -397,7 +397,7 @@ module _ (e R n : ℕ) (K M : Words) (share : ℕ → ℕ → ℕ) (S : Signs) (
         let (p, bp, w) = place-of k v h in
         let (p′, bp′, w′) = place-of k′ v′ h′ in
         opposite p p′ (omega (arith, complex .long k (a .in-K))) (omega (arith, complex .long k′ (b .in-K)))
-        (ap (times k′) w ∙ o) (ap (times k) w′ ∙ o′)
+        (ap (occurrences k′) w ∙ o) (ap (occurrences k) w′ ∙ o′)
 
   across-handed : (m m′ : List ℕ) (z z′ : ℕ) → Handed (suc e) R K M share S m z → Handed (suc e) R K M share S m′ z′ → m ≢ m′
       → (i j : ℕ) → i < suc (suc e) → j < suc (suc e) → Meet m (getD m i 0) m′ (getD m′ j 0) → Odd (z + i + (z′ + j))
@@ -409,7 +409,7 @@ module _ (e R n : ℕ) (K M : Words) (share : ℕ → ℕ → ℕ) (S : Signs) (
 
 -- CHILDREN INHERIT DIRECTION
 pub coherent-refined : (d R n : ℕ) (K M : Words) (share : ℕ → ℕ → ℕ) (S : Signs) → 0 < R → Complex d n K → Refined d R K M share
-    → Distinct K → AgreeOnFacets d K → Coherent d S → Coherent d (Handed d R K M share S)
+    → Distinct K → WordsAgreeOnFacets d K → CoherentByPlace d S → CoherentByPlace d (Handed d R K M share S)
 coherent-refined zero R n K M share S pos complex refined distinct agree coherent = record {
   one = one-handed zero R n K M share S pos complex refined distinct coherent;
   across = λ h. absurd (not-suc-le-zero h);

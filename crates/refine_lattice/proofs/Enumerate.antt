@@ -10,7 +10,7 @@ use native.Mathlib.Omega.{arith}
 use lib.Dec.{T, leb, leb→le, le→leb}
 use lib.ListN.{length, getD, length-reverse}
 use Rattle.refine_lattice.specs.Lattice.{tab, Falls, chain, Order, Child}
-use Rattle.refine_lattice.specs.Complex.{same, times}
+use Rattle.refine_lattice.specs.Complex.{same, occurrences}
 use Rattle.refine_lattice.specs.Children.{upto, gather, digits, bases, skip, without, arrange, orders, qualifies, every, pick, select, chains, children}
 use Rattle.refine_lattice.proofs.Sums.{same-self, same-yes, same-no, same-eq}
 
@@ -121,12 +121,12 @@ to-digits (suc d) n (x ∷ s) h =
     (Memᴰ·map (λ y. y ∷ s) (to-tab n (λ i. i) x (h .1 0 (omega arith))))
 
 -- membership as a count
-pub times-of-mem : (l : List ℕ) (x : ℕ) → List·Memᴰ x l → 0 < times l x
+pub times-of-mem : (l : List ℕ) (x : ℕ) → List·Memᴰ x l → 0 < occurrences l x
 times-of-mem [] x m = absurd (List·Memᴰ·not-nil m)
 times-of-mem (y ∷ l) x m =
     ⊎-elim (λ e. omega (arith, same-yes x y e)) (λ r. omega (arith, times-of-mem l x r)) (List·Memᴰ·cases-cons m)
 
-pub mem-of-times : (l : List ℕ) (x : ℕ) → 0 < times l x → List·Memᴰ x l
+pub mem-of-times : (l : List ℕ) (x : ℕ) → 0 < occurrences l x → List·Memᴰ x l
 mem-of-times [] x h = absurd (omega arith)
 mem-of-times (y ∷ l) x h =
     elim (ℕ-discrete x y) [ yes e ↦ List·Memᴰ·head e | no e ↦ List·Memᴰ·tail (mem-of-times l x (omega (arith, same-no x y e))) ]
@@ -139,45 +139,45 @@ skip-yes : (n y : ℕ) (r : List ℕ) → 0 < n → skip n y r ≡ r
 skip-yes zero y r h = absurd (omega arith)
 skip-yes (suc n) y r h = refl
 
-without-self : (x : ℕ) (l : List ℕ) → times (without x l) x ≡ 0
+without-self : (x : ℕ) (l : List ℕ) → occurrences (without x l) x ≡ 0
 without-self x [] = refl
 without-self x (y ∷ l) =
     elim (decLt 0 (same x y)) [
-      | yes m ↦ ap (λ (r : List ℕ). times r x) (skip-yes (same x y) y (without x l) m) ∙ without-self x l
+      | yes m ↦ ap (λ (r : List ℕ). occurrences r x) (skip-yes (same x y) y (without x l) m) ∙ without-self x l
       | no m ↦
-          ap (λ (r : List ℕ). times r x) (skip-no (same x y) y (without x l) (omega arith)) ∙ omega (arith, without-self x l)
+          ap (λ (r : List ℕ). occurrences r x) (skip-no (same x y) y (without x l) (omega arith)) ∙ omega (arith, without-self x l)
     ]
 
-without-other : (x v : ℕ) (l : List ℕ) → v ≢ x → times (without x l) v ≡ times l v
+without-other : (x v : ℕ) (l : List ℕ) → v ≢ x → occurrences (without x l) v ≡ occurrences l v
 without-other x v [] n = refl
 without-other x v (y ∷ l) n =
     elim (decLt 0 (same x y)) [
       | yes m ↦
-          ap (λ (r : List ℕ). times r v) (skip-yes (same x y) y (without x l) m)
+          ap (λ (r : List ℕ). occurrences r v) (skip-yes (same x y) y (without x l) m)
           ∙ omega (arith, without-other x v l n, same-no v y (λ e. n (e ∙ sym (same-eq x y m))))
       | no m ↦
-          ap (λ (r : List ℕ). times r v) (skip-no (same x y) y (without x l) (omega arith)) ∙ omega (arith, without-other x v l n)
+          ap (λ (r : List ℕ). occurrences r v) (skip-no (same x y) y (without x l) (omega arith)) ∙ omega (arith, without-other x v l n)
     ]
 
 -- an arrangement of n entries of the list: none twice
 pub record Arranged (n : ℕ) (l p : List ℕ) : Type 0 where
   pub long : length p ≡ n
-  pub from : (v : ℕ) → 0 < times p v → 0 < times l v
-  pub once : (v : ℕ) → times p v ≤ 1
+  pub from : (v : ℕ) → 0 < occurrences p v → 0 < occurrences l v
+  pub once : (v : ℕ) → occurrences p v ≤ 1
 
-arranged-cons : (n x : ℕ) (l p : List ℕ) → 0 < times l x → Arranged n (without x l) p → Arranged (suc n) l (x ∷ p)
+arranged-cons : (n x : ℕ) (l p : List ℕ) → 0 < occurrences l x → Arranged n (without x l) p → Arranged (suc n) l (x ∷ p)
 arranged-cons n x l p h a = record {
   long = ap suc (a .long);
   from = λ v i.
       elim (ℕ-discrete v x) [
-        | yes e ↦ omega (arith, ap (times l) e)
+        | yes e ↦ omega (arith, ap (occurrences l) e)
         | no e ↦ omega (arith, a .from v (omega (arith, same-no v x e)), without-other x v l e)
       ];
   once = λ v.
       elim (ℕ-discrete v x) [
         | yes e ↦
-            elim (decLt 0 (times p v)) [
-              | yes m ↦ omega (arith, a .from v m, without-self x l, ap (times (without x l)) e)
+            elim (decLt 0 (occurrences p v)) [
+              | yes m ↦ omega (arith, a .from v m, without-self x l, ap (occurrences (without x l)) e)
               | no m ↦ omega (arith, same-yes v x e)
             ]
         | no e ↦ omega (arith, same-no v x e, a .once v)
@@ -213,18 +213,18 @@ to-arrange (suc n) l (x ∷ p) a =
     (Memᴰ·map (λ p. x ∷ p) (to-arrange n (without x l) p (arranged-rest n x l p a)))
 
 -- places and counts
-pub times-at : (p : List ℕ) (i : ℕ) → i < length p → 0 < times p (getD p i 0)
+pub times-at : (p : List ℕ) (i : ℕ) → i < length p → 0 < occurrences p (getD p i 0)
 times-at [] i h = absurd (not-suc-le-zero h)
 times-at (x ∷ p) zero h = omega (arith, same-self x)
 times-at (x ∷ p) (suc i) h = omega (arith, times-at p i (le-of-suc-le-suc h))
 
-pub times-two : (p : List ℕ) (i j : ℕ) → i < j → j < length p → getD p i 0 ≡ getD p j 0 → 2 ≤ times p (getD p j 0)
+pub times-two : (p : List ℕ) (i j : ℕ) → i < j → j < length p → getD p i 0 ≡ getD p j 0 → 2 ≤ occurrences p (getD p j 0)
 times-two [] i j h l e = absurd (not-suc-le-zero l)
 times-two (x ∷ p) i zero h l e = absurd (not-suc-le-zero h)
 times-two (x ∷ p) zero (suc j) h l e = omega (arith, same-yes (getD p j 0) x (sym e), times-at p j (le-of-suc-le-suc l))
 times-two (x ∷ p) (suc i) (suc j) h l e = omega (arith, times-two p i j (le-of-suc-le-suc h) (le-of-suc-le-suc l) e)
 
-pub place-of : (p : List ℕ) (v : ℕ) → 0 < times p v → (i : ℕ) × (i < length p) × (getD p i 0 ≡ v)
+pub place-of : (p : List ℕ) (v : ℕ) → 0 < occurrences p v → (i : ℕ) × (i < length p) × (getD p i 0 ≡ v)
 place-of [] v h = absurd (omega arith)
 place-of (x ∷ p) v h =
     elim (ℕ-discrete v x) [
@@ -232,12 +232,12 @@ place-of (x ∷ p) v h =
       | no e ↦ let r = place-of p v (omega (arith, same-no v x e)) in (suc (r .0), suc-le-suc (r .1), r .2)
     ]
 
-pub once-of-apart : (p : List ℕ) → ((i j : ℕ) → i < j → j < length p → getD p i 0 ≢ getD p j 0) → (v : ℕ) → times p v ≤ 1
+pub once-of-apart : (p : List ℕ) → ((i j : ℕ) → i < j → j < length p → getD p i 0 ≢ getD p j 0) → (v : ℕ) → occurrences p v ≤ 1
 once-of-apart [] n v = omega arith
 once-of-apart (x ∷ p) n v =
     elim (ℕ-discrete v x) [
       | yes e ↦
-          elim (decLt 0 (times p v)) [
+          elim (decLt 0 (occurrences p v)) [
             | yes m ↦
                 let r = place-of p v m in
                 absurd (n 0 (suc (r .0)) (omega arith) (suc-le-suc (r .1)) (sym e ∙ sym (r .2)))
@@ -247,11 +247,11 @@ once-of-apart (x ∷ p) n v =
     ]
 
 -- read backwards it is an arrangement of the same entries
-times-aux : (p r : List ℕ) (v : ℕ) → times (reverseAux p r) v ≡ times p v + times r v
+times-aux : (p r : List ℕ) (v : ℕ) → occurrences (reverseAux p r) v ≡ occurrences p v + occurrences r v
 times-aux [] r v = omega arith
 times-aux (x ∷ p) r v = omega (arith, times-aux p (x ∷ r) v)
 
-pub times-reverse : (p : List ℕ) (v : ℕ) → times (reverse p) v ≡ times p v
+pub times-reverse : (p : List ℕ) (v : ℕ) → occurrences (reverse p) v ≡ occurrences p v
 times-reverse p v = omega (arith, times-aux p [] v)
 
 arranged-reverse : (n : ℕ) (l p : List ℕ) → Arranged n l p → Arranged n l (reverse p)

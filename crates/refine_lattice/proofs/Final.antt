@@ -9,10 +9,10 @@ use native.Mathlib.Omega.{arith}
 use lib.ListN.{length, getD}
 use lib.IntN.{ℤ, pos, negsuc, _*ℤ_}
 use Rattle.refine_lattice.specs.Lattice.{Child}
-use Rattle.refine_lattice.specs.Complex.{Words, same, times, Names, Complex, Refined, AgreeOnFacets, AgreeOnFaces, Rises}
-use Rattle.refine_lattice.specs.Refine.{words, vertices, share, In, Composes}
+use Rattle.refine_lattice.specs.Complex.{Words, same, occurrences, Names, Complex, Refined, WordsAgreeOnFacets, AgreeOnFaces, Rises}
+use Rattle.refine_lattice.specs.Refine.{words, vertices, share, In, WordsCompose}
 use Rattle.refine_lattice.specs.Conform.{Distinct, Thin, Used, Sound, Facewise}
-use Rattle.refine_lattice.specs.Signs.{Even, Odd, Signs, Oriented, inversions}
+use Rattle.refine_lattice.specs.Signs.{Even, Odd, Signs, CoherentByRank, inversions}
 use Rattle.refine_lattice.specs.Jacobian.{flips, Sorted, jacobian, laplace, Descends}
 use Rattle.refine_lattice.proofs.Sums.{same-self, same-yes, same-no}
 use Rattle.refine_lattice.proofs.Conform.{plain-refined}
@@ -24,8 +24,8 @@ use Rattle.refine_lattice.proofs.Laplace.{is-determinant}
 use Rattle.refine_lattice.proofs.Descent.{flips-times, inherits}
 
 -- each word has its vertices sorted
-insert-one : (x : ℕ) (l : List ℕ) → Rises l → times l x ≡ 0
-    → (r : List ℕ) × Rises r × (length r ≡ suc (length l)) × ((v : ℕ) → times r v ≡ same v x + times l v)
+insert-one : (x : ℕ) (l : List ℕ) → Rises l → occurrences l x ≡ 0
+    → (r : List ℕ) × Rises r × (length r ≡ suc (length l)) × ((v : ℕ) → occurrences r v ≡ same v x + occurrences l v)
 insert-one x [] h z = (x ∷ [], ((λ v p. absurd (omega arith)), tt), refl, (λ v. refl))
 insert-one x (y ∷ l) h z =
     elim (decLt x y) [
@@ -59,7 +59,7 @@ insert-one x (y ∷ l) h z =
           )
     ]
 
-pub sorted : (k : List ℕ) → ((v : ℕ) → times k v ≤ 1) → (l : List ℕ) × Sorted k l
+pub sorted : (k : List ℕ) → ((v : ℕ) → occurrences k v ≤ 1) → (l : List ℕ) × Sorted k l
 sorted [] p = ([], record { long = refl; rises = tt; counts = λ v. refl })
 sorted (x ∷ k) p =
     let (l, s) = sorted k (λ v. omega (arith, p v)) in
@@ -82,7 +82,7 @@ module _ (d R n : ℕ) (ks : List (List ℕ)) (pos-R : 0 < R) (stage : Stage d n
   again = stage-next d R n ks pos-R stage
 
   -- and so it can be refined on, by any number: that is refining by the product
-  pub law : (b : ℕ) → Composes d R b n ks
+  pub law : (b : ℕ) → WordsCompose d R b n ks
   law b = composes-facewise d R b n ks (stage .sound .complex) (stage .facewise)
 
   -- with as many words and vertices in the end, and no more in between
@@ -99,8 +99,8 @@ module _ (d R n : ℕ) (ks : List (List ℕ)) (pos-R : 0 < R) (stage : Stage d n
   )
 
   -- K12, where the cells' words agree on facets
-  module _ (S : Signs) (in-S : (k : List ℕ) (s : ℕ) → S k s → In ks k) (agree : AgreeOnFacets d (In ks)) where
-    pub children-inherit : Oriented d S → Oriented d (Descends d R K M (share d R n ks) S)
+  module _ (S : Signs) (in-S : (k : List ℕ) (s : ℕ) → S k s → In ks k) (agree : WordsAgreeOnFacets d (In ks)) where
+    pub children-inherit : CoherentByRank d S → CoherentByRank d (Descends d R K M (share d R n ks) S)
     children-inherit =
         inherits d R n (vertices d R n ks) K M (share d R n ks) S in-S pos-R (stage .sound .complex)
         (complex-words d R n ks pos-R (stage .sound .complex)) made (stage .sound .distinct) agree
@@ -111,7 +111,7 @@ module _ (d R n : ℕ) (ks : List (List ℕ)) (pos-R : 0 < R) (stage : Stage d n
         let (k, c, in-K, child, names) = made .each m h in
         let (s, g) = f k in-K in
         let long : length k ≡ suc d = stage .sound .complex .long k in-K in
-        let plain : (v : ℕ) → times k v ≤ 1 = stage .sound .complex .plain k in-K in
+        let plain : (v : ℕ) → occurrences k v ≤ 1 = stage .sound .complex .plain k in-K in
         let (a, a-is) = sorted k plain in
         let (b, b-is) = sorted m (complex-words d R n ks pos-R (stage .sound .complex) .plain m h) in
         let N : ℕ = inversions k + inversions (child .order) + inversions m in (
@@ -141,7 +141,7 @@ module _ (d R n : ℕ) (ks : List (List ℕ)) (pos-R : 0 < R) (stage : Stage d n
 single-word : (k : List ℕ) → In ((0 ∷ 1 ∷ 2 ∷ []) ∷ []) k → k ≡ 0 ∷ 1 ∷ 2 ∷ []
 single-word k h = ⊎-elim (λ e. e) (λ r. absurd (List·Memᴰ·not-nil r)) (List·Memᴰ·cases-cons h)
 
-counts-triangle : (v : ℕ) → (times (0 ∷ 1 ∷ 2 ∷ []) v ≤ 1) × (0 < times (0 ∷ 1 ∷ 2 ∷ []) v → v < 3)
+counts-triangle : (v : ℕ) → (occurrences (0 ∷ 1 ∷ 2 ∷ []) v ≤ 1) × (0 < occurrences (0 ∷ 1 ∷ 2 ∷ []) v → v < 3)
 counts-triangle zero = (omega arith, λ h. omega arith)
 counts-triangle (suc zero) = (omega arith, λ h. omega arith)
 counts-triangle (suc (suc zero)) = (omega arith, λ h. omega arith)
@@ -153,8 +153,8 @@ triangle = record {
   sound = record {
     complex = record {
       long = λ k h. ap length (single-word k h);
-      plain = λ k h v. subst (λ (w : List ℕ). times w v ≤ 1) (sym (single-word k h)) (counts-triangle v .0);
-      below = λ k h v. subst (λ (w : List ℕ). 0 < times w v → v < 3) (sym (single-word k h)) (counts-triangle v .1);
+      plain = λ k h v. subst (λ (w : List ℕ). occurrences w v ≤ 1) (sym (single-word k h)) (counts-triangle v .0);
+      below = λ k h v. subst (λ (w : List ℕ). 0 < occurrences w v → v < 3) (sym (single-word k h)) (counts-triangle v .1);
     };
     used = λ v h. (0 ∷ 1 ∷ 2 ∷ [], List·Memᴰ·head refl, there v h);
     distinct = λ k l h g e. single-word k h ∙ sym (single-word l g);
@@ -164,7 +164,7 @@ triangle = record {
   nodup = (List·Memᴰ·not-nil, tt);
 }
   where
-    there : (v : ℕ) → v < 3 → 0 < times (0 ∷ 1 ∷ 2 ∷ []) v
+    there : (v : ℕ) → v < 3 → 0 < occurrences (0 ∷ 1 ∷ 2 ∷ []) v
     there zero h = omega arith
     there (suc zero) h = omega arith
     there (suc (suc zero)) h = omega arith

@@ -8,9 +8,9 @@ use native.Mathlib.Decide.{ℕ-discrete, decLt}
 use native.Mathlib.Omega.{arith}
 use lib.ListN.{length, getD, length-map}
 use Rattle.refine_lattice.specs.Lattice.{tab}
-use Rattle.refine_lattice.specs.Complex.{Words, same, times, through, Complex, Apart, Within, Alike, Agree, AgreeOnFaces, AgreeOnFacets}
+use Rattle.refine_lattice.specs.Complex.{Words, same, occurrences, through, Complex, Apart, Within, Alike, Agree, AgreeOnFaces, WordsAgreeOnFacets}
 use Rattle.refine_lattice.specs.Children.{upto, gather, children}
-use Rattle.refine_lattice.specs.Refine.{births, number, point, words, vertices, share, In, Composes}
+use Rattle.refine_lattice.specs.Refine.{births, number, point, words, vertices, share, In, WordsCompose}
 use Rattle.refine_lattice.specs.Conform.{rest, Used, Sound, Facewise, omit}
 use Rattle.refine_lattice.proofs.Tab.{length-tab}
 use Rattle.refine_lattice.proofs.Enumerate.{of-tab, to-tab, times-at, place-of}
@@ -86,10 +86,10 @@ module _ (d a b n : ℕ) (ks : List (List ℕ)) (pa : 0 < a) (pb : 0 < b) (sound
   single : Sound d (vertices d (a * b) n ks) (In (words d (a * b) n ks))
   single = sound-words d (a * b) n ks (omega (arith, mul-le-mul-left a pb)) sound
 
-  module _ (law : Composes d a b n ks) where
+  module _ (law : WordsCompose d a b n ks) where
     -- as many vertices as the single refinement has, and no more in between
     pub tower-vertices : vertices d b n₁ ks₁ ≡ vertices d (a * b) n ks
-    unfolding Composes
+    unfolding WordsCompose
     tower-vertices =
         omega (
           arith,
@@ -130,21 +130,21 @@ middle-words d a b n ks p =
     )
 
 -- the facet at a place
-pub omit-rest : (k : List ℕ) (i : ℕ) → i < length k → (v : ℕ) → times (omit k i) v ≡ rest k (getD k i 0) v
+pub omit-rest : (k : List ℕ) (i : ℕ) → i < length k → (v : ℕ) → occurrences (omit k i) v ≡ rest k (getD k i 0) v
 omit-rest [] i h v = absurd (not-suc-le-zero h)
 omit-rest (x ∷ k) zero h v = omega arith
 omit-rest (x ∷ k) (suc i) h v =
     omega (arith, omit-rest k i (le-of-suc-le-suc h) v, short (getD k i 0) (times-at k i (le-of-suc-le-suc h)))
   where
-    short : (y : ℕ) → 0 < times k y → same v y ≤ times k v
+    short : (y : ℕ) → 0 < occurrences k y → same v y ≤ occurrences k v
     short y g =
         elim (ℕ-discrete v y) [
-          | yes e ↦ omega (arith, same-yes v y e, ap (times k) e)
+          | yes e ↦ omega (arith, same-yes v y e, ap (occurrences k) e)
           | no e ↦ omega (arith, same-no v y e)
         ]
 
 -- THE LAW ITERATES
-pub composes-facewise : (d a b n : ℕ) (ks : List (List ℕ)) → Complex d n (In ks) → Facewise d (In ks) → Composes d a b n ks
+pub composes-facewise : (d a b n : ℕ) (ks : List (List ℕ)) → Complex d n (In ks) → Facewise d (In ks) → WordsCompose d a b n ks
 unfolding Facewise
 composes-facewise d a b n ks c f =
     ⊎-elim (λ g. composes-by-facets d a b n ks c (g .0) (g .1)) (λ g. composes-by-faces d a b n ks c g) f

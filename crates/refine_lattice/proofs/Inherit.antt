@@ -8,7 +8,7 @@ use native.Mathlib.Decide.{ℕ-discrete, decLt}
 use native.Mathlib.Omega.{arith}
 use lib.ListN.{length, getD}
 use Rattle.refine_lattice.specs.Lattice.{tab, Falls, dot, weights, Perm}
-use Rattle.refine_lattice.specs.Complex.{Words, same, sum, times, keep, common, weigh, Complex, Refined, AgreeOnFaces, AgreeOnFacets}
+use Rattle.refine_lattice.specs.Complex.{Words, same, sum, occurrences, keep, common, weigh, Complex, Refined, AgreeOnFaces, WordsAgreeOnFacets}
 use Rattle.refine_lattice.proofs.Tab.{step, step-le, step-yes, step-no, step-one, length-tab}
 use Rattle.refine_lattice.proofs.Sums.{same-self, same-yes, same-no, same-eq, sum-ext}
 use Rattle.refine_lattice.proofs.Codes.{Code, corner, falls-corner}
@@ -26,13 +26,13 @@ no-share : (w a b : ℕ) → w ≡ 0 → w * a ≡ w * b
 no-share w a b e = ap (λ (y : ℕ). y * a) e ∙ omega arith ∙ sym (ap (λ (y : ℕ). y * b) e)
 
 -- words by what stands after what
-after-absent : (k : List ℕ) (v u : ℕ) → times k v ≡ 0 → after k v u ≡ 0
+after-absent : (k : List ℕ) (v u : ℕ) → occurrences k v ≡ 0 → after k v u ≡ 0
 after-absent [] v u h = refl
 after-absent (x ∷ k) v u h =
     let n : v ≢ x = λ e. omega (arith, same-yes v x e) in
     after-there x k v u n ∙ after-absent k v u (omega arith)
 
-pub by-after : (k l : List ℕ) → ((v : ℕ) → times k v ≤ 1) → ((v : ℕ) → times k v ≡ times l v) → ((v u : ℕ) → after k v u ≡ after l v u) → k ≡ l
+pub by-after : (k l : List ℕ) → ((v : ℕ) → occurrences k v ≤ 1) → ((v : ℕ) → occurrences k v ≡ occurrences l v) → ((v u : ℕ) → after k v u ≡ after l v u) → k ≡ l
 by-after [] [] p e f = refl
 by-after [] (y ∷ l) p e f = absurd (omega (arith, e y, same-self y))
 by-after (x ∷ k) [] p e f = absurd (omega (arith, e x, same-self x))
@@ -71,10 +71,10 @@ by-after (x ∷ k) (y ∷ l) p e f =
           ]),
     )
 
-elsewhere : (x : ℕ) (k : List ℕ) → ((v : ℕ) → times (x ∷ k) v ≤ 1) → (i : ℕ) → i < length k → getD k i 0 ≢ x
+elsewhere : (x : ℕ) (k : List ℕ) → ((v : ℕ) → occurrences (x ∷ k) v ≤ 1) → (i : ℕ) → i < length k → getD k i 0 ≢ x
 elsewhere x k p i h e = omega (arith, p (getD k i 0), times-at k i h, same-yes (getD k i 0) x e)
 
-pub after-at : (k : List ℕ) → ((v : ℕ) → times k v ≤ 1) → (i j : ℕ) → i < length k → j < length k → after k (getD k i 0) (getD k j 0) ≡ step i j
+pub after-at : (k : List ℕ) → ((v : ℕ) → occurrences k v ≤ 1) → (i j : ℕ) → i < length k → j < length k → after k (getD k i 0) (getD k j 0) ≡ step i j
 after-at [] p i j h b = absurd (not-suc-le-zero h)
 after-at (x ∷ k) p zero zero h b = after-here x k x x refl ∙ omega (arith, p x, same-self x)
 after-at (x ∷ k) p zero (suc j) h b =
@@ -86,16 +86,16 @@ after-at (x ∷ k) p (suc i) (suc j) h b =
     ∙ after-at k (λ v. omega (arith, p v)) i j (le-of-suc-le-suc h) (le-of-suc-le-suc b)
 
 -- the vertices that two words share stand in one sequence where each two of them do
-pub one-sequence : (k l : List ℕ) → ((v : ℕ) → times k v ≤ 1) → ((v : ℕ) → times l v ≤ 1)
-    → ((v u : ℕ) → 0 < times k v → 0 < times l v → 0 < times k u → 0 < times l u → after k v u ≡ after l v u) → common k l ≡ common l k
+pub one-sequence : (k l : List ℕ) → ((v : ℕ) → occurrences k v ≤ 1) → ((v : ℕ) → occurrences l v ≤ 1)
+    → ((v u : ℕ) → 0 < occurrences k v → 0 < occurrences l v → 0 < occurrences k u → 0 < occurrences l u → after k v u ≡ after l v u) → common k l ≡ common l k
 one-sequence k l p p′ f =
     by-after (common k l) (common l k) (λ v. omega (arith, times-common-le k l v, p v)) counts places
   where
-    counts : (v : ℕ) → times (common k l) v ≡ times (common l k) v
+    counts : (v : ℕ) → occurrences (common k l) v ≡ occurrences (common l k) v
     counts v =
-        elim (decLt 0 (times l v)) [
+        elim (decLt 0 (occurrences l v)) [
           | yes m ↦
-              elim (decLt 0 (times k v)) [
+              elim (decLt 0 (occurrences k v)) [
                 | yes q ↦ omega (arith, times-common k l v m, times-common l k v q, p v, p′ v)
                 | no q ↦ omega (arith, times-common-le k l v, times-common-no l k v (omega arith))
               ]
@@ -104,14 +104,14 @@ one-sequence k l p p′ f =
 
     places : (v u : ℕ) → after (common k l) v u ≡ after (common l k) v u
     places v u =
-        elim (decLt 0 (times (common k l) v)) [
+        elim (decLt 0 (occurrences (common k l) v)) [
           | yes a ↦
-              elim (decLt 0 (times (common k l) u)) [
+              elim (decLt 0 (occurrences (common k l) u)) [
                 | yes b ↦
-                    let kv : 0 < times k v = omega (arith, times-common-le k l v) in
-                    let ku : 0 < times k u = omega (arith, times-common-le k l u) in
-                    let lv : 0 < times l v = omega (arith, counts v, times-common-le l k v) in
-                    let lu : 0 < times l u = omega (arith, counts u, times-common-le l k u) in
+                    let kv : 0 < occurrences k v = omega (arith, times-common-le k l v) in
+                    let ku : 0 < occurrences k u = omega (arith, times-common-le k l u) in
+                    let lv : 0 < occurrences l v = omega (arith, counts v, times-common-le l k v) in
+                    let lu : 0 < occurrences l u = omega (arith, counts u, times-common-le l k u) in
                     after-common k l v u lv lu ∙ f v u kv lv ku lu ∙ sym (after-common l k v u kv ku)
                 | no b ↦ omega (arith, after-le (common k l) v u, after-le (common l k) v u, counts u)
               ]
@@ -119,7 +119,7 @@ one-sequence k l p p′ f =
         ]
 
 -- a point's coordinate is the weight of all that stands after the place
-pub coordinate : (n R : ℕ) (s k : List ℕ) → length k ≡ suc (length s) → Falls R s → ((v : ℕ) → times k v ≤ 1) → ((v : ℕ) → 0 < times k v → v < n)
+pub coordinate : (n R : ℕ) (s k : List ℕ) → length k ≡ suc (length s) → Falls R s → ((v : ℕ) → occurrences k v ≤ 1) → ((v : ℕ) → 0 < occurrences k v → v < n)
     → (l : ℕ) → l < length k → later n k (weigh k (weights R s)) (getD k l 0) ≡ getD s l 0
 coordinate n R s [] h f p b l g = absurd (not-suc-le-zero g)
 coordinate n R [] (x ∷ y ∷ k) h f p b l g = absurd (omega arith)
@@ -137,67 +137,67 @@ coordinate n R (y ∷ s) (x ∷ k) h f p b (suc l) g =
     ∙ coordinate n y s k (suc-inj h) (f .1) (λ u. omega (arith, p u)) (λ u a. b u (omega arith)) l (le-of-suc-le-suc g)
 
 -- how many vertices two words share
-pub all-shared : (k l : List ℕ) → ((v : ℕ) → 0 < times k v → 0 < times l v) → length (common k l) ≡ length k
+pub all-shared : (k l : List ℕ) → ((v : ℕ) → 0 < occurrences k v → 0 < occurrences l v) → length (common k l) ≡ length k
 all-shared [] l h = refl
 all-shared (x ∷ k) l h =
-    ap length (keep-yes (times l x) x (common k l) (h x (omega (arith, same-self x)))) ∙ ap suc (all-shared k l (λ v a. h v (omega arith)))
+    ap length (keep-yes (occurrences l x) x (common k l) (h x (omega (arith, same-self x)))) ∙ ap suc (all-shared k l (λ v a. h v (omega arith)))
 
-pub all-but-one : (k l : List ℕ) → ((v : ℕ) → times k v ≤ 1)
-    → ((v u : ℕ) → 0 < times k v → 0 < times k u → times l v ≡ 0 → times l u ≡ 0 → v ≡ u) → length k ≤ suc (length (common k l))
+pub all-but-one : (k l : List ℕ) → ((v : ℕ) → occurrences k v ≤ 1)
+    → ((v u : ℕ) → 0 < occurrences k v → 0 < occurrences k u → occurrences l v ≡ 0 → occurrences l u ≡ 0 → v ≡ u) → length k ≤ suc (length (common k l))
 all-but-one [] l p h = omega arith
 all-but-one (x ∷ k) l p h =
-    elim (decLt 0 (times l x)) [
+    elim (decLt 0 (occurrences l x)) [
       | yes m ↦
           omega (
             arith,
-            ap length (keep-yes (times l x) x (common k l) m),
+            ap length (keep-yes (occurrences l x) x (common k l) m),
             all-but-one k l (λ v. omega (arith, p v)) (λ v u a b. h v u (omega arith) (omega arith)),
           )
       | no m ↦
           omega (
             arith,
-            ap length (keep-no (times l x) x (common k l) (omega arith)),
+            ap length (keep-no (occurrences l x) x (common k l) (omega arith)),
             all-shared k l (λ v a.
-                elim (decLt 0 (times l v)) [
+                elim (decLt 0 (occurrences l v)) [
                   | yes q ↦ q
                   | no q ↦
-                      absurd (omega (arith, p x, same-self x, ap (times k) (h v x (omega arith) (omega (arith, same-self x)) (omega arith) (omega arith))))
+                      absurd (omega (arith, p x, same-self x, ap (occurrences k) (h v x (omega arith) (omega (arith, same-self x)) (omega arith) (omega arith))))
                 ]),
           )
     ]
 
 -- and where they are many: all but one place
-shared-all : (k l : List ℕ) → length k ≤ length (common k l) → (x : ℕ) → x < length k → 0 < times l (getD k x 0)
+shared-all : (k l : List ℕ) → length k ≤ length (common k l) → (x : ℕ) → x < length k → 0 < occurrences l (getD k x 0)
 shared-all [] l h x b = absurd (not-suc-le-zero b)
 shared-all (y ∷ k) l h zero b =
-    elim (decLt 0 (times l y)) [
+    elim (decLt 0 (occurrences l y)) [
       | yes m ↦ m
-      | no m ↦ absurd (omega (arith, ap length (keep-no (times l y) y (common k l) (omega arith)), length-common k l))
+      | no m ↦ absurd (omega (arith, ap length (keep-no (occurrences l y) y (common k l) (omega arith)), length-common k l))
     ]
 shared-all (y ∷ k) l h (suc x) b =
-    elim (decLt 0 (times l y)) [
-      | yes m ↦ shared-all k l (omega (arith, ap length (keep-yes (times l y) y (common k l) m))) x (le-of-suc-le-suc b)
-      | no m ↦ absurd (omega (arith, ap length (keep-no (times l y) y (common k l) (omega arith)), length-common k l))
+    elim (decLt 0 (occurrences l y)) [
+      | yes m ↦ shared-all k l (omega (arith, ap length (keep-yes (occurrences l y) y (common k l) m))) x (le-of-suc-le-suc b)
+      | no m ↦ absurd (omega (arith, ap length (keep-no (occurrences l y) y (common k l) (omega arith)), length-common k l))
     ]
 
 pub but-one : (k l : List ℕ) → length k ≤ suc (length (common k l))
-    → (i : ℕ) × ((x : ℕ) → x < length k → x ≢ i → 0 < times l (getD k x 0))
+    → (i : ℕ) × ((x : ℕ) → x < length k → x ≢ i → 0 < occurrences l (getD k x 0))
 but-one [] l h = (0, λ x b n. absurd (not-suc-le-zero b))
 but-one (y ∷ k) l h =
-    elim (decLt 0 (times l y)) [
+    elim (decLt 0 (occurrences l y)) [
       | yes m ↦
-          let (i, f) = but-one k l (omega (arith, ap length (keep-yes (times l y) y (common k l) m))) in
+          let (i, f) = but-one k l (omega (arith, ap length (keep-yes (occurrences l y) y (common k l) m))) in
           (suc i, λ x. go i f m x)
       | no m ↦
-          (0, λ x. gone (omega (arith, ap length (keep-no (times l y) y (common k l) (omega arith)))) x)
+          (0, λ x. gone (omega (arith, ap length (keep-no (occurrences l y) y (common k l) (omega arith)))) x)
     ]
   where
-    go : (i : ℕ) → ((x : ℕ) → x < length k → x ≢ i → 0 < times l (getD k x 0)) → 0 < times l y
-        → (x : ℕ) → x < length (y ∷ k) → x ≢ suc i → 0 < times l (getD (y ∷ k) x 0)
+    go : (i : ℕ) → ((x : ℕ) → x < length k → x ≢ i → 0 < occurrences l (getD k x 0)) → 0 < occurrences l y
+        → (x : ℕ) → x < length (y ∷ k) → x ≢ suc i → 0 < occurrences l (getD (y ∷ k) x 0)
     go i f m zero b n = m
     go i f m (suc x) b n = f x (le-of-suc-le-suc b) (λ e. n (ap suc e))
 
-    gone : length k ≤ length (common k l) → (x : ℕ) → x < length (y ∷ k) → x ≢ 0 → 0 < times l (getD (y ∷ k) x 0)
+    gone : length k ≤ length (common k l) → (x : ℕ) → x < length (y ∷ k) → x ≢ 0 → 0 < occurrences l (getD (y ∷ k) x 0)
     gone h zero b n = absurd (n refl)
     gone h (suc x) b n = shared-all k l h x (le-of-suc-le-suc b)
 
@@ -220,7 +220,7 @@ module _ (d R n : ℕ) (K M : Words) (share : ℕ → ℕ → ℕ) (pos : 0 < R)
       (complex .plain k (s .in-K)) (complex .below k (s .in-K)) l (omega (arith, complex .long k (s .in-K)))
 
   -- from corner to corner what stands after weighs more
-  grows : (m : List ℕ) (s : Home m) (i j : ℕ) → i ≤ j → j < suc d → (v : ℕ) → 0 < times (s .k) v
+  grows : (m : List ℕ) (s : Home m) (i j : ℕ) → i ≤ j → j < suc d → (v : ℕ) → 0 < occurrences (s .k) v
       → later n (s .k) (share (getD m i 0)) v ≤ later n (s .k) (share (getD m j 0)) v
   grows m s i j h b v g =
       let (l, a, e) = place-of (s .k) v g in
@@ -233,23 +233,23 @@ module _ (d R n : ℕ) (K M : Words) (share : ℕ → ℕ → ℕ) (pos : 0 < R)
         low-up d R (s .sat .base) (s .sat .time) (s .sat .code) l i j h,
       ))
 
-  pub home-out : (m : List ℕ) (s : Home m) (i v : ℕ) → i < suc d → times (s .k) v ≡ 0 → share (getD m i 0) v ≡ 0
+  pub home-out : (m : List ℕ) (s : Home m) (i v : ℕ) → i < suc d → occurrences (s .k) v ≡ 0 → share (getD m i 0) v ≡ 0
   home-out m s i v h e =
       share-out d R share (s .k) (complex .long (s .k) (s .in-K)) (complex .plain (s .k) (s .in-K)) m (s .sat) i v h e
 
   -- two words and their cells, whose words agree
   module _ (m m′ : List ℕ) (s : Home m) (s′ : Home m′) (agree : common (s .k) (s′ .k) ≡ common (s′ .k) (s .k)) where
     -- a vertex that both words have: what stands after a vertex that both cells have weighs the same in both
-    pub level : (i i′ : ℕ) → i < suc d → i′ < suc d → getD m i 0 ≡ getD m′ i′ 0 → (v : ℕ) → 0 < times (s .k) v → 0 < times (s′ .k) v
+    pub level : (i i′ : ℕ) → i < suc d → i′ < suc d → getD m i 0 ≡ getD m′ i′ 0 → (v : ℕ) → 0 < occurrences (s .k) v → 0 < occurrences (s′ .k) v
         → later n (s .k) (share (getD m i 0)) v ≡ later n (s′ .k) (share (getD m i 0)) v
     level i i′ h h′ e v a b =
         sum-ext n (λ u. share (getD m i 0) u * after (s .k) v u) (λ u. share (getD m i 0) u * after (s′ .k) v u) (λ u g. each u)
       where
         each : (u : ℕ) → share (getD m i 0) u * after (s .k) v u ≡ share (getD m i 0) u * after (s′ .k) v u
         each u =
-            elim (decLt 0 (times (s .k) u)) [
+            elim (decLt 0 (occurrences (s .k) u)) [
               | yes p ↦
-                  elim (decLt 0 (times (s′ .k) u)) [
+                  elim (decLt 0 (occurrences (s′ .k) u)) [
                     | yes q ↦
                         ap (λ (y : ℕ). share (getD m i 0) u * y)
                         (sym (after-common (s .k) (s′ .k) v u b q)
@@ -267,7 +267,7 @@ module _ (d R n : ℕ) (K M : Words) (share : ℕ → ℕ → ℕ) (pos : 0 < R)
     -- two vertices that both words have, in one sequence in the one and in the other in the opposite one
     module _ (i j i′ j′ : ℕ) (h : i < j) (b : j < suc d) (h′ : j′ ≤ i′) (b′ : i′ < suc d)
         (e : getD m i 0 ≡ getD m′ i′ 0) (f : getD m j 0 ≡ getD m′ j′ 0) where
-      flat : (v : ℕ) → 0 < times (s .k) v → 0 < times (s′ .k) v
+      flat : (v : ℕ) → 0 < occurrences (s .k) v → 0 < occurrences (s′ .k) v
           → later n (s .k) (share (getD m i 0)) v ≡ later n (s .k) (share (getD m j 0)) v
       flat v a c =
           omega (
@@ -289,8 +289,8 @@ module _ (d R n : ℕ) (K M : Words) (share : ℕ → ℕ → ℕ) (pos : 0 < R)
       down : (l : ℕ) → l < suc d → hi l i ≡ hi l j → lo l i ≡ lo l j
       down l g q =
           let v : ℕ = getD (s .k) l 0 in
-          let a : 0 < times (s .k) v = times-at (s .k) l (omega (arith, complex .long (s .k) (s .in-K))) in
-          elim (decLt 0 (times (s′ .k) v)) [
+          let a : 0 < occurrences (s .k) v = times-at (s .k) l (omega (arith, complex .long (s .k) (s .in-K))) in
+          elim (decLt 0 (occurrences (s′ .k) v)) [
             | yes w ↦ sym (seen m s i l (omega arith) g) ∙ flat v a w ∙ seen m s j l b g
             | no w ↦
                 let zi : share (getD m i 0) v ≡ 0 = ap (λ (y : ℕ). share y v) e ∙ home-out m′ s′ i′ v b′ (omega arith) in
@@ -370,7 +370,7 @@ module _ (d R n : ℕ) (K M : Words) (share : ℕ → ℕ → ℕ) (pos : 0 < R)
       let (i, f) = but-one m m′ (omega (arith, s .sat .long)) in
       elim (decLt i (suc d)) [ yes g ↦ go i g f | no g ↦ go 0 (omega arith) (λ x b q. f x b (omega (arith, s .sat .long))) ]
     where
-      go : (i : ℕ) → i < suc d → ((x : ℕ) → x < length m → x ≢ i → 0 < times m′ (getD m x 0)) → d ≤ length (common (s .k) (s′ .k))
+      go : (i : ℕ) → i < suc d → ((x : ℕ) → x < length m → x ≢ i → 0 < occurrences m′ (getD m x 0)) → d ≤ length (common (s .k) (s′ .k))
       go i g f =
           omega (
             arith,
@@ -380,14 +380,14 @@ module _ (d R n : ℕ) (K M : Words) (share : ℕ → ℕ → ℕ) (pos : 0 < R)
                 one-blank d R n K M share pos complex refined (s .k) (s .in-K) m (s .sat) i g v u a b (blank v e) (blank u e′)),
           )
         where
-          blank : (v : ℕ) → times (s′ .k) v ≡ 0 → Blank d R n K M share pos complex refined m i v
+          blank : (v : ℕ) → occurrences (s′ .k) v ≡ 0 → Blank d R n K M share pos complex refined m i v
           blank v e x b q =
               let (y, a, w) = place-of m′ (getD m x 0) (f x (omega (arith, s .sat .long)) q) in
               ap (λ (z : ℕ). share z v) (sym w) ∙ home-out m′ s′ y v (omega (arith, s′ .sat .long)) e
 
   -- and on all facets where the cells' words do
-  pub facets-refined : AgreeOnFacets d K → AgreeOnFacets d M
-  unfolding AgreeOnFacets
+  pub facets-refined : WordsAgreeOnFacets d K → WordsAgreeOnFacets d M
+  unfolding WordsAgreeOnFacets
   facets-refined f m m′ h h′ b =
       let s = seat d R n K M share pos complex refined m h in
       let s′ = seat d R n K M share pos complex refined m′ h′ in

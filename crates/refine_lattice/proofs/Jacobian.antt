@@ -9,7 +9,7 @@ use native.Mathlib.Omega.{arith}
 use lib.ListN.{length, getD}
 use lib.IntN.{ℤ, pos, negsuc, negℤ, _+ℤ_, _-ℤ_, negℤ-negℤ, +ℤ-assoc, +ℤ-comm, +ℤ-idr, -ℤ-+ℤ-cancel, +ℤ-negℤ-cancel}
 use Rattle.refine_lattice.specs.Lattice.{Perm, Child}
-use Rattle.refine_lattice.specs.Complex.{Words, same, sum, times, Names, Rises}
+use Rattle.refine_lattice.specs.Complex.{Words, same, sum, occurrences, Names, Rises}
 use Rattle.refine_lattice.specs.Signs.{less, inversions}
 use Rattle.refine_lattice.specs.Jacobian.{Matrix, Determinant, flips, Sorted, jacobian}
 use Rattle.refine_lattice.proofs.Tab.{step, step-yes, step-no}
@@ -29,7 +29,7 @@ abbrev find : List ℕ → ℕ → ℕ
 find [] v = 0
 find (x ∷ l) v = (1 - same v x) * suc (find l v)
 
-find-at : (l : List ℕ) (v : ℕ) → 0 < times l v → (find l v < length l) × (getD l (find l v) 0 ≡ v)
+find-at : (l : List ℕ) (v : ℕ) → 0 < occurrences l v → (find l v < length l) × (getD l (find l v) 0 ≡ v)
 find-at [] v h = absurd (omega arith)
 find-at (x ∷ l) v h =
     elim (ℕ-discrete v x) [
@@ -55,7 +55,7 @@ inversions-of d k h =
     ∙ sum-2 d d (λ a b. less a b * less (t b) (t a)) (falling t) (λ a b f g. cc (less-step a b, less-step (t b) (t a)))
 
 -- a word and its vertices sorted
-module _ (n : ℕ) (k l : List ℕ) (long : length k ≡ n) (plain : (v : ℕ) → times k v ≤ 1) (s : Sorted k l) where
+module _ (n : ℕ) (k l : List ℕ) (long : length k ≡ n) (plain : (v : ℕ) → occurrences k v ≤ 1) (s : Sorted k l) where
   pub to : ℕ → ℕ
   to a = find l (getD k a 0)
 
@@ -114,7 +114,7 @@ module _ (n : ℕ) (k l : List ℕ) (long : length k ≡ n) (plain : (v : ℕ) �
   pub from-inversions : inverse n from ≡ inversions k
   from-inversions = undone n to from from-perm (from-undoes .right) ∙ to-inversions
 
-  pub plain-sorted : (v : ℕ) → times l v ≤ 1
+  pub plain-sorted : (v : ℕ) → occurrences l v ≤ 1
   plain-sorted v = omega (arith, s .counts v, plain v)
 
 -- differences of whole numbers
@@ -157,7 +157,7 @@ module _ (d R : ℕ) (base t : ℕ → ℕ) (c : Code d R base t) (i a : ℕ) (h
   load-next l =
       omega (arith, load-is d R base t c l i, load-is d R base t c l (suc i), low-next l, high-next l)
 
-module _ (d R : ℕ) (share : ℕ → ℕ → ℕ) (k m : List ℕ) (long : length k ≡ suc d) (plain : (v : ℕ) → times k v ≤ 1)
+module _ (d R : ℕ) (share : ℕ → ℕ → ℕ) (k m : List ℕ) (long : length k ≡ suc d) (plain : (v : ℕ) → occurrences k v ≤ 1)
     (c : List (List ℕ)) (child : Child d R c) (names : Names R share k c m) (sk sm : List ℕ) (ks : Sorted k sk) (ms : Sorted m sm)
     (det : Matrix → ℤ) (D : Determinant d det) where
   s : Sits d R share k m
@@ -167,7 +167,7 @@ module _ (d R : ℕ) (share : ℕ → ℕ → ℕ) (k m : List ℕ) (long : leng
   unfolding s
   s-undoes = sits-order child names
 
-  plain-m : (v : ℕ) → times m v ≤ 1
+  plain-m : (v : ℕ) → occurrences m v ≤ 1
   plain-m = plain-word d R share k long plain m s
 
   abbrev p : ℕ → ℕ
@@ -203,7 +203,7 @@ module _ (d R : ℕ) (share : ℕ → ℕ → ℕ) (k m : List ℕ) (long : leng
   one-step : (i r : ℕ) → i < d → r < d → chained d det D u i r ≡ chained d det D f (p i) r
   one-step i r hi hr =
       let v : ℕ = getD sk (suc r) 0 in
-      let in-k : 0 < times k v = omega (arith, ks .counts v, times-at sk (suc r) (omega (arith, ks .long))) in
+      let in-k : 0 < occurrences k v = omega (arith, ks .counts v, times-at sk (suc r) (omega (arith, ks .long))) in
       let (l, b, w) = place-of k v in-k in
       let bl : l < suc d = omega arith in
       let a : ℕ = p i in

@@ -9,7 +9,7 @@ use native.Mathlib.Decide.{decLt, ℕ-discrete}
 use native.Mathlib.Omega.{arith}
 use lib.ListN.{length, getD}
 use Rattle.refine_lattice.specs.Lattice.{tab, Falls, dot, weights}
-use Rattle.refine_lattice.specs.Complex.{same, sum, times, common, weigh, Agree}
+use Rattle.refine_lattice.specs.Complex.{same, sum, occurrences, common, weigh, Agree}
 use Rattle.refine_lattice.proofs.Sums.{same-self, same-yes, same-no, sum-ext, sum-add, sum-pick, sum-reverse}
 use Rattle.refine_lattice.proofs.Shares.{pull, map-is}
 use Rattle.refine_lattice.proofs.Levels.{shift}
@@ -52,8 +52,8 @@ shift-le a b η z h l =
     ]
 
 module _ (n : ℕ) (k k′ : List ℕ) (ω : ℕ → ℕ)
-    (in-k : (v : ℕ) → 0 < ω v → 0 < times k v) (in-k′ : (v : ℕ) → 0 < ω v → 0 < times k′ v)
-    (plain : (v : ℕ) → times k v ≤ 1) (plain′ : (v : ℕ) → times k′ v ≤ 1) where
+    (in-k : (v : ℕ) → 0 < ω v → 0 < occurrences k v) (in-k′ : (v : ℕ) → 0 < ω v → 0 < occurrences k′ v)
+    (plain : (v : ℕ) → occurrences k v ≤ 1) (plain′ : (v : ℕ) → occurrences k′ v ≤ 1) where
   Along : Type 0
   Along = (u v : ℕ) → 0 < ω u → 0 < ω v → after k v u ≡ after k′ v u
 

@@ -12,9 +12,9 @@ use lib.ListN.{length, getD, length-map}
 use lib.Seq.{ext-getD}
 use Rattle.lists.proofs.Laws.{map-at}
 use Rattle.refine_lattice.specs.Lattice.{tab, weights, Child}
-use Rattle.refine_lattice.specs.Complex.{Words, same, sum, times, weigh, through, Names, Complex, Apart, Refined, Alike, Agree, AgreeOnFaces, AgreeOnFacets, Rises}
+use Rattle.refine_lattice.specs.Complex.{Words, same, sum, occurrences, weigh, through, Names, Complex, Apart, Refined, Alike, Agree, AgreeOnFaces, WordsAgreeOnFacets, Rises}
 use Rattle.refine_lattice.specs.Children.{gather, children, pick}
-use Rattle.refine_lattice.specs.Refine.{point, visits, positives, first, equal, place, births-from, births, number, words, vertices, share, In, Composes}
+use Rattle.refine_lattice.specs.Refine.{point, visits, positives, first, equal, place, births-from, births, number, words, vertices, share, In, WordsCompose}
 use Rattle.refine_lattice.proofs.Tab.{step, length-tab, getD-tab}
 use Rattle.refine_lattice.proofs.Codes.{corner, of-child}
 use Rattle.refine_lattice.proofs.Weights.{past}
@@ -147,7 +147,7 @@ child-point {d} h i l =
 
 -- words of d + 1 vertices below n, refined by R
 module _ (d R n : ℕ) (ks : List (List ℕ)) (long : (k : List ℕ) → List·Memᴰ k ks → length k ≡ suc d)
-    (below : (k : List ℕ) → List·Memᴰ k ks → (v : ℕ) → 0 < times k v → v < n) where
+    (below : (k : List ℕ) → List·Memᴰ k ks → (v : ℕ) → 0 < occurrences k v → v < n) where
   abbrev pub bs : List (List ℕ)
   bs = births d R n ks
 
@@ -224,7 +224,7 @@ module _ (d R n : ℕ) (ks : List (List ℕ)) (long : (k : List ℕ) → List·M
           | no h ↦
               past n (weigh k (weights R s)) v (omega arith)
               ∙ sym (weigh-absent k (weights R s) v
-              (elim (decLt 0 (times k v)) [ yes l ↦ omega (arith, below k in-ks v l) | no l ↦ omega arith ]))
+              (elim (decLt 0 (occurrences k v)) [ yes l ↦ omega (arith, below k in-ks v l) | no l ↦ omega arith ]))
         ]
 
     pub names : Names R (share d R n ks) k c m
@@ -296,7 +296,7 @@ module _ (d R n : ℕ) (ks : List (List ℕ)) (long : (k : List ℕ) → List·M
       let r = from w h in
       ap length (r .is) ∙ length-map (r .c) (λ s. number n bs (point R n (r .k) s)) ∙ child-long (r .child)
 
-  pub words-below : (w : List ℕ) → List·Memᴰ w (words d R n ks) → (v : ℕ) → 0 < times w v → v < vertices d R n ks
+  pub words-below : (w : List ℕ) → List·Memᴰ w (words d R n ks) → (v : ℕ) → 0 < occurrences w v → v < vertices d R n ks
   words-below w h v l =
       let r = from w h in
       let (i, g, e) = place-of w v l in
@@ -325,29 +325,29 @@ module _ (d a b n : ℕ) (ks : List (List ℕ)) (complex : Complex d n (In ks)) 
   single-is : Refined d (a * b) (In ks) (In (words d (a * b) n ks)) (share d (a * b) n ks)
   single-is = refined d (a * b) n ks (complex .long) (complex .below)
 
-  middle-below : (w : List ℕ) → In ks₁ w → (v : ℕ) → 0 < times w v → v < n₁
+  middle-below : (w : List ℕ) → In ks₁ w → (v : ℕ) → 0 < occurrences w v → v < n₁
   middle-below = words-below d a n ks (complex .long) (complex .below)
 
   -- where two words that share three vertices or more list them in one sequence
-  pub composes : ((k l : List ℕ) → In ks k → In ks l → Agree k l) → Composes d a b n ks
-  unfolding Composes
+  pub composes : ((k l : List ℕ) → In ks k → In ks l → Agree k l) → WordsCompose d a b n ks
+  unfolding WordsCompose
   composes agree =
       alike d a b n n₁ (In ks) (In ks₁) (In (words d b n₁ ks₁)) (In (words d (a * b) n ks)) (share d a n ks) (share d b n₁ ks₁) (share d (a * b) n ks)
       complex agree middle-below first-is second-is single-is
 
   -- up to dimension 1, always
-  pub composes-low : d ≤ 1 → Composes d a b n ks
+  pub composes-low : d ≤ 1 → WordsCompose d a b n ks
   composes-low h = composes (edges-do d n (In ks) h complex)
 
   -- up to dimension 3, where the words agree on facets
-  pub composes-by-facets : d ≤ 3 → AgreeOnFacets d (In ks) → Composes d a b n ks
+  pub composes-by-facets : d ≤ 3 → WordsAgreeOnFacets d (In ks) → WordsCompose d a b n ks
   composes-by-facets h f = composes (facets-do d (In ks) h f)
 
   -- in any dimension, where they agree on all shared faces
-  pub composes-by-faces : AgreeOnFaces (In ks) → Composes d a b n ks
+  pub composes-by-faces : AgreeOnFaces (In ks) → WordsCompose d a b n ks
   composes-by-faces f = composes (faces-do (In ks) f)
 
   -- in any dimension, where the words are the cells' sorted vertices
-  pub composes-sorted : ((k : List ℕ) → In ks k → Rises k) → Composes d a b n ks
+  pub composes-sorted : ((k : List ℕ) → In ks k → Rises k) → WordsCompose d a b n ks
   unfolding AgreeOnFaces
   composes-sorted h = composes-by-faces (λ k l p q. rising k l (h k p) (h l q))

@@ -9,7 +9,7 @@ use native.Mathlib.Omega.{arith}
 use lib.ListN.{length, getD}
 use lib.Seq.{ext-getD}
 use Rattle.refine_lattice.specs.Lattice.{tab, Falls, weights, dot, Perm, Child}
-use Rattle.refine_lattice.specs.Complex.{Words, same, sum, times, weigh, Names, Complex, Refined}
+use Rattle.refine_lattice.specs.Complex.{Words, same, sum, occurrences, weigh, Names, Complex, Refined}
 use Rattle.refine_lattice.proofs.Tab.{step, length-tab, getD-tab}
 use Rattle.refine_lattice.proofs.Perms.{sum-le, sum-lt, Undoes}
 use Rattle.refine_lattice.proofs.Sums.{same-self, same-yes, same-no, same-eq, sum-ext, sum-add, sum-zero, sum-pick}
@@ -31,7 +31,7 @@ one-word (x ∷ k) (y ∷ l) =
     ]
 
 -- the weight at a place is the vertex's
-pub weigh-at : (k ws : List ℕ) → ((v : ℕ) → times k v ≤ 1) → (l : ℕ) → l < length k → l < length ws → weigh k ws (getD k l 0) ≡ getD ws l 0
+pub weigh-at : (k ws : List ℕ) → ((v : ℕ) → occurrences k v ≤ 1) → (l : ℕ) → l < length k → l < length ws → weigh k ws (getD k l 0) ≡ getD ws l 0
 weigh-at [] ws p l h b = absurd (not-suc-le-zero h)
 weigh-at (x ∷ k) [] p l h b = absurd (not-suc-le-zero b)
 weigh-at (x ∷ k) (w ∷ ws) p zero h b =
@@ -64,11 +64,11 @@ by-weights R (x ∷ s) (y ∷ r) e f g h =
     )
 
 -- a list's length by the counts of its entries
-length-sum : (n : ℕ) (k : List ℕ) → ((v : ℕ) → 0 < times k v → v < n) → sum n (times k) ≡ length k
+length-sum : (n : ℕ) (k : List ℕ) → ((v : ℕ) → 0 < occurrences k v → v < n) → sum n (occurrences k) ≡ length k
 length-sum n [] h = sum-zero n
 length-sum n (x ∷ k) h =
-    sum-ext n (λ v. same v x + times k v) (λ v. same v x * 1 + times k v) (λ v l. omega arith)
-    ∙ sum-add n (λ v. same v x * 1) (times k)
+    sum-ext n (λ v. same v x + occurrences k v) (λ v. same v x * 1 + occurrences k v) (λ v l. omega arith)
+    ∙ sum-add n (λ v. same v x * 1) (occurrences k)
     ∙ omega (
       arith,
       sum-pick n x (λ v. 1) (h x (omega (arith, same-self x))),
@@ -76,24 +76,24 @@ length-sum n (x ∷ k) h =
     )
 
 -- words of one length: where the one holds the other they have the same vertices
-pub holds-all : (n : ℕ) (k l : List ℕ) → ((v : ℕ) → 0 < times k v → v < n) → ((v : ℕ) → 0 < times l v → v < n)
-    → length l ≤ length k → ((v : ℕ) → times k v ≤ times l v) → (v : ℕ) → times k v ≡ times l v
+pub holds-all : (n : ℕ) (k l : List ℕ) → ((v : ℕ) → 0 < occurrences k v → v < n) → ((v : ℕ) → 0 < occurrences l v → v < n)
+    → length l ≤ length k → ((v : ℕ) → occurrences k v ≤ occurrences l v) → (v : ℕ) → occurrences k v ≡ occurrences l v
 holds-all n k l bk bl e h v =
-    elim (decLt (times k v) (times l v)) [
+    elim (decLt (occurrences k v) (occurrences l v)) [
       | yes m ↦
-          absurd (omega (arith, sum-lt n (times k) (times l) (λ u b. h u) v (bl v (omega arith)) m, length-sum n k bk, length-sum n l bl))
+          absurd (omega (arith, sum-lt n (occurrences k) (occurrences l) (λ u b. h u) v (bl v (omega arith)) m, length-sum n k bk, length-sum n l bl))
       | no m ↦ omega (arith, h v)
     ]
 
 -- a vertex of the one word that is not in the other, where not all are
-pub stray : (k l : List ℕ) → (((v : ℕ) → 0 < times k v → 0 < times l v) → ⊥) → (v : ℕ) × (0 < times k v) × (times l v ≡ 0)
+pub stray : (k l : List ℕ) → (((v : ℕ) → 0 < occurrences k v → 0 < occurrences l v) → ⊥) → (v : ℕ) × (0 < occurrences k v) × (occurrences l v ≡ 0)
 stray [] l h = absurd (h (λ v m. omega arith))
 stray (x ∷ k) l h =
-    elim (decLt 0 (times l x)) [
+    elim (decLt 0 (occurrences l x)) [
       | yes m ↦
           let (v, a, b) =
           stray k l (λ f. h (λ v a. elim (ℕ-discrete v x) [
-            | yes e ↦ omega (arith, ap (times l) e)
+            | yes e ↦ omega (arith, ap (occurrences l) e)
             | no e ↦ f v (omega (arith, same-no v x e))
           ])) in
           (v, omega arith, b)
@@ -133,7 +133,7 @@ pub sits-order : {d R : ℕ} {share : ℕ → ℕ → ℕ} {k m : List ℕ} {c :
 unfolding sits
 sits-order child n = of-order child
 
-module _ (d R : ℕ) (share : ℕ → ℕ → ℕ) (k : List ℕ) (long : length k ≡ suc d) (plain : (v : ℕ) → times k v ≤ 1) where
+module _ (d R : ℕ) (share : ℕ → ℕ → ℕ) (k : List ℕ) (long : length k ≡ suc d) (plain : (v : ℕ) → occurrences k v ≤ 1) where
   module _ (m : List ℕ) (s : Sits d R share k m) where
     length-corner : (i : ℕ) → length (corner d (s .base) (s .time) i) ≡ d
     length-corner i = length-tab d (λ j. s .base j + step (s .time j) i)
@@ -144,11 +144,11 @@ module _ (d R : ℕ) (share : ℕ → ℕ → ℕ) (k : List ℕ) (long : length
         ∙ weigh-at k (weights R (corner d (s .base) (s .time) i)) plain l (omega arith)
         (omega (arith, length-weights R (corner d (s .base) (s .time) i), length-corner i))
 
-    pub share-out : (i v : ℕ) → i < suc d → times k v ≡ 0 → share (getD m i 0) v ≡ 0
+    pub share-out : (i v : ℕ) → i < suc d → occurrences k v ≡ 0 → share (getD m i 0) v ≡ 0
     share-out i v h e = s .names i h v ∙ weigh-absent k (weights R (corner d (s .base) (s .time) i)) v e
 
     -- each vertex of the cell has a share in some vertex of the child
-    pub spans : 0 < R → (v : ℕ) → 0 < times k v → (i : ℕ) × (i < suc d) × (0 < share (getD m i 0) v)
+    pub spans : 0 < R → (v : ℕ) → 0 < occurrences k v → (i : ℕ) × (i < suc d) × (0 < share (getD m i 0) v)
     spans r v h =
         let (l, b, e) = place-of k v h in
         let (i, a, w) = weighs d R (s .base) (s .time) (s .code) r l (omega arith) in
@@ -173,7 +173,7 @@ module _ (d R : ℕ) (share : ℕ → ℕ → ℕ) (k : List ℕ) (long : length
           sym (share-at m s x l h a) ∙ ap (λ (z : ℕ). share z (getD k l 0)) e ∙ share-at m′ s′ y l b a)
 
   -- no vertex stands twice in a word
-  pub plain-word : (m : List ℕ) → Sits d R share k m → (v : ℕ) → times m v ≤ 1
+  pub plain-word : (m : List ℕ) → Sits d R share k m → (v : ℕ) → occurrences m v ≤ 1
   plain-word m s =
       once-of-apart m
       (λ i j h b e.
@@ -185,7 +185,7 @@ module _ (d R : ℕ) (share : ℕ → ℕ → ℕ) (k : List ℕ) (long : length
       ))
 
   -- two words of one cell with the same vertices are one
-  pub word-of-set : (m m′ : List ℕ) → Sits d R share k m → Sits d R share k m′ → ((v : ℕ) → times m v ≡ times m′ v) → m ≡ m′
+  pub word-of-set : (m m′ : List ℕ) → Sits d R share k m → Sits d R share k m′ → ((v : ℕ) → occurrences m v ≡ occurrences m′ v) → m ≡ m′
   word-of-set m m′ s s′ e =
       ext-getD 0 m m′ (s .long ∙ sym (s′ .long))
       (λ x h.

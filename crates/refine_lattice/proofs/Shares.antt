@@ -9,7 +9,7 @@ use native.Mathlib.Omega.{arith}
 use lib.ListN.{length, getD, length-map}
 use Rattle.lists.proofs.Laws.{map-at}
 use Rattle.refine_lattice.specs.Lattice.{tab, dot, weights, blend}
-use Rattle.refine_lattice.specs.Complex.{same, sum, times, weigh, through}
+use Rattle.refine_lattice.specs.Complex.{same, sum, occurrences, weigh, through}
 use Rattle.refine_lattice.proofs.Tab.{step, length-tab, getD-tab, tab-ext, map-tab, list-tab}
 use Rattle.refine_lattice.proofs.Sums.{same-self, sum-ext, sum-add, sum-scale, sum-zero, sum-swap, sum-pick, dot-sum}
 use Rattle.refine_lattice.proofs.Codes.{Code, corner, corners}
@@ -19,7 +19,7 @@ pub map-is : (f : ℕ → ℕ) (l : List ℕ) (n : ℕ) → length l ≡ n → m
 map-is f l n e = list-tab n (map f l) (λ i. f (getD l i 0)) 0 (length-map l f ∙ e) (λ i h. map-at f l i 0 0 (omega arith))
 
 -- a sum over all vertices, of which only those of the word count
-pub pull : (n : ℕ) (f : ℕ → ℕ) (us k : List ℕ) → ((v : ℕ) → 0 < times k v → v < n) → sum n (λ v. weigh k us v * f v) ≡ dot us (map f k)
+pub pull : (n : ℕ) (f : ℕ → ℕ) (us k : List ℕ) → ((v : ℕ) → 0 < occurrences k v → v < n) → sum n (λ v. weigh k us v * f v) ≡ dot us (map f k)
 pull n f [] k h = sum-ext n (λ v. 0 * f v) (λ v. 0) (λ i l. omega arith) ∙ sum-zero n
 pull n f (u ∷ us) [] h = sum-ext n (λ v. 0 * f v) (λ v. 0) (λ i l. omega arith) ∙ sum-zero n
 pull n f (u ∷ us) (x ∷ k) h =
@@ -91,7 +91,7 @@ module _ (d a b n : ℕ) (base t base′ t′ : ℕ → ℕ) (c : Code d a base 
 
   pub through-is : (k m : List ℕ) (outer inner : ℕ → ℕ → ℕ) (x : ℕ)
       → length k ≡ suc d → length m ≡ suc d
-      → ((v : ℕ) → 0 < times m v → v < n)
+      → ((v : ℕ) → 0 < occurrences m v → v < n)
       → ((l : ℕ) → l < suc d → (v : ℕ) → outer (getD m l 0) v ≡ weigh k (weights a (corner d base t l)) v)
       → ((v : ℕ) → inner x v ≡ weigh m us v)
       → (v : ℕ) → through n outer inner x v ≡ weigh k (weights (a * b) (corner d B T i)) v

@@ -7,7 +7,7 @@ use native.Mathlib.Decide.{decLt, ℕ-discrete}
 use native.Mathlib.Omega.{arith}
 use lib.ListN.{length, getD}
 use Rattle.refine_lattice.specs.Lattice.{tab, Falls, dot, weights, Child}
-use Rattle.refine_lattice.specs.Complex.{Words, same, sum, times, common, weigh, through, Names, Complex, Apart, Refined, Within, Alike, Agree}
+use Rattle.refine_lattice.specs.Complex.{Words, same, sum, occurrences, common, weigh, through, Names, Complex, Apart, Refined, Within, Alike, Agree}
 use Rattle.refine_lattice.proofs.Tab.{step, length-tab, getD-tab, tab-ext}
 use Rattle.refine_lattice.proofs.Sums.{sum-ext}
 use Rattle.refine_lattice.proofs.Codes.{Code, corner, corners, falls-corner, of-child, to-child}
@@ -37,7 +37,7 @@ named {d} {R} {share} {k} {m} {c} {base} {t} e n = record {
 
 module _ (d a b n n′ : ℕ) (K M W C : Words) (outer inner share : ℕ → ℕ → ℕ)
     (complex : Complex d n K) (agree : (k k′ : List ℕ) → K k → K k′ → Agree k k′)
-    (below : (m : List ℕ) → M m → (v : ℕ) → 0 < times m v → v < n′)
+    (below : (m : List ℕ) → M m → (v : ℕ) → 0 < occurrences m v → v < n′)
     (first : Refined d a K M outer) (second : Refined d b M W inner) (single : Refined d (a * b) K C share) where
   -- a child of a child of a cell, by their codes
   record Tower (w : List ℕ) : Type 0 where
@@ -113,9 +113,9 @@ module _ (d a b n n′ : ℕ) (K M W C : Words) (outer inner share : ℕ → ℕ
       total : sum n ω ≡ a * b
       total = total-weight n (r .k) spot (a * b) spot-long spot-falls (complex .below (r .k) (r .in-K))
 
-      positive : (v : ℕ) → 0 < ω v → 0 < times (r .k) v
+      positive : (v : ℕ) → 0 < ω v → 0 < occurrences (r .k) v
       positive v h =
-          elim (decLt 0 (times (r .k) v)) [
+          elim (decLt 0 (occurrences (r .k) v)) [
             | yes l ↦ l
             | no l ↦ omega (arith, weigh-absent (r .k) (weights (a * b) spot) v (omega arith))
           ]

@@ -40,8 +40,8 @@ dot-step b (x ∷ s) c zero h =
 dot-step b (x ∷ s) c (suc t) h =
     omega (arith, part b x c (x * c) (h .0) refl, dot-step x s c t (h .1))
 
-times : (u x y z : ℕ) → x + y ≡ z → u * x + u * y ≡ u * z
-times u x y z e = omega (arith, ap (λ (n : ℕ). u * n) e)
+scaled : (u x y z : ℕ) → x + y ≡ z → u * x + u * y ≡ u * z
+scaled u x y z e = omega (arith, ap (λ (n : ℕ). u * n) e)
 
 dot-sub : (us : List ℕ) (n : ℕ) (f g : ℕ → ℕ) → ((i : ℕ) → i < n → g i ≤ f i)
     → dot us (tab n (λ i. f i - g i)) + dot us (tab n g) ≡ dot us (tab n f)
@@ -50,7 +50,7 @@ dot-sub (u ∷ us) zero f g h = omega arith
 dot-sub (u ∷ us) (suc n) f g h =
     omega (
       arith,
-      times u (f 0 - g 0) (g 0) (f 0) (omega (arith, h 0 (omega arith))),
+      scaled u (f 0 - g 0) (g 0) (f 0) (omega (arith, h 0 (omega arith))),
       dot-sub us n (λ i. f (suc i)) (λ i. g (suc i)) (λ i l. h (suc i) (suc-le-suc l)),
     )
 

@@ -10,7 +10,7 @@ use native.Mathlib.Omega.{arith}
 use lib.Dec.{T, eqb, eqb→eq, eqb-refl, ltb, ltb→lt, lt→ltb}
 use lib.ListN.{length, getD}
 use Rattle.refine_lattice.specs.Lattice.{tab, weights, Child}
-use Rattle.refine_lattice.specs.Complex.{Words, same, times, weigh, Names, Complex, Refined, AgreeOnFaces, AgreeOnFacets}
+use Rattle.refine_lattice.specs.Complex.{Words, same, occurrences, weigh, Names, Complex, Refined, AgreeOnFaces, WordsAgreeOnFacets}
 use Rattle.refine_lattice.specs.Children.{gather, children, pick}
 use Rattle.refine_lattice.specs.Refine.{point, visits, positives, first, equal, place, births-from, births, number, words, vertices, share, In}
 use Rattle.refine_lattice.specs.Conform.{Distinct, Thin, Used, Sound}
@@ -175,10 +175,10 @@ module _ (d R l : ℕ) (r : 0 < R) where
             ]
       ]
 
-  weigh-there : (k : List ℕ) → length k ≡ suc d → ((v : ℕ) → times k v ≤ 1) → l < suc d → (u : ℕ)
+  weigh-there : (k : List ℕ) → length k ≡ suc d → ((v : ℕ) → occurrences k v ≤ 1) → l < suc d → (u : ℕ)
       → weigh k (weights R tipped) u ≡ R * same u (getD k l 0)
   weigh-there k h p b u =
-      elim (decLt 0 (times k u)) [
+      elim (decLt 0 (occurrences k u)) [
         | yes a ↦
             let (q, g, e) = place-of k u a in
             subst (λ (w : ℕ). weigh k (weights R tipped) w ≡ R * same w (getD k l 0)) e
@@ -194,11 +194,11 @@ module _ (d R l : ℕ) (r : 0 < R) where
             ]))
         | no a ↦
             weigh-absent k (weights R tipped) u (omega arith)
-            ∙ sym (ap (λ (y : ℕ). R * y) (same-no u (getD k l 0) (λ e. a (subst (λ (w : ℕ). 0 < times k w) (sym e) (there k l (omega arith)))))
+            ∙ sym (ap (λ (y : ℕ). R * y) (same-no u (getD k l 0) (λ e. a (subst (λ (w : ℕ). 0 < occurrences k w) (sym e) (there k l (omega arith)))))
             ∙ omega arith)
       ]
     where
-      there : (k : List ℕ) (l : ℕ) → l < length k → 0 < times k (getD k l 0)
+      there : (k : List ℕ) (l : ℕ) → l < length k → 0 < occurrences k (getD k l 0)
       there [] l b = absurd (not-suc-le-zero b)
       there (x ∷ k) zero b = omega (arith, same-self x)
       there (x ∷ k) (suc l) b = omega (arith, there k l (le-of-suc-le-suc b))
@@ -213,7 +213,7 @@ module _ (d R n : ℕ) (ks : List (List ℕ)) (pos : 0 < R) (complex : Complex d
 
   -- a point of a child of one of the words is in one of the words
   pub holds : (k : List ℕ) (c : List (List ℕ)) (s : List ℕ) → List·Memᴰ k ks → Child d R c → List·Memᴰ s c
-      → (w : List ℕ) × List·Memᴰ w (words d R n ks) × (0 < times w (number n bs (point R n k s)))
+      → (w : List ℕ) × List·Memᴰ w (words d R n ks) × (0 < occurrences w (number n bs (point R n k s)))
   holds k c s h child b = (
     names-of k c,
     in-words d R n ks (complex .long) (complex .below) k c h child,
@@ -221,8 +221,8 @@ module _ (d R n : ℕ) (ks : List (List ℕ)) (pos : 0 < R) (complex : Complex d
   )
 
   -- a vertex of the complex keeps its number
-  old : (k : List ℕ) (v : ℕ) → List·Memᴰ k ks → 0 < times k v
-      → (w : List ℕ) × List·Memᴰ w (words d R n ks) × (0 < times w v)
+  old : (k : List ℕ) (v : ℕ) → List·Memᴰ k ks → 0 < occurrences k v
+      → (w : List ℕ) × List·Memᴰ w (words d R n ks) × (0 < occurrences w v)
   old k v h b =
       let (l, g, e) = place-of k v b in
       let g′ : l < suc d = omega (arith, complex .long k h) in
@@ -237,14 +237,14 @@ module _ (d R n : ℕ) (ks : List (List ℕ)) (pos : 0 < R) (complex : Complex d
       ∙ ap (λ (y : ℕ). R * same u y) e) in (
         w,
         i,
-        subst (λ (y : ℕ). 0 < times w y)
+        subst (λ (y : ℕ). 0 < occurrences w y)
             (yes-pick (eqb (positives (point R n k s)) 1) (first (point R n k s)) (n + place bs (point R n k s))
             (subst (λ (y : ℕ). T (eqb y 1)) (sym p) (eqb-refl 1))
             ∙ q) t,
       )
 
   -- and a birth has the number of its place
-  new : (p : ℕ) → p < length bs → (w : List ℕ) × List·Memᴰ w (words d R n ks) × (0 < times w (n + p))
+  new : (p : ℕ) → p < length bs → (w : List ℕ) × List·Memᴰ w (words d R n ks) × (0 < occurrences w (n + p))
   new p b =
       let l : List ℕ = getD bs p [] in
       let (in-visits, not-one) = ⊎-elim (λ q. absurd (List·Memᴰ·not-nil q)) (λ q. q) (births-of (visits d R n ks) [] l (mem-at bs p b)) in
@@ -254,7 +254,7 @@ module _ (d R n : ℕ) (ks : List (List ℕ)) (pos : 0 < R) (complex : Complex d
       let (w, a, t) = holds k c s i (child-of-mem d R c f) h in (
         w,
         a,
-        subst (λ (y : ℕ). 0 < times w y)
+        subst (λ (y : ℕ). 0 < occurrences w y)
             (ap (number n bs) e
             ∙ no-pick (eqb (positives l) 1) (first l) (n + place bs l) (λ t. not-one (eqb→eq (positives l) 1 t))
             ∙ ap (λ (y : ℕ). n + y) (nodup-place bs (nodup-births (visits d R n ks) [] tt) p b)) t,
@@ -269,7 +269,7 @@ module _ (d R n : ℕ) (ks : List (List ℕ)) (pos : 0 < R) (complex : Complex d
         | no b ↦
             let e : n + (v - n) ≡ v = omega arith in
             let (w, i, t) = new (v - n) (omega arith) in
-            (w, i, subst (λ (y : ℕ). 0 < times w y) e t)
+            (w, i, subst (λ (y : ℕ). 0 < occurrences w y) e t)
       ]
 
   abbrev is-refined : Refined d R (In ks) (In (words d R n ks)) (share d R n ks)
@@ -309,11 +309,11 @@ module _ (d R n : ℕ) (ks : List (List ℕ)) (pos : 0 < R) (complex : Complex d
   }
 
   in-cell : (k k′ : List ℕ) (i : List·Memᴰ k ks) (i′ : List·Memᴰ k′ ks) (c c′ : List (List ℕ)) → Child d R c → Child d R c′
-      → names-of k c ≡ names-of k′ c′ → (v : ℕ) → 0 < times k v → 0 < times k′ v
+      → names-of k c ≡ names-of k′ c′ → (v : ℕ) → 0 < occurrences k v → 0 < occurrences k′ v
   unfolding seat-in
   in-cell k k′ i i′ c c′ a b e v h =
       inside d R n (In ks) (In (words d R n ks)) (share d R n ks) pos complex is-refined (names-of k c) (names-of k′ c′)
-      (seat-in k c i a) (seat-in k′ c′ i′ b) (λ u g. subst (λ (w : List ℕ). 0 < times w u) e g) v h
+      (seat-in k c i a) (seat-in k′ c′ i′ b) (λ u g. subst (λ (w : List ℕ). 0 < occurrences w u) e g) v h
 
   pub nodup-words : Nodup ks → Distinct (In ks) → Nodup (words d R n ks)
   unfolding Distinct
@@ -343,7 +343,7 @@ module _ (d R n : ℕ) (ks : List (List ℕ)) (pos : 0 < R) (sound : Sound d n (
   }
 
   -- with words that agree on facets, or on all faces, again
-  pub facets-words : AgreeOnFacets d (In ks) → AgreeOnFacets d (In (words d R n ks))
+  pub facets-words : WordsAgreeOnFacets d (In ks) → WordsAgreeOnFacets d (In (words d R n ks))
   facets-words = facets-refined d R n (In ks) (In (words d R n ks)) (share d R n ks) pos (sound .complex) made
 
   pub faces-words : AgreeOnFaces (In ks) → AgreeOnFaces (In (words d R n ks))

@@ -18,9 +18,9 @@ sum zero f = 0
 sum (suc n) f = sum n f + f n
 
 -- how often `v` stands in `k`
-abbrev pub times : List ℕ → ℕ → ℕ
-times [] v = 0
-times (x ∷ k) v = same v x + times k v
+abbrev pub occurrences : List ℕ → ℕ → ℕ
+occurrences [] v = 0
+occurrences (x ∷ k) v = same v x + occurrences k v
 
 abbrev pub keep : ℕ → ℕ → List ℕ → List ℕ
 keep zero x r = r
@@ -29,7 +29,7 @@ keep (suc n) x r = x ∷ r
 -- the vertices of `k` that stand in `l` too, in the sequence of `k`
 abbrev pub common : List ℕ → List ℕ → List ℕ
 common [] l = []
-common (x ∷ k) l = keep (times l x) x (common k l)
+common (x ∷ k) l = keep (occurrences l x) x (common k l)
 
 -- the weight of vertex `v` in the point whose weights over the word `k` are `ws`
 abbrev pub weigh : List ℕ → List ℕ → ℕ → ℕ
@@ -43,8 +43,8 @@ pub record Names (R : ℕ) (share : ℕ → ℕ → ℕ) (k : List ℕ) (c : Lis
 -- words of d + 1 vertices, all below n, none twice in a word
 pub record Complex (d n : ℕ) (K : Words) : Type 0 where
   pub long : (k : List ℕ) → K k → length k ≡ suc d
-  pub plain : (k : List ℕ) → K k → (v : ℕ) → times k v ≤ 1
-  pub below : (k : List ℕ) → K k → (v : ℕ) → 0 < times k v → v < n
+  pub plain : (k : List ℕ) → K k → (v : ℕ) → occurrences k v ≤ 1
+  pub below : (k : List ℕ) → K k → (v : ℕ) → 0 < occurrences k v → v < n
 
 -- different vertices have different shares
 unfoldable pub Apart : ℕ → Words → (ℕ → ℕ → ℕ) → Type 0
@@ -84,10 +84,10 @@ unfoldable pub AgreeOnFaces : Words → Type 0
 AgreeOnFaces K = (k l : List ℕ) → K k → K l → common k l ≡ common l k
 
 -- and so at least where they share d vertices, a facet, or all d + 1, which makes them one word
-unfoldable pub AgreeOnFacets : ℕ → Words → Type 0
-AgreeOnFacets d K = (k l : List ℕ) → K k → K l → d ≤ length (common k l) → common k l ≡ common l k
+unfoldable pub WordsAgreeOnFacets : ℕ → Words → Type 0
+WordsAgreeOnFacets d K = (k l : List ℕ) → K k → K l → d ≤ length (common k l) → common k l ≡ common l k
 
 -- the vertices of `k` rise
 abbrev pub Rises : List ℕ → Type 0
 Rises [] = Unit {0}
-Rises (x ∷ k) = ((v : ℕ) → 0 < times k v → x < v) × Rises k
+Rises (x ∷ k) = ((v : ℕ) → 0 < occurrences k v → x < v) × Rises k

@@ -3,11 +3,11 @@ use mathlib.Core.Path.{_≡_}
 use mathlib.Core.Logic.{_⊎_}
 use mathlib.Core.List.{List, [], _∷_}
 use Prim.Native.Nat.{ℕ, zero, suc, _-_, _≤_, _<_}
-use Rattle.refine_lattice.specs.Complex.{Words, same, times, Complex, AgreeOnFaces, AgreeOnFacets}
+use Rattle.refine_lattice.specs.Complex.{Words, same, occurrences, Complex, AgreeOnFaces, WordsAgreeOnFacets}
 
 -- how often `v` stands in `k` where one `x` is left out: the vertices of the facet of `k` against `x`
 abbrev pub rest : List ℕ → ℕ → ℕ → ℕ
-rest k x v = times k v - same v x
+rest k x v = occurrences k v - same v x
 
 -- the facet of `k` against `x` and that of `l` against `y` have the same vertices
 unfoldable pub Meet : List ℕ → ℕ → List ℕ → ℕ → Type 0
@@ -15,17 +15,17 @@ Meet k x l y = (v : ℕ) → rest k x v ≡ rest l y v
 
 -- no two words have the same vertices
 unfoldable pub Distinct : Words → Type 0
-Distinct K = (k l : List ℕ) → K k → K l → ((v : ℕ) → times k v ≡ times l v) → k ≡ l
+Distinct K = (k l : List ℕ) → K k → K l → ((v : ℕ) → occurrences k v ≡ occurrences l v) → k ≡ l
 
 -- of three words with one facet two are the same: no facet lies in three words; in dimension 0 there are no facets
 unfoldable pub Thin : ℕ → Words → Type 0
 Thin d K =
-    0 < d → (k l m : List ℕ) → K k → K l → K m → (x y z : ℕ) → 0 < times k x → 0 < times l y → 0 < times m z
+    0 < d → (k l m : List ℕ) → K k → K l → K m → (x y z : ℕ) → 0 < occurrences k x → 0 < occurrences l y → 0 < occurrences m z
     → Meet k x l y → Meet k x m z → (k ≡ l) ⊎ ((k ≡ m) ⊎ (l ≡ m))
 
 -- each of n vertices stands in a word
 unfoldable pub Used : ℕ → Words → Type 0
-Used n K = (v : ℕ) → v < n → (k : List ℕ) × K k × (0 < times k v)
+Used n K = (v : ℕ) → v < n → (k : List ℕ) × K k × (0 < occurrences k v)
 
 -- a complex of n vertices that refinement takes
 pub record Sound (d n : ℕ) (K : Words) : Type 0 where
@@ -36,7 +36,7 @@ pub record Sound (d n : ℕ) (K : Words) : Type 0 where
 
 -- what demand 3 asks of the words: up to dimension 3 that they agree on facets, else that they agree on all shared faces
 unfoldable pub Facewise : ℕ → Words → Type 0
-Facewise d K = ((d ≤ 3) × AgreeOnFacets d K) ⊎ AgreeOnFaces K
+Facewise d K = ((d ≤ 3) × WordsAgreeOnFacets d K) ⊎ AgreeOnFaces K
 
 -- the word with the vertex at place i left out
 abbrev pub omit : List ℕ → ℕ → List ℕ

@@ -5,7 +5,7 @@ use Prim.Native.Nat.{ℕ, zero, suc, _+_, _*_, _-_, _<_}
 use lib.ListN.{length, getD}
 use lib.IntN.{ℤ, pos, negℤ, _+ℤ_, _-ℤ_, _*ℤ_}
 use Rattle.refine_lattice.specs.Lattice.{Child}
-use Rattle.refine_lattice.specs.Complex.{Words, same, times, Names, Rises}
+use Rattle.refine_lattice.specs.Complex.{Words, same, occurrences, Names, Rises}
 use Rattle.refine_lattice.specs.Signs.{Signs}
 
 -- column c, row r
@@ -37,7 +37,7 @@ flips (suc n) v = negℤ (flips n v)
 pub record Sorted (k l : List ℕ) : Type 0 where
   pub long : length l ≡ length k
   pub rises : Rises l
-  pub counts : (v : ℕ) → times k v ≡ times l v
+  pub counts : (v : ℕ) → occurrences k v ≡ occurrences l v
 
 -- the Jacobian of a child with the sorted vertices `m`, over R, in the local coordinates of a parent with the sorted vertices `k`: column c is corner c + 1
 -- minus corner 0, and row r the share of the parent's vertex r + 1

@@ -70,8 +70,8 @@ In ks k = List·Memᴰ k ks
 
 -- THE LAW: the complex refined by a and then, along its children's own words, by b is the complex refined by a * b, up to the numbers of the vertices.
 -- A vertex of the double refinement is told by its shares over a * b: those by b of the vertices between, times theirs by a.
-unfoldable pub Composes : ℕ → ℕ → ℕ → ℕ → List (List ℕ) → Type 0
-Composes d a b n ks =
+unfoldable pub WordsCompose : ℕ → ℕ → ℕ → ℕ → List (List ℕ) → Type 0
+WordsCompose d a b n ks =
     let n₁ : ℕ = vertices d a n ks in
     let ks₁ : List (List ℕ) = words d a n ks in
     Alike d (In (words d b n₁ ks₁)) (In (words d (a * b) n ks)) (through n₁ (share d a n ks) (share d b n₁ ks₁)) (share d (a * b) n ks)

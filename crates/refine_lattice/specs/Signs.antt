@@ -21,7 +21,7 @@ Signs = List ℕ → ℕ → Type 0
 
 -- A word has one sign. Where two words have a facet, against the vertex at place i of the one and at place j of the other, the sign of the one times (-1)^i
 -- and that of the other times (-1)^j are opposite. In dimension 0 there are no facets.
-pub record Coherent (d : ℕ) (S : Signs) : Type 0 where
+pub record CoherentByPlace (d : ℕ) (S : Signs) : Type 0 where
   pub one : (k : List ℕ) (s r : ℕ) → S k s → S k r → Even (s + r)
   pub across : 0 < d → (k l : List ℕ) (s r : ℕ) → S k s → S l r → k ≢ l → (i j : ℕ) → i < suc d → j < suc d
       → Meet k (getD k i 0) l (getD l j 0) → Odd (s + i + (r + j))
@@ -53,7 +53,7 @@ abbrev pub rank : List ℕ → ℕ → ℕ
 rank k v = sum (length k) (λ a. less (getD k a 0) v)
 
 -- The same for signs of cells, whose facets' signs go by the places in the sorted cell
-pub record Oriented (d : ℕ) (S : Signs) : Type 0 where
+pub record CoherentByRank (d : ℕ) (S : Signs) : Type 0 where
   pub one : (k : List ℕ) (s r : ℕ) → S k s → S k r → Even (s + r)
   pub across : 0 < d → (k l : List ℕ) (s r : ℕ) → S k s → S l r → k ≢ l → (i j : ℕ) → i < suc d → j < suc d
       → Meet k (getD k i 0) l (getD l j 0) → Odd (s + rank k (getD k i 0) + (r + rank l (getD l j 0)))

@@ -5,7 +5,7 @@ use mathlib.Core.List.{List}
 use Prim.Native.Nat.{ℕ, _*_, _^_, _<_}
 use native.Mathlib.Omega.{arith}
 use lib.ListN.{length}
-use Rattle.refine_lattice.specs.Complex.{Words, Apart, Refined, AgreeOnFaces, AgreeOnFacets}
+use Rattle.refine_lattice.specs.Complex.{Words, Apart, Refined, AgreeOnFaces, WordsAgreeOnFacets}
 use Rattle.refine_lattice.specs.Refine.{words, vertices, share, In}
 use Rattle.refine_lattice.specs.Conform.{Used, Distinct, Thin, Sound, Facewise}
 use Rattle.refine_lattice.proofs.Count.{Nodup, no-longer}
@@ -32,7 +32,7 @@ sound-along d n K M f g s = record {
 }
 
 pub facewise-along : (d : ℕ) (K M : Words) → ((w : List ℕ) → M w → K w) → Facewise d K → Facewise d M
-unfolding Facewise AgreeOnFacets AgreeOnFaces
+unfolding Facewise WordsAgreeOnFacets AgreeOnFaces
 facewise-along d K M g f =
     ⊎-elim (λ h. inl (h .0, λ k l a b. h .1 k l (g k a) (g l b))) (λ h. inr (λ k l a b. h k l (g k a) (g l b))) f
 
@@ -46,8 +46,8 @@ refined-along d R K M N share f g r = record {
 }
 
 -- agreement on facets, however it is given
-pub facets-of : (d : ℕ) (K : Words) → Facewise d K → AgreeOnFacets d K
-unfolding Facewise AgreeOnFacets AgreeOnFaces
+pub facets-of : (d : ℕ) (K : Words) → Facewise d K → WordsAgreeOnFacets d K
+unfolding Facewise WordsAgreeOnFacets AgreeOnFaces
 facets-of d K f = ⊎-elim (λ h. h .1) (λ h k l a b e. h k l a b) f
 
 -- ---- a complex refined by R, whether its words agree or not

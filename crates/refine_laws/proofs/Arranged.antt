@@ -17,7 +17,7 @@ use Rattle.ordering.specs.Order.{sameWord, wordIf, wordOf, byCell}
 use Rattle.ordering.proofs.Orders.{same-true, true-same, by-cell-at, by-cell-length}
 use Rattle.complex_cells.proofs.Words.{Word, Each, Rising, each-in, each-of, in-at, at-in}
 use Rattle.complex_cells.proofs.Order.{Colex, colex-irr, order-rising, order-from, order-has}
-use Rattle.refine_lattice.specs.Complex.{times, Complex, Rises}
+use Rattle.refine_lattice.specs.Complex.{occurrences, Complex, Rises}
 use Rattle.refine_lattice.specs.Refine.{In}
 use Rattle.refine_lattice.specs.Conform.{Distinct}
 use Rattle.refine_lattice.proofs.Refines.{mem-at}
@@ -86,7 +86,7 @@ module _ (d n : ℕ) (ws : List (List ℕ)) (x : Complex d n (In ws)) where
     rises = λ c h. let (w, m, e) = from-word c h in subst (λ (v : List ℕ). Rises v) e (rises-sort w (x .plain w m));
     below = λ c h v p.
         let (w, m, e) = from-word c h in
-        x .below w m v (omega (arith, sort-times w v, ap (λ (u : List ℕ). times u v) e));
+        x .below w m v (omega (arith, sort-times w v, ap (λ (u : List ℕ). occurrences u v) e));
     apart = λ c c′ h h′ e. rising-one (suc d) (inOrder (suc d) ws) (order-rising (suc d) ws) c c′ h h′ e;
     sorts = sorts;
   }
@@ -115,7 +115,7 @@ module _ (d n : ℕ) (ws : List (List ℕ)) (x : Complex d n (In ws)) where
     word-back w m =
         let (a, b) = word-found ws (sortWord w) w m refl in
         distinct (wordOf ws (sortWord w)) w a m
-        (λ v. sym (sort-times (wordOf ws (sortWord w)) v) ∙ ap (λ (u : List ℕ). times u v) b ∙ sort-times w v)
+        (λ v. sym (sort-times (wordOf ws (sortWord w)) v) ∙ ap (λ (u : List ℕ). occurrences u v) b ∙ sort-times w v)
 
     pub in-by : (w : List ℕ) → List·Memᴰ w ws → List·Memᴰ w (byCell ws (inOrder (suc d) ws))
     in-by w m =

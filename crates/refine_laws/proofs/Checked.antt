@@ -1,4 +1,4 @@
--- An accepted cell list is a complex that lattice's theorems take, along its sorted cells or along an order that agrees. Assumes nothing.
+-- An accepted cell list is a complex that refine_lattice's theorems take, along its sorted cells or along an order that agrees. Assumes nothing.
 use mathlib.Core.Path.{_≡_, refl, sym, ap, _∙_, subst}
 use mathlib.Core.Logic.{_⊎_, inl, inr, ⊎-elim}
 use mathlib.Core.List.{List, [], _∷_, _++_, List·Memᴰ, List·Memᴰ·head, List·Memᴰ·tail, List·Memᴰ·not-nil, List·Memᴰ·cases-cons}
@@ -21,7 +21,7 @@ use Rattle.complex_cells.proofs.Words.{at-in}
 use Rattle.complex_cells.proofs.Making.{whole-words}
 use Rattle.ordering.specs.Order.{Orders}
 use Rattle.ordering.specs.Order as order
-use Rattle.refine_lattice.specs.Complex.{same, times, Complex, AgreeOnFaces, Rises}
+use Rattle.refine_lattice.specs.Complex.{same, occurrences, Complex, AgreeOnFaces, Rises}
 use Rattle.refine_lattice.specs.Refine.{In}
 use Rattle.refine_lattice.specs.Conform.{Used, Sound, Facewise}
 use Rattle.refine_lattice.proofs.Sums.{same-self}
@@ -36,27 +36,27 @@ use Rattle.ordering.proofs.Orders.{by-cell-length, by-cell-at}
 use Rattle.refine_laws.proofs.Arranged.{to-cell, listed, listed-cells}
 
 -- ---- a flat list and its words
-pub times-append : (a b : List ℕ) (v : ℕ) → times (a ++ b) v ≡ times a v + times b v
+pub times-append : (a b : List ℕ) (v : ℕ) → occurrences (a ++ b) v ≡ occurrences a v + occurrences b v
 times-append [] b v = omega arith
 times-append (x ∷ a) b v = omega (arith, times-append a b v)
 
-pub times-parts : (n : ℕ) (ws : List ℕ) (v : ℕ) → times ws v ≡ times (take n ws) v + times (drop n ws) v
-times-parts n ws v = ap (λ (w : List ℕ). times w v) (sym (take-append-drop n ws)) ∙ times-append (take n ws) (drop n ws) v
+pub times-parts : (n : ℕ) (ws : List ℕ) (v : ℕ) → occurrences ws v ≡ occurrences (take n ws) v + occurrences (drop n ws) v
+times-parts n ws v = ap (λ (w : List ℕ). occurrences w v) (sym (take-append-drop n ws)) ∙ times-append (take n ws) (drop n ws) v
 
-pub cut-times : (n count : ℕ) (ws w : List ℕ) → List·Memᴰ w (cut n count ws) → (v : ℕ) → times w v ≤ times ws v
+pub cut-times : (n count : ℕ) (ws w : List ℕ) → List·Memᴰ w (cut n count ws) → (v : ℕ) → occurrences w v ≤ occurrences ws v
 unfolding cut
 cut-times n zero ws w m v = absurd (List·Memᴰ·not-nil m)
 cut-times n (suc count) ws w m v =
-    ⊎-elim (λ e. omega (arith, ap (λ (u : List ℕ). times u v) e, times-parts n ws v))
+    ⊎-elim (λ e. omega (arith, ap (λ (u : List ℕ). occurrences u v) e, times-parts n ws v))
     (λ q. omega (arith, cut-times n count (drop n ws) w q v, times-parts n ws v)) (List·Memᴰ·cases-cons m)
 
-pub cut-has : (n count : ℕ) (ws : List ℕ) → count * n ≡ length ws → (v : ℕ) → 0 < times ws v
-    → (w : List ℕ) × List·Memᴰ w (cut n count ws) × (0 < times w v)
+pub cut-has : (n count : ℕ) (ws : List ℕ) → count * n ≡ length ws → (v : ℕ) → 0 < occurrences ws v
+    → (w : List ℕ) × List·Memᴰ w (cut n count ws) × (0 < occurrences w v)
 unfolding cut
 cut-has n zero [] e v h = absurd (omega arith)
 cut-has n zero (x ∷ ws) e v h = absurd (omega (arith, zero-mul n))
 cut-has n (suc count) ws e v h =
-    elim (decLt 0 (times (take n ws) v)) [
+    elim (decLt 0 (occurrences (take n ws) v)) [
       | yes p ↦ (take n ws, List·Memᴰ·head refl, p)
       | no p ↦
           let (w, m, q) =
@@ -65,20 +65,20 @@ cut-has n (suc count) ws e v h =
     ]
 
 -- the largest number is one of the numbers
-big : (ws : List ℕ) → 0 < largestOf ws → 0 < times ws (largestOf ws)
+big : (ws : List ℕ) → 0 < largestOf ws → 0 < occurrences ws (largestOf ws)
 unfolding largestOf
 big [] h = absurd (omega arith)
 big (x ∷ ws) h =
     elim (decLt x (largestOf ws)) [
       | yes l ↦
           let e : largestOf ws ≡ max x (largestOf ws) = omega arith in
-          subst (λ (m : ℕ). 0 < same m x + times ws m) e (omega (arith, big ws (omega arith)))
+          subst (λ (m : ℕ). 0 < same m x + occurrences ws m) e (omega (arith, big ws (omega arith)))
       | no l ↦
           let e : x ≡ max x (largestOf ws) = omega arith in
-          subst (λ (m : ℕ). 0 < same m x + times ws m) e (omega (arith, same-self x))
+          subst (λ (m : ℕ). 0 < same m x + occurrences ws m) e (omega (arith, same-self x))
     ]
 
-pub largest-times : (ws : List ℕ) → (length ws ≡ 0 → ⊥) → 0 < times ws (largestOf ws)
+pub largest-times : (ws : List ℕ) → (length ws ≡ 0 → ⊥) → 0 < occurrences ws (largestOf ws)
 unfolding largestOf
 largest-times [] h = absurd (h refl)
 largest-times (x ∷ ws) h =
@@ -86,10 +86,10 @@ largest-times (x ∷ ws) h =
       | yes l ↦ big (x ∷ ws) l
       | no l ↦
           let e : x ≡ max x (largestOf ws) = omega arith in
-          subst (λ (m : ℕ). 0 < same m x + times ws m) e (omega (arith, same-self x))
+          subst (λ (m : ℕ). 0 < same m x + occurrences ws m) e (omega (arith, same-self x))
     ]
 
-pub at-most : (ws : List ℕ) (v : ℕ) → 0 < times ws v → v ≤ largestOf ws
+pub at-most : (ws : List ℕ) (v : ℕ) → 0 < occurrences ws v → v ≤ largestOf ws
 at-most ws v h = let (i, b, e) = place-of ws v h in omega (arith, below-largest ws i)
 
 -- ---- a checked list
@@ -113,7 +113,7 @@ module _ (d : ℕ) (ws : List ℕ) (p : Passed d ws) where
         ap length (sym e) ∙ row-length ws (suc d) r (word-within r (suc d) (length ws / suc d) (length ws) h (le-of-eq whole));
     plain = λ w m v.
         let (r, h, e) = row-of w m in
-        subst (λ (u : List ℕ). times u v ≤ 1) e
+        subst (λ (u : List ℕ). occurrences u v ≤ 1) e
         (plain-of (take (suc d) (drop (r * suc d) ws)) (rw (← add-one d) (p .apart r (rw (add-one d) h))) v);
     below = λ w m v h. omega (arith, at-most ws v (omega (arith, cut-times (suc d) (length ws / suc d) ws w m v)));
   }
@@ -124,7 +124,7 @@ module _ (d : ℕ) (ws : List ℕ) (p : Passed d ws) where
       cut-has (suc d) (length ws / suc d) ws whole v
       (elim (decLt v (largestOf ws)) [
         | yes l ↦ times-among v ws (p .used v l)
-        | no l ↦ let e : largestOf ws ≡ v = omega arith in subst (λ (u : ℕ). 0 < times ws u) e (largest-times ws (p .some-words))
+        | no l ↦ let e : largestOf ws ≡ v = omega arith in subst (λ (u : ℕ). 0 < occurrences ws u) e (largest-times ws (p .some-words))
       ])
 
   pub cells-are : cellsOf d ws ≡ inOrder (suc d) (rows (suc d) ws)
@@ -149,13 +149,13 @@ module _ (d : ℕ) (ws : List ℕ) (p : Passed d ws) where
       (λ c h. ap sortWord (by-cell-at (rows (suc d) os) (cellsOf d ws) c h) ∙ o .words .each c h)
 
   module _ (ks : List (List ℕ)) (l : Listed d (coarse ws) (cellsOf d ws) ks) where
-    cell-used : (v : ℕ) → v < coarse ws → (c : ℕ) × (c < length (cellsOf d ws)) × (0 < times (cellAt (cellsOf d ws) c) v)
+    cell-used : (v : ℕ) → v < coarse ws → (c : ℕ) × (c < length (cellsOf d ws)) × (0 < occurrences (cellAt (cellsOf d ws) c) v)
     unfolding Used
     cell-used v h =
         let (w, m, q) = rows-used v h in
         let (c, b, e) = to-cell d (coarse ws) (rows (suc d) ws) rows-complex w m in
-        subst (λ (cs : List (List ℕ)). (c : ℕ) × (c < length cs) × (0 < times (cellAt cs c) v)) (sym cells-are)
-        (c, b, omega (arith, sort-times w v, ap (λ (u : List ℕ). times u v) e))
+        subst (λ (cs : List (List ℕ)). (c : ℕ) × (c < length cs) × (0 < occurrences (cellAt cs c) v)) (sym cells-are)
+        (c, b, omega (arith, sort-times w v, ap (λ (u : List ℕ). occurrences u v) e))
 
     pub sound-of : (Crowded d (cellsOf d ws) → ⊥) → Sound d (coarse ws) (In ks)
     unfolding Used
@@ -168,7 +168,7 @@ module _ (d : ℕ) (ws : List ℕ) (p : Passed d ws) where
       thin = listed-thin d (coarse ws) (cellsOf d ws) ks l free;
     }
 
-    -- a complex that lattice's theorems take
+    -- a complex that refine_lattice's theorems take
     pub stage-of : (Crowded d (cellsOf d ws) → ⊥) → order.AgreeOnFacets d (cellsOf d ws) ks → Stage d (coarse ws) ks
     unfolding Facewise
     stage-of free agree = record {

@@ -16,7 +16,7 @@ use Rattle.complex.proofs.Fine.{fine-passed, passed-fine}
 use Rattle.complex_cells.proofs.Order.{order-rising}
 use Rattle.ordering.specs.Order.{Orders}
 use Rattle.ordering.specs.Order as order
-use Rattle.refine_lattice.specs.Complex.{same, through, Alike, AgreeOnFacets}
+use Rattle.refine_lattice.specs.Complex.{same, through, Alike, WordsAgreeOnFacets}
 use Rattle.refine_lattice.specs.Refine.{words, vertices, share, In}
 use Rattle.refine_lattice.specs.Conform.{Used, Facewise}
 use Rattle.refine_lattice.proofs.Sums.{same-yes, same-no, sum-ext, sum-scale, sum-pick}

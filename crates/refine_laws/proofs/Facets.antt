@@ -11,7 +11,7 @@ use Rattle.complex_cells.proofs.Words.{at-in}
 use Rattle.complex.specs.Facets.{cellAt, Mates, Crowded}
 use Rattle.ordering.specs.Order.{without}
 use Rattle.ordering.specs.Order as order
-use Rattle.refine_lattice.specs.Complex.{times, common, Complex, AgreeOnFacets}
+use Rattle.refine_lattice.specs.Complex.{occurrences, common, Complex, WordsAgreeOnFacets}
 use Rattle.refine_lattice.specs.Refine.{In}
 use Rattle.refine_lattice.specs.Conform.{Meet, Thin}
 use Rattle.refine_lattice.proofs.Sums.{same-self, same-no}
@@ -32,11 +32,11 @@ nodup-by (k ∷ ks) f = (
 )
 
 -- a word of one number shares nothing with a word that has it not
-alone : (k l : List ℕ) → length k ≡ 1 → (x : ℕ) → 0 < times k x → times l x ≡ 0 → common k l ≡ []
+alone : (k l : List ℕ) → length k ≡ 1 → (x : ℕ) → 0 < occurrences k x → occurrences l x ≡ 0 → common k l ≡ []
 alone [] l e x p q = absurd (omega arith)
 alone (y ∷ []) l e x p q =
     elim (ℕ-discrete x y) [
-      | yes f ↦ keep-no (times l y) y [] (ap (times l) (sym f) ∙ q)
+      | yes f ↦ keep-no (occurrences l y) y [] (ap (occurrences l) (sym f) ∙ q)
       | no f ↦ absurd (omega (arith, same-no x y f))
     ]
 alone (y ∷ z ∷ k) l e x p q = absurd (omega arith)
@@ -47,7 +47,7 @@ module _ (d n : ℕ) (cs ks : List (List ℕ)) (l : Listed d n cs ks) where
 
   -- three words with one facet
   module _ (free : Crowded d cs → ⊥) (s : 0 < d) (c c′ c″ x y z : ℕ) (h : c < length cs) (h′ : c′ < length cs) (h″ : c″ < length cs)
-      (p : 0 < times (cellAt ks c) x) (q : 0 < times (cellAt ks c′) y) (r : 0 < times (cellAt ks c″) z)
+      (p : 0 < occurrences (cellAt ks c) x) (q : 0 < occurrences (cellAt ks c′) y) (r : 0 < occurrences (cellAt ks c″) z)
       (e : Meet (cellAt ks c) x (cellAt ks c′) y) (f : Meet (cellAt ks c) x (cellAt ks c″) z) where
     three : c ≢ c′ → c ≢ c″ → c′ ≢ c″ → ⊥
     three a b g =
@@ -90,7 +90,7 @@ module _ (d n : ℕ) (cs ks : List (List ℕ)) (l : Listed d n cs ks) where
       (thin-at free s m m′ m″ x y z h h′ h″ (rw g p) (rw g′ q) (rw g″ r) (rw (g, g′) e) (rw (g, g″) f))
 
   -- and back
-  at-cell : (c i : ℕ) → c < length cs → i ≤ d → 0 < times (cellAt ks c) (getD (cellAt cs c) i 0)
+  at-cell : (c i : ℕ) → c < length cs → i ≤ d → 0 < occurrences (cellAt ks c) (getD (cellAt cs c) i 0)
   at-cell c i h b = omega (arith, counts-at d n cs ks l c h (getD (cellAt cs c) i 0), times-at (cellAt cs c) i (omega (arith, l .long c h)))
 
   pub listed-uncrowded : Thin d (In ks) → Crowded d cs → ⊥
@@ -111,7 +111,7 @@ module _ (d n : ℕ) (cs ks : List (List ℕ)) (l : Listed d n cs ks) where
       (meets d n cs ks l (w .cell) (w .at) (w .first) (w .at-first) one) (meets d n cs ks l (w .cell) (w .at) (w .second) (w .at-second) other))
     where
       index : (c c′ : ℕ) → c < length cs → c′ < length cs → cellAt ks c ≡ cellAt ks c′ → c ≡ c′
-      index c c′ h h′ e = one-cell d n cs ks l c c′ h h′ (λ v. ap (λ (w : List ℕ). times w v) e)
+      index c c′ h h′ e = one-cell d n cs ks l c c′ h h′ (λ v. ap (λ (w : List ℕ). occurrences w v) e)
 
   -- two cells whose words share d vertices
   agree-at : order.AgreeOnFacets d cs ks → (c c′ : ℕ) → c < length cs → c′ < length cs → d ≤ length (common (cellAt ks c) (cellAt ks c′))
@@ -142,8 +142,8 @@ module _ (d n : ℕ) (cs ks : List (List ℕ)) (l : Listed d n cs ks) where
             ]
       ]
 
-  pub listed-agree : order.AgreeOnFacets d cs ks → AgreeOnFacets d (In ks)
-  unfolding AgreeOnFacets
+  pub listed-agree : order.AgreeOnFacets d cs ks → WordsAgreeOnFacets d (In ks)
+  unfolding WordsAgreeOnFacets
   listed-agree a k m p q e =
       let (c, h, g) = number-of d n cs ks l k p in
       let (c′, h′, g′) = number-of d n cs ks l m q in
@@ -152,7 +152,7 @@ module _ (d n : ℕ) (cs ks : List (List ℕ)) (l : Listed d n cs ks) where
       (subst (λ (w : List ℕ). d ≤ length (common w (cellAt ks c′))) (sym g) (subst (λ (w : List ℕ). d ≤ length (common k w)) (sym g′) e)))
 
   -- and back: the vertex that a mate has not on the facet is not the other's
-  stands-out : (c i c′ i′ : ℕ) → Mates d cs c i c′ i′ → times (cellAt ks c′) (getD (cellAt cs c) i 0) ≡ 0
+  stands-out : (c i c′ i′ : ℕ) → Mates d cs c i c′ i′ → occurrences (cellAt ks c′) (getD (cellAt cs c) i 0) ≡ 0
   unfolding Meet
   stands-out c i c′ i′ m =
       let k : List ℕ = cellAt ks c in
@@ -162,7 +162,7 @@ module _ (d n : ℕ) (cs ks : List (List ℕ)) (l : Listed d n cs ks) where
       let h : c < length cs = m .this .cell in
       let h′ : c′ < length cs = m .that .cell in
       let e : Meet k x k′ y = meets d n cs ks l c i c′ i′ m in
-      elim (decLt 0 (times k′ x)) [
+      elim (decLt 0 (occurrences k′ x)) [
         | yes p ↦
             elim (ℕ-discrete x y) [
               | yes q ↦
@@ -175,7 +175,7 @@ module _ (d n : ℕ) (cs ks : List (List ℕ)) (l : Listed d n cs ks) where
         | no p ↦ omega arith
       ]
 
-  others : (c i c′ i′ : ℕ) → Mates d cs c i c′ i′ → (v : ℕ) → 0 < times (cellAt ks c) v → v ≢ getD (cellAt cs c) i 0 → 0 < times (cellAt ks c′) v
+  others : (c i c′ i′ : ℕ) → Mates d cs c i c′ i′ → (v : ℕ) → 0 < occurrences (cellAt ks c) v → v ≢ getD (cellAt cs c) i 0 → 0 < occurrences (cellAt ks c′) v
   unfolding Meet
   others c i c′ i′ m v p g = omega (arith, meets d n cs ks l c i c′ i′ m v, same-no v (getD (cellAt cs c) i 0) g)
 
@@ -189,12 +189,12 @@ module _ (d n : ℕ) (cs ks : List (List ℕ)) (l : Listed d n cs ks) where
             (λ v u a b z w. is-it v a z ∙ sym (is-it u b w)),
       )
     where
-      is-it : (v : ℕ) → 0 < times (cellAt ks c) v → times (cellAt ks c′) v ≡ 0 → v ≡ getD (cellAt cs c) i 0
+      is-it : (v : ℕ) → 0 < occurrences (cellAt ks c) v → occurrences (cellAt ks c′) v ≡ 0 → v ≡ getD (cellAt cs c) i 0
       is-it v a z =
           elim (ℕ-discrete v (getD (cellAt cs c) i 0)) [ yes e ↦ e | no e ↦ absurd (omega (arith, others c i c′ i′ m v a e)) ]
 
-  pub listed-agree-back : AgreeOnFacets d (In ks) → order.AgreeOnFacets d cs ks
-  unfolding AgreeOnFacets
+  pub listed-agree-back : WordsAgreeOnFacets d (In ks) → order.AgreeOnFacets d cs ks
+  unfolding WordsAgreeOnFacets
   listed-agree-back a = record {
     one = λ c i c′ i′ m.
         let w : Mates d cs c′ i′ c i = record { this = m .that; that = m .this; apart = λ e. m .apart (sym e); one = sym (m .one) } in

@@ -19,7 +19,7 @@ use Rattle.complex_cells.proofs.Words.{Word, Rising, each-of, at-in, one-list}
 use Rattle.complex_cells.proofs.Order.{Colex, colex-irr, colex-trans, order-rising, order-from, order-has}
 use Rattle.complex_cells.proofs.Words as cells
 use Rattle.ordering.specs.Order.{IsOrder, Orders, wordOf, byCell}
-use Rattle.refine_lattice.specs.Complex.{times, Rises}
+use Rattle.refine_lattice.specs.Complex.{occurrences, Rises}
 use Rattle.refine_lattice.specs.Refine.{In}
 use Rattle.refine_lattice.specs.Conform.{Used, Distinct}
 use Rattle.refine_lattice.proofs.Refines.{mem-at}
@@ -57,13 +57,13 @@ module _ (d n : ℕ) (cs ks : List (List ℕ)) (l : Listed d n cs ks) where
   flat-cells r = rw (add-one d) (ap (inOrder (suc d)) (rows-flat d cs cells-long) ∙ in-order r)
 
   -- a number of the flat list is a cell's
-  flat-in : (v : ℕ) → 0 < times (flat cs) v → v < n
+  flat-in : (v : ℕ) → 0 < occurrences (flat cs) v → v < n
   flat-in v h =
       let (w, m, q) = cut-has (suc d) (length cs) (flat cs) (sym (flat-length (suc d) cs cells-long)) v h in
       let (c, b, e) = at-in w cs (of-mem w cs (subst (λ (ws : List (List ℕ)). List·Memᴰ w ws) (cut-flat (suc d) cs cells-long) m)) in
-      l .below c b v (subst (λ (u : List ℕ). 0 < times u v) (sym e) q)
+      l .below c b v (subst (λ (u : List ℕ). 0 < occurrences u v) (sym e) q)
 
-  flat-has : (c : ℕ) → c < length cs → (v : ℕ) → times (cellAt cs c) v ≤ times (flat cs) v
+  flat-has : (c : ℕ) → c < length cs → (v : ℕ) → occurrences (cellAt cs c) v ≤ occurrences (flat cs) v
   flat-has c h v =
       cut-times (suc d) (length cs) (flat cs) (cellAt cs c)
       (subst (λ (ws : List (List ℕ)). List·Memᴰ (cellAt cs c) ws) (sym (cut-flat (suc d) cs cells-long)) (mem-at cs c h)) v
@@ -78,12 +78,12 @@ module _ (d n : ℕ) (cs ks : List (List ℕ)) (l : Listed d n cs ks) where
     largest-in : largestOf (flat cs) < n
     largest-in = flat-in (largestOf (flat cs)) (largest-times (flat cs) (flat-some some))
 
-    flat-used : (v : ℕ) → v < n → 0 < times (flat cs) v
+    flat-used : (v : ℕ) → v < n → 0 < occurrences (flat cs) v
     unfolding Used
     flat-used v h =
         let (k, m, q) = used v h in
         let (c, b, e) = number-of d n cs ks l k m in
-        omega (arith, flat-has c b v, counts-at d n cs ks l c b v, ap (λ (u : List ℕ). times u v) e)
+        omega (arith, flat-has c b v, counts-at d n cs ks l c b v, ap (λ (u : List ℕ). occurrences u v) e)
 
     pub flat-coarse : coarse (flat cs) ≡ n
     flat-coarse = omega (arith, largest-in, at-most (flat cs) (n - 1) (flat-used (n - 1) (omega (arith, largest-in))))
@@ -123,7 +123,7 @@ module _ (d n : ℕ) (cs ks : List (List ℕ)) (l : Listed d n cs ks) where
       ∙ listed-distinct d n cs ks l (wordOf ks (cellAt cs c)) (cellAt ks c) (found c b .0) (word-in d n cs ks l c b)
       (λ v.
       sym (sort-times (wordOf ks (cellAt cs c)) v)
-      ∙ ap (λ (u : List ℕ). times u v) (found c b .1 ∙ sym (l .sorts c b))
+      ∙ ap (λ (u : List ℕ). occurrences u v) (found c b .1 ∙ sym (l .sorts c b))
       ∙ sort-times (cellAt ks c) v))
 
   pub flat-words : Rising (Colex (suc d)) cs → orderWords d (flat cs) (flat ks) ≡ ks

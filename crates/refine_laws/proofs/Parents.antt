@@ -13,7 +13,7 @@ use Rattle.complex.specs.Facets.{cellAt}
 use Rattle.complex_cells.proofs.Words.{at-in}
 use Rattle.ordering.proofs.Orders.{by-cell-at, word-first}
 use Rattle.refine_lattice.specs.Lattice.{Child}
-use Rattle.refine_lattice.specs.Complex.{same, sum, times, Complex, Names}
+use Rattle.refine_lattice.specs.Complex.{same, sum, occurrences, Complex, Names}
 use Rattle.refine_lattice.specs.Children.{gather, children}
 use Rattle.refine_lattice.specs.Refine.{births, number, point, words, vertices, share, In}
 use Rattle.refine_lattice.specs.Conform.{Sound, Distinct}
@@ -55,14 +55,14 @@ mem-of z (x ∷ l) (suc i) h = List·Memᴰ·tail (mem-of z l i (le-of-suc-le-su
 
 -- how often p stands among f of numbers below L
 times-along : (f : ℕ → ℕ) (g : List ℕ → ℕ) (cs : List (List ℕ)) (L p : ℕ) → ((i : ℕ) → i < length cs → g (getD cs i []) < L)
-    → times (map (λ c. f (g c)) cs) p ≡ sum L (λ v. times (map g cs) v * same p (f v))
+    → occurrences (map (λ c. f (g c)) cs) p ≡ sum L (λ v. occurrences (map g cs) v * same p (f v))
 times-along f g [] L p h = sym (sum-ext L (λ v. 0 * same p (f v)) (λ v. 0) (λ v l. omega arith) ∙ sum-zero L)
 times-along f g (c ∷ cs) L p h =
     omega (
       arith,
       times-along f g cs L p (λ i l. h (suc i) (suc-le-suc l)),
-      sum-ext L (λ v. (same v (g c) + times (map g cs) v) * same p (f v)) (λ v. same v (g c) * same p (f v) + times (map g cs) v * same p (f v)) (λ v l. omega arith),
-      sum-add L (λ v. same v (g c) * same p (f v)) (λ v. times (map g cs) v * same p (f v)),
+      sum-ext L (λ v. (same v (g c) + occurrences (map g cs) v) * same p (f v)) (λ v. same v (g c) * same p (f v) + occurrences (map g cs) v * same p (f v)) (λ v l. omega arith),
+      sum-add L (λ v. same v (g c) * same p (f v)) (λ v. occurrences (map g cs) v * same p (f v)),
       sum-pick L (g c) (λ v. same p (f v)) (h 0 (suc-le-suc zero-le)),
     )
 
@@ -125,7 +125,7 @@ module _ (d R n : ℕ) (ks : List (List ℕ)) (pos-R : 0 < R) (sound : Sound d n
   one-visit s r l h e =
       nodup-at ws (visited-nodup d R n ks pos-R sound nodup) s r l h
       (visited d R n ks pos-R sound nodup .distinct (getD ws s []) (getD ws r []) (mem-at ws s (omega arith)) (mem-at ws r h)
-      (λ v. sym (sort-times (getD ws s []) v) ∙ ap (λ (u : List ℕ). times u v) e ∙ sort-times (getD ws r []) v))
+      (λ v. sym (sort-times (getD ws s []) v) ∙ ap (λ (u : List ℕ). occurrences u v) e ∙ sort-times (getD ws r []) v))
 
   first-visit : (r : ℕ) → r < length ws → visitOf ws (sortWord (getD ws r [])) ≡ r
   first-visit r h = visit-first ws (sortWord (getD ws r [])) r h refl (λ s l. one-visit s r l h)
@@ -194,13 +194,13 @@ module _ (d R n : ℕ) (ks : List (List ℕ)) (pos-R : 0 < R) (sound : Sound d n
   seen-at : (i : ℕ) (h : i < length cs) → getD seens i 0 ≡ seen i h .visit
   seen-at i h = map-at (visitOf ws) cs i [] 0 h ∙ seen i h .is
 
-  seen-once : (r : ℕ) → r < length ws → times seens r ≡ 1
+  seen-once : (r : ℕ) → r < length ws → occurrences seens r ≡ 1
   seen-once r h =
       let (i, b, e) = to-cell d N ws complex (getD ws r []) (mem-at ws r h) in
       let q : getD seens i 0 ≡ r = map-at (visitOf ws) cs i [] 0 b ∙ ap (visitOf ws) e ∙ first-visit r h in
       omega (
         arith,
-        subst (λ (x : ℕ). 0 < times seens x) q (times-at seens i (omega (arith, length-map cs (visitOf ws)))),
+        subst (λ (x : ℕ). 0 < occurrences seens x) q (times-at seens i (omega (arith, length-map cs (visitOf ws)))),
         once-of-apart seens
             (λ i j l g f.
             let hi : i < length cs = omega (arith, length-map cs (visitOf ws)) in
@@ -212,9 +212,9 @@ module _ (d R n : ℕ) (ks : List (List ℕ)) (pos-R : 0 < R) (sound : Sound d n
             omega arith) r,
       )
 
-  pub so-many-children : (p : ℕ) → p < length ks → times (parents d R n ks) p ≡ R ^ d
+  pub so-many-children : (p : ℕ) → p < length ks → occurrences (parents d R n ks) p ≡ R ^ d
   so-many-children p h =
       times-along (λ v. v / R ^ d) (visitOf ws) cs (length ws) p (λ i l. omega (arith, seen i l .is, seen i l .below))
-      ∙ sum-ext (length ws) (λ v. times seens v * same p (v / R ^ d)) (λ v. same p (v / R ^ d)) (λ v l. ap (λ (t : ℕ). t * same p (v / R ^ d)) (seen-once v l) ∙ omega arith)
+      ∙ sum-ext (length ws) (λ v. occurrences seens v * same p (v / R ^ d)) (λ v. same p (v / R ^ d)) (λ v l. ap (λ (t : ℕ). t * same p (v / R ^ d)) (seen-once v l) ∙ omega arith)
       ∙ ap (λ (l : ℕ). sum l (λ v. same p (v / R ^ d))) (length-words d R n ks)
       ∙ block (R ^ d) p some (length ks) h

@@ -11,7 +11,7 @@ use Rattle.complex.specs.Check.{Passed}
 use Rattle.complex.proofs.Fine.{fine-passed}
 use Rattle.ordering.specs.Order.{Orders}
 use Rattle.refine_lattice.specs.Lattice.{weights}
-use Rattle.refine_lattice.specs.Complex.{same, sum, times, weigh}
+use Rattle.refine_lattice.specs.Complex.{same, sum, occurrences, weigh}
 use Rattle.refine_lattice.specs.Children.{children}
 use Rattle.refine_lattice.specs.Refine.{vertices, share, In}
 use Rattle.refine_lattice.specs.Conform.{Used, Sound}
@@ -77,7 +77,7 @@ module _ (d R n : ℕ) (ks : List (List ℕ)) (pos-R : 0 < R) (sound : Sound d n
     used = λ x h.
         let (w, m, p) = after .used x h in
         let (i, b, e) = number-of d (vertices d R n ks) cs (refinedWords d R n ks) listed w m in
-        (i, b, omega (arith, counts-at d (vertices d R n ks) cs (refinedWords d R n ks) listed i b x, ap (λ (u : List ℕ). times u x) e));
+        (i, b, omega (arith, counts-at d (vertices d R n ks) cs (refinedWords d R n ks) listed i b x, ap (λ (u : List ℕ). occurrences u x) e));
     old = share-old d R n ks;
     whole = total;
     once = told d (vertices d R n ks) (In (refinedWords d R n ks)) (share d R n ks) (after .complex) (after .used) (sorted-refined d R n ks pos-R sound nodup .one);

@@ -22,7 +22,7 @@ use Rattle.complex_cells.proofs.Order.{Colex, colex-irr, colex-trans, order-ris
 use Rattle.ordering.specs.Order.{Orders, wordOf, byCell}
 use Rattle.ordering.proofs.Orders.{by-cell-length, by-cell-at}
 use Rattle.refine_lattice.specs.Lattice.{tab, weights, Child}
-use Rattle.refine_lattice.specs.Complex.{same, times, weigh, Names, Refined}
+use Rattle.refine_lattice.specs.Complex.{same, occurrences, weigh, Names, Refined}
 use Rattle.refine_lattice.specs.Children.{children}
 use Rattle.refine_lattice.specs.Pattern.{patternOf}
 use Rattle.refine_lattice.specs.Refine.{words, vertices, share, In}
@@ -72,9 +72,9 @@ module _ (d R n : ℕ) (ks : List (List ℕ)) (pos-R : 0 < R) (sound : Sound d n
       → weigh k (weights R (getD c i [])) v ≡ R * same (getD k i 0) v
   weigh-still k m c child i h v =
       let long : length k ≡ suc d = sound .complex .long k m in
-      let plain : (v : ℕ) → times k v ≤ 1 = sound .complex .plain k m in
+      let plain : (v : ℕ) → occurrences k v ≤ 1 = sound .complex .plain k m in
       let in-c : List·Memᴰ c (children d R) = mem-of-child d R c child in
-      elim (decLt 0 (times k v)) [
+      elim (decLt 0 (occurrences k v)) [
         | yes p ↦
             let (q, b, e) = place-of k v p in
             subst (λ (u : ℕ). weigh k (weights R (getD c i [])) u ≡ R * same (getD k i 0) u) e
@@ -91,7 +91,7 @@ module _ (d R n : ℕ) (ks : List (List ℕ)) (pos-R : 0 < R) (sound : Sound d n
             weigh-absent k (weights R (getD c i [])) v (omega arith)
             ∙ sym
             (ap (λ (t : ℕ). R * t)
-            (same-no (getD k i 0) v (λ e. p (subst (λ (u : ℕ). 0 < times k u) e (times-at k i (omega arith)))))
+            (same-no (getD k i 0) v (λ e. p (subst (λ (u : ℕ). 0 < occurrences k u) e (times-at k i (omega arith)))))
             ∙ omega arith)
       ]
 
@@ -156,7 +156,7 @@ module _ (d R n : ℕ) (ks : List (List ℕ)) (pos-R : 0 < R) (sound : Sound d n
         ∙ listed-distinct d n cs ks l (wordOf ws (cellAt cs c)) (cellAt ks c) (of-words (wordOf ws (cellAt cs c)) m) (word-in d n cs ks l c b)
         (λ v.
         sym (sort-times (wordOf ws (cellAt cs c)) v)
-        ∙ ap (λ (u : List ℕ). times u v) (e ∙ sym (l .sorts c b))
+        ∙ ap (λ (u : List ℕ). occurrences u v) (e ∙ sym (l .sorts c b))
         ∙ sort-times (cellAt ks c) v))
 
     pub stays : Same d R n cs ks

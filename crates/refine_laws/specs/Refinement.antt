@@ -10,7 +10,7 @@ use Rattle.complex.specs.Cells.{cellsOf}
 use Rattle.complex.specs.Facets.{cellAt}
 use Rattle.ordering.specs.Order.{Orders}
 use Rattle.refine_lattice.specs.Lattice.{Child}
-use Rattle.refine_lattice.specs.Complex.{same, sum, times, Names}
+use Rattle.refine_lattice.specs.Complex.{same, sum, occurrences, Names}
 use Rattle.refine_lattice.specs.Refine.{vertices, share}
 use Rattle.refine_results.specs.Refined.{coarse, refinedCells, refinedWords, parents}
 use Rattle.refine_laws.specs.Composition.{Accepted}
@@ -20,7 +20,7 @@ pub record Split (d R n : ℕ) (ks : List (List ℕ)) : Type 0 where
   -- each cell has R ^ d children, and there are no others: p stands so often among the parents, and there are so many parents
   pub many : length (refinedCells d R n ks) ≡ length ks * R ^ d
   pub listed : length (parents d R n ks) ≡ length (refinedCells d R n ks)
-  pub each : (p : ℕ) → p < length ks → times (parents d R n ks) p ≡ R ^ d
+  pub each : (p : ℕ) → p < length ks → occurrences (parents d R n ks) p ≡ R ^ d
   -- no child without a parent, which is one of the cells; and its word is that of a child of the parent's word
   pub parent : (i : ℕ) → i < length (refinedCells d R n ks) → getD (parents d R n ks) i 0 < length ks
   pub child : (i : ℕ) → i < length (refinedCells d R n ks)
@@ -34,8 +34,8 @@ pub record Split (d R n : ℕ) (ks : List (List ℕ)) : Type 0 where
 -- and its vertices
 pub record Counted (d R n : ℕ) (ks : List (List ℕ)) : Type 0 where
   -- the cells have these vertices and no others
-  pub within : (i : ℕ) → i < length (refinedCells d R n ks) → (x : ℕ) → 0 < times (cellAt (refinedCells d R n ks) i) x → x < vertices d R n ks
-  pub used : (x : ℕ) → x < vertices d R n ks → (i : ℕ) × (i < length (refinedCells d R n ks)) × (0 < times (cellAt (refinedCells d R n ks) i) x)
+  pub within : (i : ℕ) → i < length (refinedCells d R n ks) → (x : ℕ) → 0 < occurrences (cellAt (refinedCells d R n ks) i) x → x < vertices d R n ks
+  pub used : (x : ℕ) → x < vertices d R n ks → (i : ℕ) × (i < length (refinedCells d R n ks)) × (0 < occurrences (cellAt (refinedCells d R n ks) i) x)
   -- a coarse vertex keeps its number and is wholly itself
   pub old : (x : ℕ) → x < n → (v : ℕ) → share d R n ks x v ≡ R * same x v
   -- the shares of a vertex are R together

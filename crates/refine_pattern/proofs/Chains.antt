@@ -14,7 +14,7 @@ use Rattle.refine_lattice.specs.Children.{qualifies}
 use Rattle.multiindex.proofs.Tables.{first-of}
 use Rattle.refine_lattice.proofs.Weights.{length-weights}
 use Rattle.refine_lattice.proofs.Enumerate.{order-of-mem}
-use Rattle.refine_pattern.specs.Chains.{keeps, weighed}
+use Rattle.refine_pattern.specs.WorkChains.{keeps, weighed}
 use Rattle.refine_pattern.proofs.Points.{and-true, below-R}
 
 -- an order by its number is an order

@@ -12,7 +12,7 @@ use Rattle.refusal.specs.Lent.{onto}
 use Rattle.multiindex.specs.Permutation.{orders, orderOf}
 use Rattle.multiindex.specs.Cartesian.{raised}
 use Rattle.refine_lattice.specs.Children.{pick}
-use Rattle.refine_pattern.specs.Chains.{chainAt, keeps, weighed, given, stepOf, Stands}
+use Rattle.refine_pattern.specs.WorkChains.{chainAt, keeps, weighed, given, stepOf, Stands}
 use Rattle.refine_pattern.specs.declared.Cursor.{Cursor}
 use Rattle.refine_pattern.proofs.Chains.{order-long, weighed-length}
 

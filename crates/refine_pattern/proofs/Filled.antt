@@ -25,7 +25,7 @@ use Rattle.refine_lattice.specs.Pattern.{patternOf}
 use Rattle.refine_lattice.proofs.Enumerate.{of-digits}
 use Rattle.refine_lattice.proofs.Count.{length-gather, length-digits}
 use Rattle.refine_lattice.proofs.Pattern.{gather-at, flat-count}
-use Rattle.refine_pattern.specs.Chains.{chainAt, keeps, weighed, given, stepOf, Ready, Stands, Steps}
+use Rattle.refine_pattern.specs.WorkChains.{chainAt, keeps, weighed, given, stepOf, Ready, Stands, Steps}
 use Rattle.refine_pattern.specs.declared.Cursor.{Cursor}
 use Rattle.refine_pattern.proofs.Chains.{mem-getD}
 use Rattle.refine_pattern.proofs.Written.{Written, written-none, written-length, written-room, written-tail, written-end}
@@ -161,7 +161,7 @@ module _ (d R : ℕ) (before : List ℕ) (pre : Ready d R (length before)) where
     filled-at = omega (arith, written-room _ _ _ _ _ fits (w .written))
 
     pub filled-stands : Stands d R c
-    filled-stands = record { axes = pre .axes; times = pre .times; wide = w .reached .wide; order = w .reached .order }
+    filled-stands = record { axes = pre .axes; most = pre .most; wide = w .reached .wide; order = w .reached .order }
 
     module _ (l : m < length (chains d R)) where
       next : gather (given R) (drop m (chains d R)) ≡ given R (chainAt d c) ++ gather (given R) (drop (m + 1) (chains d R))

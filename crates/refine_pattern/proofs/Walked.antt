@@ -10,7 +10,7 @@ use lib.Seq.{length-take-le}
 use Rattle.multiindex.specs.Permutation.{orderOf}
 use Rattle.refine_lattice.specs.Lattice.{weights, bump, chain}
 use Rattle.refine_lattice.specs.Children.{qualifies}
-use Rattle.refine_pattern.specs.Chains.{keeps, weighed, Kept}
+use Rattle.refine_pattern.specs.WorkChains.{keeps, weighed, Kept}
 use Rattle.refine_pattern.specs.declared.Cursor.{Cursor}
 use Rattle.refine_lattice.proofs.Weights.{length-weights}
 use Rattle.refine_pattern.proofs.Chains.{order-long, order-below, keeps-first, keeps-step, weighed-step, weighed-end, weighed-length, coordinate}

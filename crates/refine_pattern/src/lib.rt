@@ -1,4 +1,5 @@
 // The pattern of a refined cell, which every cell of a complex follows: its children by the weights of their corners.
+// Follows `unit_refinement` and `kuhn_children` (crates/simplicial/src/atlas/refine.rs).
 //
 // A cell of dimension d refined by R is the simplex of the points s with R >= s0 >= s1 >= .. >= 0. From each base with digits 0 to R, and for each order of the axes,
 // a chain steps by one along each axis; it is a child where all its points qualify. A point's weights over the places of the cell's word are R - s0, s0 - s1, ..,
@@ -14,7 +15,7 @@ ghost use Rattle.lists.specs.Rows.{flat};
 ghost use Rattle.refine_lattice.specs.Lattice.{weights};
 ghost use Rattle.refine_lattice.specs.Children.{qualifies};
 ghost use Rattle.refine_lattice.specs.Pattern.{patternOf};
-ghost use Rattle.refine_pattern.specs.Chains.{chainAt, keeps, weighed, given, stepOf, Stands, Steps, Kept, Fits, Ready};
+ghost use Rattle.refine_pattern.specs.WorkChains.{chainAt, keeps, weighed, given, stepOf, Stands, Steps, Kept, Fits, Ready};
 use multiindex::cartesian;
 use multiindex::permutation;
 use refusal::MOST_DIMENSION;

@@ -9,7 +9,7 @@ use Rattle.refusal.specs.Lent.{onto}
 use Rattle.lists.specs.Rows.{cut}
 use Rattle.refine_results.specs.declared.Refinement.{Refinement}
 use Rattle.refine_results.specs.Results.{Results, Lengths, lengthsOf, Inside, Refines, Finishes, outside, many-cells, many-vertices, short, made, Stored}
-use Rattle.refine_results.specs.Stage.{Handed}
+use Rattle.refine_results.specs.WorkStage.{Handed}
 
 within : (d R n : ℕ) (ks : List (List ℕ)) → Refines d R n ks → Inside R
 within d R n ks f = record { least = f .least; most = f .most }

@@ -20,7 +20,7 @@ use Rattle.complex.specs.Cells.{inOrder}
 use Rattle.complex_cells.proofs.Making.{key-length, key-row, made-same, made-cell}
 use Rattle.ordering.specs.Order.{sameWord, wordOf, byCell}
 use Rattle.ordering.proofs.Orders.{true-same, same-false, word-first, by-cell-rows}
-use Rattle.refine_children.specs.Colex.{Arranged}
+use Rattle.refine_children.specs.WorkColex.{Arranged}
 use Rattle.refine_results.specs.Refined.{visitOf}
 
 -- the first word that sorts to the cell is its visit

@@ -19,15 +19,15 @@ use Rattle.refine_lattice.specs.Refine.{births, vertices, words}
 use Rattle.refine_lattice.proofs.Enumerate.{times-at}
 use Rattle.refine_lattice.proofs.Pattern.{flat-count}
 use Rattle.refine_lattice.proofs.Refines.{mem-at, words-below}
-use Rattle.refine_pattern.specs.Chains as chains
+use Rattle.refine_pattern.specs.WorkChains as chains
 use Rattle.refine_births.specs.Promise.{Resolving, Resolved}
 use Rattle.refine_births.proofs.Complex.{words-cut, words-many, vertices-many}
 use Rattle.refine_results.specs.declared.Refinement.{Refinement}
 use Rattle.refine_results.specs.declared.Refinement.the-variants.{Made, Refused}
-use Rattle.refine_results.specs.Flat.{Refining}
+use Rattle.refine_results.specs.WorkFlat.{Refining}
 use Rattle.refine_results.specs.Results.{Inside}
-use Rattle.refine_results.specs.Stage.{Spacious, Ready}
-use Rattle.refine_results.specs.Steps.{Seeking, Found, Sought, many-vertices, found, Finishing}
+use Rattle.refine_results.specs.WorkStage.{Spacious, Ready}
+use Rattle.refine_results.specs.WorkSteps.{Seeking, Found, Sought, many-vertices, found, Finishing}
 use Rattle.refine_results.proofs.Seats.{ks-long, ks-low}
 
 -- the product of m cells and R^d children is a small number
@@ -39,7 +39,7 @@ module _ (d R n m : ℕ) (along pattern keys rows spare counts : List ℕ) (q : 
   space = q .ready .room w f
 
   pub to-pattern : chains.Ready d R (length pattern)
-  to-pattern = record { axes = q .ready .dim; times = w .most; room = space .pattern-long }
+  to-pattern = record { axes = q .ready .dim; most = w .most; room = space .pattern-long }
 
   pub corners-fit : (s : ℕ) → s ≡ R ^ d → (k : ℕ) → k ≡ suc d → s * k < 2 ^ 64
   corners-fit s e k g =
@@ -138,7 +138,7 @@ module _ (d R n m : ℕ) (cells along pattern keys rows spare counts sorted firs
   refining = record {
     dim = q .dim;
     some = f .within .least;
-    times = f .within .most;
+    most = f .within .most;
     words-of = q .words-of;
     pattern-is = f .pattern-is;
     names-long = omega (arith, length-names);

@@ -24,16 +24,16 @@ use Rattle.refine_lattice.specs.Children.{gather}
 use Rattle.refine_lattice.specs.Refine.{births, words, share}
 use Rattle.refine_lattice.proofs.Tab.{list-tab}
 use Rattle.refine_jacobian.specs.Entries.{shareOf, wholeOf, floatOf}
-use Rattle.refine_children.specs.Colex.{Arranging, Arranged}
-use Rattle.refine_children.specs.Family.{joined, wholeAt, floatAt, Families}
+use Rattle.refine_children.specs.WorkColex.{Arranging, Arranged}
+use Rattle.refine_children.specs.WorkFamily.{joined, wholeAt, floatAt, Families}
 use Rattle.refine_births.specs.Promise.{Supports, birthWeights}
 use Rattle.refine_results.specs.declared.Refinement.{Refinement}
 use Rattle.refine_results.specs.declared.Refinement.the-variants.{Made, Refused}
 use Rattle.refine_results.specs.Refined.{visitOf, refinedCells, refinedWords, parentOf, parents, wholes, jacobians}
 use Rattle.refine_results.specs.Results.{Results, Lengths, Holds, Refines, Finishes, outside, many-cells, many-vertices, short, made, nothing, resultsOf, lengthsOf}
-use Rattle.refine_results.specs.Stage.{Handed}
-use Rattle.refine_results.specs.Steps as steps
-use Rattle.refine_results.specs.Steps.{Sought, Sized, Fits, Writing, Wrote, Bears, Bore, Finishing}
+use Rattle.refine_results.specs.WorkStage.{Handed}
+use Rattle.refine_results.specs.WorkSteps as steps
+use Rattle.refine_results.specs.WorkSteps.{Sought, Sized, Fits, Writing, Wrote, Bears, Bore, Finishing}
 use Rattle.refine_results.proofs.Firsts as first-words
 use Rattle.refine_results.proofs.Seats as seats
 use Rattle.refine_results.proofs.Writing as writing
@@ -82,7 +82,7 @@ module _ (d R n m born : ℕ) (cells along pattern keys rows fresh names sorted�
   refines : Refines d R n (cut (suc d) m along)
   refines = record {
     least = q .refining .some;
-    most = q .refining .times;
+    most = q .refining .most;
     few-cells = omega (arith, q .few-cells, ap (λ (x : ℕ). x * R ^ d) (cut-length (suc d) m along));
     few-vertices = omega (arith, q .few-vertices, q .supports .long);
   }

@@ -25,7 +25,7 @@ use Rattle.multiindex.specs.Sort.{sortWord}
 use Rattle.multiindex.proofs.SortLaws.{sort-length}
 use Rattle.complex_cells.proofs.Strict.{sort-all}
 use Rattle.refine_lattice.specs.Lattice.{weights, Child}
-use Rattle.refine_lattice.specs.Complex.{times, weigh, Names}
+use Rattle.refine_lattice.specs.Complex.{occurrences, weigh, Names}
 use Rattle.refine_lattice.specs.Children.{gather, children}
 use Rattle.refine_lattice.specs.Pattern.{patternOf}
 use Rattle.refine_lattice.specs.Refine.{point, births, number, words, share}
@@ -39,9 +39,9 @@ use Rattle.refine_lattice.specs.Jacobian.{jacobian}
 use Rattle.refine_lattice.proofs.Tab.{tab-ext}
 use Rattle.refine_jacobian.specs.Entries.{nineOf, wholeOf, floatOf, floatStep, nought}
 use Rattle.refine_jacobian.proofs.Laws.{column-in, row-in, entry-past}
-use Rattle.refine_jacobian.specs.Weights.{placeOf, weightOf, Seated}
-use Rattle.refine_children.specs.Family.{weightsAt, wholeAt, floatAt, Family}
-use Rattle.refine_results.specs.Flat.{Along, Refining}
+use Rattle.refine_jacobian.specs.WorkWeights.{placeOf, weightOf, Seated}
+use Rattle.refine_children.specs.WorkFamily.{weightsAt, wholeAt, floatAt, Family}
+use Rattle.refine_results.specs.WorkFlat.{Along, Refining}
 
 -- ---- places
 found-lt : (b : Bool) (n k : ℕ) → (b ≡ false → k < n) → foundAt b k < suc n
@@ -64,12 +64,12 @@ place-lt [] v i h e = absurd (omega arith)
 place-lt (x ∷ w) v zero h e = found-lt (eqb x v) (length w) (placeOf w v) (λ f. absurd (eqb-false x v f e))
 place-lt (x ∷ w) v (suc i) h e = found-lt (eqb x v) (length w) (placeOf w v) (λ f. place-lt w v i (omega arith) e)
 
-pub place-in : (w : List ℕ) (v : ℕ) → 0 < times w v → placeOf w v < length w
+pub place-in : (w : List ℕ) (v : ℕ) → 0 < occurrences w v → placeOf w v < length w
 place-in w v h = let q = place-of w v h in place-lt w v (q .0) (q .1) (q .2)
 
 -- every number of the sorted word is one of the word
-pub sorted-in : (w : List ℕ) (i : ℕ) → i < length w → 0 < times w (getD (sortWord w) i 0)
-sorted-in w i h = All-at (λ x. 0 < times w x) (sortWord w) i (sort-all (λ x. 0 < times w x) w (All-of (λ x. 0 < times w x) w (λ j l. times-at w j l))) (omega (arith, sort-length w))
+pub sorted-in : (w : List ℕ) (i : ℕ) → i < length w → 0 < occurrences w (getD (sortWord w) i 0)
+sorted-in w i h = All-at (λ x. 0 < occurrences w x) (sortWord w) i (sort-all (λ x. 0 < occurrences w x) w (All-of (λ x. 0 < occurrences w x) w (λ j l. times-at w j l))) (omega (arith, sort-length w))
 
 -- ---- lists of lists of one length, one after the other
 gather-at : (f : List ℕ → List (List ℕ)) (size : ℕ) → ((k : List ℕ) → length (f k) ≡ size) → (ks : List (List ℕ)) (a q : ℕ) → a < length ks → q < size → getD (gather f ks) (a * size + q) [] ≡ getD (f (getD ks a [])) q []
@@ -126,7 +126,7 @@ module _ (d R n m : ℕ) (along cells pattern names-list : List ℕ) (h : Refini
   word-long : (a : ℕ) → a < m → length (row along (suc d) a) ≡ suc d
   word-long a b = row-length along (suc d) a (row-fits m a along b (h .words-of .along-long))
 
-  word-low : (a : ℕ) → a < m → (v : ℕ) → 0 < times (row along (suc d) a) v → v < n
+  word-low : (a : ℕ) → a < m → (v : ℕ) → 0 < occurrences (row along (suc d) a) v → v < n
   word-low a b v l =
       let q = place-of (row along (suc d) a) v l in
       let i : q .0 < suc d = omega (arith, q .1, word-long a b) in
@@ -143,8 +143,8 @@ module _ (d R n m : ℕ) (along cells pattern names-list : List ℕ) (h : Refini
   pub ks-long : (k : List ℕ) → List·Memᴰ k ks → length k ≡ suc d
   ks-long k i = let q = in-cut k i in ap length (sym (q .2) ∙ word-of (q .0) (q .1)) ∙ word-long (q .0) (q .1)
 
-  pub ks-low : (k : List ℕ) → List·Memᴰ k ks → (v : ℕ) → 0 < times k v → v < n
-  ks-low k i v l = let q = in-cut k i in word-low (q .0) (q .1) v (subst (λ (w : List ℕ). 0 < times w v) (sym (q .2) ∙ word-of (q .0) (q .1)) l)
+  pub ks-low : (k : List ℕ) → List·Memᴰ k ks → (v : ℕ) → 0 < occurrences k v → v < n
+  ks-low k i v l = let q = in-cut k i in word-low (q .0) (q .1) v (subst (λ (w : List ℕ). 0 < occurrences w v) (sym (q .2) ∙ word-of (q .0) (q .1)) l)
 
   -- ---- child x: its parent a, its place q in the pattern
   module _ (x : ℕ) (b : x < m * R ^ d) where
@@ -227,7 +227,7 @@ module _ (d R n m : ℕ) (along cells pattern names-list : List ℕ) (h : Refini
         ∙ ap (λ (r : List ℕ). getD r i 0) (row-at d R q j q-in lj ∙ map-at (weights R) c j [] [] (omega (arith, child-corners d R c c-mem)))
 
     -- the weight of v in X is its share
-    pub weight-share : (X v : ℕ) → 0 < times w X → 0 < times k v → weightsAt d (R ^ d) pattern names-list along x X v ≡ share d R n ks X v
+    pub weight-share : (X v : ℕ) → 0 < occurrences w X → 0 < occurrences k v → weightsAt d (R ^ d) pattern names-list along x X v ≡ share d R n ks X v
     weight-share X v lx lv =
         let p = place-in w X lx in
         let r = place-in k v lv in
@@ -241,11 +241,11 @@ module _ (d R n m : ℕ) (along cells pattern names-list : List ℕ) (h : Refini
 
     -- ---- with the sorted words beside them, the child is seated
     module _ (sorted : List ℕ) (e : row sorted (suc d) x ≡ sortWord (row names-list (suc d) x)) where
-      in-names : (j : ℕ) → j ≤ d → 0 < times w (getD (row sorted (suc d) x) j 0)
+      in-names : (j : ℕ) → j ≤ d → 0 < occurrences w (getD (row sorted (suc d) x) j 0)
       in-names j l = rw e (sorted-in w j (omega (arith, names-row)))
 
-      in-word : (l : ℕ) → l ≤ d → 0 < times k (getD (row cells (suc d) (x / R ^ d)) l 0)
-      in-word l b′ = subst (λ (u : List ℕ). 0 < times k (getD u l 0)) (h .words-of .matched a a-in) (sorted-in k l (omega (arith, word-long a a-in)))
+      in-word : (l : ℕ) → l ≤ d → 0 < occurrences k (getD (row cells (suc d) (x / R ^ d)) l 0)
+      in-word l b′ = subst (λ (u : List ℕ). 0 < occurrences k (getD u l 0)) (h .words-of .matched a a-in) (sorted-in k l (omega (arith, word-long a a-in)))
 
       small-at : (i : ℕ) → i < suc d * suc d → getD (row pattern (suc d * suc d) q) i 0 < 2147483648
       small-at i l =
@@ -255,7 +255,7 @@ module _ (d R n m : ℕ) (along cells pattern names-list : List ℕ) (h : Refini
           let u : q * suc d + i / suc d < R ^ d * suc d = omega (arith, suc-mul q (suc d), mul-le-mul-right (suc d) q-in) in
           let r : List ℕ = getD (patternOf d R) (q * suc d + i / suc d) [] in
           let f : getD (row pattern (suc d * suc d) q) i 0 ≡ getD r (i % suc d) 0 = ap (λ (o : ℕ). getD (row pattern (suc d * suc d) q) o 0) (sym (div-add-mod' i (suc d))) ∙ stands (i / suc d) (i % suc d) lj li in
-          omega (arith, f, le-added r (i % suc d), row-sum d R r (mem-of (patternOf d R) (q * suc d + i / suc d) [] (omega (arith, row-count d R))), h .times)
+          omega (arith, f, le-added r (i % suc d), row-sum d R r (mem-of (patternOf d R) (q * suc d + i / suc d) [] (omega (arith, row-count d R))), h .most)
 
       seated : Seated d (row pattern (suc d * suc d) q) w k (row cells (suc d) (x / R ^ d)) (row sorted (suc d) x)
       seated = record {

@@ -15,11 +15,11 @@ use Rattle.sorting.proofs.Rows.{rowsOf-pos}
 use Rattle.multiindex.specs.Permutation.{tab}
 use Rattle.refine_lattice.proofs.Tab.{length-tab}
 use Rattle.refine_jacobian.specs.Entries.{shareOf}
-use Rattle.refine_children.specs.Family.{joined, wholeAt, floatAt, Families}
+use Rattle.refine_children.specs.WorkFamily.{joined, wholeAt, floatAt, Families}
 use Rattle.refine_children.proofs.Laws.{joined-length}
 use Rattle.refine_births.specs.Support.{none, supporters, shares, padded}
 use Rattle.refine_births.specs.Promise.{Supports, Bearing, birthVertices, birthWeights}
-use Rattle.refine_results.specs.Steps.{Writing, Wrote, Bears, Bore}
+use Rattle.refine_results.specs.WorkSteps.{Writing, Wrote, Bears, Bore}
 
 -- what has come back in the first k places is stored at the start
 pub stored : {A : Type 0} (l xs ys : List A) (k : ℕ) → ys ≡ l → length l ≡ k → ys ++ drop k xs ≡ onto l xs

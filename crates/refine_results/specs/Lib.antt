@@ -1,5 +1,5 @@
 pub mod Refined
-pub mod Flat
+pub mod WorkFlat
 pub mod Results
-pub mod Stage
-pub mod Steps
+pub mod WorkStage
+pub mod WorkSteps

@@ -1,5 +1,5 @@
 -- Document 01, "Refinement": the refined cells, the children's words, parents and Jacobians, each by the refined cells in colex order. The vertices, the births with
--- their shares and the words in visiting order are lattice's (specs/Refine). Assumes nothing.
+-- their shares and the words in visiting order are refine_lattice's (specs/Refine). Assumes nothing.
 use mathlib.Core.List.{List, [], _∷_, map}
 use Prim.Native.Nat.{ℕ, zero, suc, _/_, _^_}
 use lib.IntN.{ℤ}

@@ -1,4 +1,5 @@
 // Edgewise refinement of a whole complex.
+// Follows `Complex::refine_with` and the lists of `Subdivision` (crates/simplicial/src/topology/refine.rs).
 //
 // Every cell is refined by one pattern, read along a word of its vertices. A point of the pattern is known by its support, the vertices with a positive weight and their weights,
 // so that cells with a common facet have the points of the facet in common. Definitions are in specs/.
@@ -28,8 +29,8 @@ ghost use Prim.Native.Nat.{ℕ, suc, _≤_};
 ghost use lib.ListN.{length};
 ghost use Rattle.refusal.specs.Limits.{mostDimension, mostCells, mostVertices};
 ghost use Rattle.refine_births.specs.Promise.{Supports};
-ghost use Rattle.refine_results.specs.Stage.{Ready, Handed};
-ghost use Rattle.refine_results.specs.Steps.{Tested, Seeking, Sought, lent, Fits, Writing, Wrote, Bears, Bore, Finishing};
+ghost use Rattle.refine_results.specs.WorkStage.{Ready, Handed};
+ghost use Rattle.refine_results.specs.WorkSteps.{Tested, Seeking, Sought, lent, Fits, Writing, Wrote, Bears, Bore, Finishing};
 
 // What a refinement says: how many children and how many vertices there are, or its refusal.
 pub enum Refinement {

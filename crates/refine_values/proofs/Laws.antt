@@ -19,7 +19,7 @@ use Rattle.refine_births.specs.Support.{none}
 use Rattle.refine_jacobian.specs.Entries.{nought}
 use Rattle.refine_values.specs.declared.Child.{Child}
 use Rattle.refine_values.specs.declared.Birth.{Birth}
-use Rattle.refine_values.specs.Reading.{part, reaches, hasChild, noChild, childOf, wordIn, wordOf, four, support, hasBirth, noBirth, birthOf}
+use Rattle.refine_values.specs.Reading.{part, reaches, hasChild, noChild, childOf, wordIn, wordAlong, four, support, hasBirth, noBirth, birthOf}
 
 -- ---- a copy from the front
 module _ {A : Type 0} where
@@ -116,10 +116,10 @@ module _ (d k : ℕ) (words : List ℕ) where
   pub word-end : d ≤ 3 → k < 4294967296 → k * (d + 1) + (d + 1) < 17179869188
   word-end h l = omega (arith, mul-le-mul-left k (let q : d + 1 ≤ 4 = omega arith in q))
 
-pub word-order : (given : Bool) → given ≡ true → (d k : ℕ) (cells order r : List ℕ) → r ≡ wordIn d k order → r ≡ wordOf given d k cells order
+pub word-order : (given : Bool) → given ≡ true → (d k : ℕ) (cells order r : List ℕ) → r ≡ wordIn d k order → r ≡ wordAlong given d k cells order
 word-order given e d k cells order r f = f ∙ ap (λ (b : Bool). wordIn d k (cond b order cells)) (sym e)
 
-pub word-cell : (given : Bool) → given ≡ false → (d k : ℕ) (cells order r : List ℕ) → r ≡ wordIn d k cells → r ≡ wordOf given d k cells order
+pub word-cell : (given : Bool) → given ≡ false → (d k : ℕ) (cells order r : List ℕ) → r ≡ wordIn d k cells → r ≡ wordAlong given d k cells order
 word-cell given e d k cells order r f = f ∙ ap (λ (b : Bool). wordIn d k (cond b order cells)) (sym e)
 
 -- ---- a birth

@@ -53,8 +53,8 @@ abbrev pub wordIn : ℕ → ℕ → List ℕ → List ℕ
 wordIn d k words = cond (leb d mostDimension && reaches (suc d) k (length words)) (part (suc d) k words) []
 
 -- the word that cell k is refined by: the order's where one is given, else the cell's sorted vertices
-abbrev pub wordOf : Bool → ℕ → ℕ → List ℕ → List ℕ → List ℕ
-wordOf given d k cells order = wordIn d k (cond given order cells)
+abbrev pub wordAlong : Bool → ℕ → ℕ → List ℕ → List ℕ → List ℕ
+wordAlong given d k cells order = wordIn d k (cond given order cells)
 
 -- ---- a birth
 

@@ -1,5 +1,6 @@
 // One child, one word refined by, one birth, each by its number: values read from the lists that a refinement hands out. A caller lends the parts that were handed out, so
 // that a number past the last one is past the lists.
+// Follows `Child`, `VertexBirth` (crates/simplicial/src/topology/refine.rs) and `CellOrdering::word` (crates/simplicial/src/topology/ordering.rs).
 use refine_births::NONE;
 use refusal::Answer;
 use refusal::BAD_DIMENSION;
@@ -10,7 +11,7 @@ ghost use mathlib.Core.Path.{_≡_};
 ghost use Prim.Native.Nat.{ℕ, suc, _+_, _*_, _<_, _≤_};
 ghost use lib.ListN.{length};
 ghost use Rattle.refine_jacobian.specs.Entries.{nought};
-ghost use Rattle.refine_values.specs.Reading.{hasChild, noChild, childOf, wordIn, wordOf, four, support, hasBirth, noBirth, birthOf};
+ghost use Rattle.refine_values.specs.Reading.{hasChild, noChild, childOf, wordIn, wordAlong, four, support, hasBirth, noBirth, birthOf};
 
 // A child: the number of its parent, and its Jacobian in the parent's local coordinates, by column and then zeros, in floats and as whole numbers over R.
 pub struct Child {
@@ -144,7 +145,7 @@ pub fn word_of<'a>(
     cells: &'a [u32],
     order: &'a [u32],
 ) -> &'a [u32]
-    ensures { λ r. ⌜ now r ≡ wordOf given d number (now (cells .entry)) (now (order .entry)) ⌝ }
+    ensures { λ r. ⌜ now r ≡ wordAlong given d number (now (cells .entry)) (now (order .entry)) ⌝ }
 {
     if given {
         return word_in(d, number, order);

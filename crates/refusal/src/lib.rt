@@ -1,4 +1,5 @@
 // Document 01's answers, refusal numbers and limits, each named once: what every public call says and how much it may be asked.
+// The port added it: the Rust panics or answers `None`.
 ghost use mathlib.Core.Path.{_≡_};
 ghost use Rattle.refusal.specs.Lent.{HasRoom};
 

@@ -9,7 +9,7 @@ use native.Mathlib.Decide.{decLt}
 use lib.Seq.{getD-set-same, getD-set-other, length-take-le}
 use borrow.Author.Count.{below-more}
 use Rattle.sorting.specs.Gather.{row}
-use Rattle.replay_towers.specs.Rows.{First, Only, Matched}
+use Rattle.replay_towers.specs.WorkRows.{First, Only, Matched}
 
 -- number k has its name
 abbrev pub NamedAt : List ℕ → List ℕ → List ℕ → ℕ → Type 0

@@ -4,7 +4,7 @@ ghost use mathlib.Core.Path.{_≡_};
 ghost use mathlib.Core.Bool.{true, false};
 ghost use Prim.Native.Nat.{_*_, _≤_};
 ghost use lib.ListN.{length};
-ghost use Rattle.replay_towers.specs.Rows.{First, Only, Matched, Renamed};
+ghost use Rattle.replay_towers.specs.WorkRows.{First, Only, Matched, Renamed};
 
 // Whether two rows are equal.
 fn same(a: &[u32], b: &[u32]) -> bool

@@ -7,7 +7,7 @@ ghost use mathlib.Core.Path.{_≡_};
 ghost use mathlib.Core.Bool.{true};
 ghost use Prim.Native.Nat.{_+_, _*_, _≤_, _<_};
 ghost use lib.ListN.{length};
-ghost use Rattle.replay_towers.specs.Rows.{Carried};
+ghost use Rattle.replay_towers.specs.WorkRows.{Carried};
 
 // How many pairs a, b were tried, how many vertices and words the renamings carried over, and how many pairs failed.
 pub(crate) struct Counts {

@@ -23,14 +23,14 @@ use Rattle.complex.specs.Room.{keyRoom, needOf}
 use Rattle.complex.specs.Cells.{cellsOf}
 use Rattle.complex.specs.Facets.{Crowded, Cells, slots}
 use Rattle.complex.specs.Skeleton.{edgesOf, facetsOf, borderOf}
-use Rattle.complex_cells.specs.Made.{Making, Made}
-use Rattle.complex_cells.specs.Named.{Naming, Named}
+use Rattle.complex_cells.specs.WorkMade.{Making, Made}
+use Rattle.complex_cells.specs.WorkNamed.{Naming, Named}
 use Rattle.complex_mates.specs.Table.{none, MateTable, Meeting}
 use Rattle.orientation_signs.proofs.Linking.{not-crowded}
 use Rattle.complex_mates.proofs.Meeting.{slots-most}
 use Rattle.complex_cells.proofs.Named.{named-flat, named-many}
-use Rattle.complex_edges.specs.Pairs.{Edging}
-use Rattle.complex_facets.specs.Classes.{Classes, loneRows}
+use Rattle.complex_edges.specs.WorkPairs.{Edging}
+use Rattle.complex_facets.specs.WorkClasses.{Classes, loneRows}
 use Rattle.complex_facets.specs.Sides.{tableOf, fours, Tabling}
 use Rattle.complex_facets.proofs.Border.{border-named}
 use Rattle.complex_facets.proofs.Tabling.{fours-length, table-is}

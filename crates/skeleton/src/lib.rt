@@ -1,4 +1,5 @@
 // The cells, the edges and the border of a cell list, and its facets with the cells that they lie in: each a list in colex order without repeats.
+// Follows `Complex::cells`, `edges`, `boundary_facets` and `facets` (crates/simplicial/src/topology/complex.rs).
 //
 // What the working lists hold, one phase after the other:
 //   keys     sorted words     facet rows                pairs, or facet rows
@@ -21,7 +22,7 @@ ghost use Rattle.sorting.specs.Gather.{rowsOf};
 ghost use Rattle.complex.specs.Room.{needOf};
 ghost use Rattle.complex.specs.Cells.{cellsOf};
 ghost use Rattle.complex.specs.Skeleton.{edgesOf, facetsOf, borderOf};
-ghost use Rattle.complex_cells.specs.Named.{Naming};
+ghost use Rattle.complex_cells.specs.WorkNamed.{Naming};
 ghost use Rattle.skeleton.specs.Promise.{Listed, FacetsListed};
 ghost use Rattle.skeleton.specs.Parts.{edgeNeed, needFor, wordsFor};
 ghost use Rattle.skeleton.specs.Work.{Working, Uncrowded, Sound, Handed, Worked, HandedBoth, WorkedBoth};

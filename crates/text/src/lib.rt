@@ -1,4 +1,5 @@
 // A short text that is written byte by byte, and numbers in decimal: what a program prints.
+// The port added it, with the program.
 ghost use mathlib.Core.Path.{_≡_};
 ghost use mathlib.Core.List.{[], _∷_};
 ghost use Prim.Native.Nat.{_+_, _<_, _≤_, _^_};

@@ -1,10 +1,10 @@
--- `line::axis` meets its contract. Assumes nothing.
+-- `bandsum_line::axis` meets its contract. Assumes nothing.
 use borrow.Author.Needs.{needs}
 use borrow.Author.Tests.{not-true, not-false}
 use native.Mathlib.Omega.{arith}
 use mathlib.Core.Path.{sym, ap, _∙_}
 use Rattle.bandsum_line.proofs.Front.{begins-lt, axis-not, axis-some, axis-none}
-use Rattle.bandsum_line.specs.Parts.{numberOf}
+use Rattle.bandsum_line.specs.WorkParts.{numberReadOf}
 use Rattle.bandsum_line.proofs.axis.Statement.{statement}
 use Rattle.bandsum_line.proofs.axis.Tie as tie
 
@@ -30,10 +30,10 @@ glued-requires : tie.Need-glued-requires
 glued-requires c κs = search needs
 
 returns-2 : tie.Need-returns-2
-returns-2 c = axis-none (c .before .before .before .before .before .before .args .bytes .now) (c .before .before .before .before .before .before .args .at) (sym (c .before .before .before .before .has .ensures) ∙ not-false _ (c .before .before .before .if1 .left)) (ap (numberOf _) (sym (c .enum-told .given .1)) ∙ c .before .before .count .ensures)
+returns-2 c = axis-none (c .before .before .before .before .before .before .args .bytes .now) (c .before .before .before .before .before .before .args .at) (sym (c .before .before .before .before .has .ensures) ∙ not-false _ (c .before .before .before .if1 .left)) (ap (numberReadOf _) (sym (c .enum-told .given .1)) ∙ c .before .before .count .ensures)
 
 returns-3 : tie.Need-returns-3
-returns-3 c = c .glued .ensures ∙ axis-some (c .before .before .before .before .before .before .before .before .args .bytes .now) (c .before .before .before .before .before .before .before .before .args .at) (sym (c .before .before .before .before .before .before .has .ensures) ∙ not-false _ (c .before .before .before .before .before .if1 .left)) _ _ (ap (numberOf _) (sym (c .before .before .c .given .1)) ∙ c .before .before .before .before .count .ensures)
+returns-3 c = c .glued .ensures ∙ axis-some (c .before .before .before .before .before .before .before .before .args .bytes .now) (c .before .before .before .before .before .before .before .before .args .at) (sym (c .before .before .before .before .before .before .has .ensures) ∙ not-false _ (c .before .before .before .before .before .if1 .left)) _ _ (ap (numberReadOf _) (sym (c .before .before .c .given .1)) ∙ c .before .before .before .before .count .ensures)
 
 pub axis-spec : {M : Type 1} → statement M
 axis-spec =

@@ -1,4 +1,4 @@
--- `line::axis_at` meets its contract. Assumes nothing.
+-- `bandsum_line::axis_at` meets its contract. Assumes nothing.
 use borrow.Author.Needs.{needs}
 use mathlib.Core.Path.{_∙_}
 use Rattle.bandsum_line.proofs.Front.{axis-below, axis-past}

@@ -1,4 +1,4 @@
--- `line::count` meets its contract. Assumes nothing.
+-- `bandsum_line::count` meets its contract. Assumes nothing.
 use borrow.Author.Needs.{needs}
 use borrow.Author.Tests.{not-true, not-false}
 use native.Mathlib.Omega.{arith}

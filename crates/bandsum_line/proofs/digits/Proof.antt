@@ -1,4 +1,4 @@
--- `line::digits` meets its contract. The invariant: the digits still to come, after n, say what all of them say after the first; with k of them read n is below 10 ^ (k + 1). Assumes nothing.
+-- `bandsum_line::digits` meets its contract. The invariant: the digits still to come, after n, say what all of them say after the first; with k of them read n is below 10 ^ (k + 1). Assumes nothing.
 use borrow.Author.Needs.{needs}
 use borrow.Author.Tests.{not-true, not-false}
 use native.Mathlib.Omega.{arith}

@@ -1,4 +1,4 @@
--- `line::ends` meets its contract. Assumes nothing.
+-- `bandsum_line::ends` meets its contract. Assumes nothing.
 use borrow.Author.Needs.{needs}
 use mathlib.Core.Path.{sym}
 use Rattle.bandsum_line.proofs.Front.{ends-gone, ends-here, ends-not}

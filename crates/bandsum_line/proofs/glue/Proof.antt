@@ -1,8 +1,8 @@
--- `line::glue` meets its contract. Assumes nothing.
+-- `bandsum_line::glue` meets its contract. Assumes nothing.
 use borrow.Author.Needs.{needs}
 use mathlib.Core.Path.{sym, ap, _∙_}
 use Rattle.bandsum_line.proofs.Front.{glue-gone, glue-open, glue-periodic, glue-none, glue-twisted, glue-untwisted}
-use Rattle.bandsum_line.specs.Parts.{setOf}
+use Rattle.bandsum_line.specs.WorkParts.{setOf}
 use Rattle.bandsum_line.proofs.glue.Statement.{statement}
 use Rattle.bandsum_line.proofs.glue.Tie as tie
 

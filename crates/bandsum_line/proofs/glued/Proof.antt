@@ -1,10 +1,10 @@
--- `line::glued` meets its contract. Assumes nothing.
+-- `bandsum_line::glued` meets its contract. Assumes nothing.
 use borrow.Author.Needs.{needs}
 use borrow.Author.Tests.{not-true, not-false}
 use native.Mathlib.Omega.{arith}
 use mathlib.Core.Path.{sym, ap, _∙_}
 use Rattle.bandsum_line.proofs.Front.{begins-lt, glued-not, glued-some, glued-none}
-use Rattle.bandsum_line.specs.Parts.{gluingOf}
+use Rattle.bandsum_line.specs.WorkParts.{gluingOf}
 use Rattle.bandsum_line.proofs.glued.Statement.{statement}
 use Rattle.bandsum_line.proofs.glued.Tie as tie
 

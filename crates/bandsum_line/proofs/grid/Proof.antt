@@ -1,8 +1,8 @@
--- `line::grid` meets its contract. Assumes nothing.
+-- `bandsum_line::grid` meets its contract. Assumes nothing.
 use borrow.Author.Needs.{needs}
 use mathlib.Core.Path.{sym, ap, _∙_}
 use Rattle.bandsum_line.proofs.Front.{grid-no-first, grid-no-second, grid-no-third, grid-whole}
-use Rattle.bandsum_line.specs.Parts.{axisReadOf}
+use Rattle.bandsum_line.specs.WorkParts.{axisReadOf}
 use lib.Ieee.{ofBits}
 use Rattle.bandsum_line.proofs.grid.Statement.{statement}
 use Rattle.bandsum_line.proofs.grid.Tie as tie

@@ -1,4 +1,4 @@
--- `line::has` meets its contract. Assumes nothing.
+-- `bandsum_line::has` meets its contract. Assumes nothing.
 use borrow.Author.Needs.{needs}
 use mathlib.Core.Path.{sym}
 use Rattle.bandsum_line.proofs.Front.{begins-here, begins-gone}

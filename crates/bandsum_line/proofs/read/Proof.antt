@@ -1,9 +1,9 @@
--- `line::read` meets its contract. Assumes nothing.
+-- `bandsum_line::read` meets its contract. Assumes nothing.
 use borrow.Author.Needs.{needs}
 use borrow.Author.Tests.{not-true, not-false}
 use native.Mathlib.Omega.{arith}
 use mathlib.Core.Path.{sym, ap, _∙_}
-use Rattle.bandsum_line.specs.Parts.{gridReadOf}
+use Rattle.bandsum_line.specs.WorkParts.{gridReadOf}
 use Rattle.bandsum_line.proofs.Numerals.{digit-from, digit-to, read-gone, read-odd, read-zero, read-many, read-none, read-taken, read-not-ended}
 use lib.ListN.{getD}
 use Rattle.bandsum_line.proofs.read.Statement.{statement}

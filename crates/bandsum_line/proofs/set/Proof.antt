@@ -1,4 +1,4 @@
--- `line::set` meets its contract. The invariant: the digits still to come, after those of m, say what all of them say. Assumes nothing.
+-- `bandsum_line::set` meets its contract. The invariant: the digits still to come, after those of m, say what all of them say. Assumes nothing.
 use borrow.Author.Needs.{needs}
 use borrow.Author.Tests.{not-true, not-false}
 use native.Mathlib.Omega.{arith}

@@ -1,4 +1,4 @@
--- `summary::lines` meets its contract. Assumes nothing.
+-- `bandsum_lines::lines` meets its contract. Assumes nothing.
 use borrow.Author.Needs.{needs}
 use native.Mathlib.Omega.{arith}
 use mathlib.Core.Path.{sym, ap}

@@ -1,4 +1,4 @@
--- `summary::refused` meets its contract. Assumes nothing.
+-- `bandsum_lines::refused` meets its contract. Assumes nothing.
 use borrow.Author.Needs.{needs}
 use native.Mathlib.Omega.{arith}
 use mathlib.Core.List.{[]}

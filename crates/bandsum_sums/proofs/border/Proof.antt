@@ -1,4 +1,4 @@
--- `sums::border` meets its contract: the lists are long enough for every grid. Assumes nothing.
+-- `bandsum_sums::border` meets its contract: the lists are long enough for every grid. Assumes nothing.
 use mathlib.Core.Path.{_∙_}
 use Rattle.bandsum_sums.proofs.Ends.{zeros, border-counted}
 use Rattle.bandsum_sums.specs.Work.{mostCorners, mostListed}

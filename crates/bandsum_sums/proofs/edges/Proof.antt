@@ -1,4 +1,4 @@
--- `sums::edges` meets its contract: the lists are long enough for every grid. Assumes nothing.
+-- `bandsum_sums::edges` meets its contract: the lists are long enough for every grid. Assumes nothing.
 use mathlib.Core.Path.{_∙_}
 use Rattle.bandsum_sums.proofs.Ends.{zeros, edges-counted}
 use Rattle.bandsum_sums.specs.Work.{mostListed}

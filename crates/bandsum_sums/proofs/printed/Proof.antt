@@ -1,4 +1,4 @@
--- `sums::printed` meets its contract: the line is refused, or its grid is, or the six lines are told. Assumes nothing.
+-- `bandsum_sums::printed` meets its contract: the line is refused, or its grid is, or the six lines are told. Assumes nothing.
 use mathlib.Core.Path.{sym, subst, _∙_}
 use Rattle.bandsum_sums.specs.Promise.{SumsOf, unread, refusal, six}
 use borrow.Author.Needs.{needs}

@@ -1,4 +1,4 @@
--- `sums::sides` meets its contract: the lists are long enough for every grid, so that `orientation` is not refused for another reason than 13. Assumes nothing.
+-- `bandsum_sums::sides` meets its contract: the lists are long enough for every grid, so that `orientation` is not refused for another reason than 13. Assumes nothing.
 use mathlib.Core.Path.{ap, subst}
 use Rattle.bandsum_sums.proofs.Ends.{zeros, no-signs, sides-are}
 use Rattle.bandsum_sums.specs.Promise.{SidesOf}

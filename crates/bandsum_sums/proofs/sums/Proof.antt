@@ -1,4 +1,4 @@
--- `sums::sums` meets its contract, by what the triangulation says. Assumes nothing.
+-- `bandsum_sums::sums` meets its contract, by what the triangulation says. Assumes nothing.
 use Rattle.bandsum_sums.proofs.Ends.{ordered-cells, unordered-cells, sums-refused, sums-ordered, sums-unordered}
 use borrow.Author.Needs.{needs}
 use Rattle.bandsum_sums.proofs.sums.Statement.{statement}

@@ -1,4 +1,4 @@
--- `sums::told` meets its contract: one number after the other. Assumes nothing.
+-- `bandsum_sums::told` meets its contract: one number after the other. Assumes nothing.
 use mathlib.Core.Path.{sym}
 use lib.Seq.{length-take-le}
 use Rattle.bandsum_sums.proofs.Ends.{told-all}

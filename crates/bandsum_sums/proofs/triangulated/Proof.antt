@@ -1,4 +1,4 @@
--- `sums::triangulated` meets its contract: the lists are long enough for every grid. Assumes nothing.
+-- `bandsum_sums::triangulated` meets its contract: the lists are long enough for every grid. Assumes nothing.
 use Rattle.bandsum_sums.proofs.Ends.{zeros, triangulates}
 use Rattle.bandsum_sums.specs.Work.{mostCorners}
 use borrow.Author.Needs.{needs}

@@ -1,4 +1,4 @@
--- `sums::vertices` meets its contract. Assumes nothing.
+-- `bandsum_sums::vertices` meets its contract. Assumes nothing.
 use mathlib.Core.Path.{ap, _∙_}
 use Rattle.bandsum_sums.proofs.Ends.{taken-counted}
 use Rattle.bandsum_sums.specs.Work.{countOf}

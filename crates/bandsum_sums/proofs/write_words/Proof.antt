@@ -1,4 +1,4 @@
--- `sums::write_words` meets its contract: the lists are long enough for every grid. Assumes nothing.
+-- `bandsum_sums::write_words` meets its contract: the lists are long enough for every grid. Assumes nothing.
 use mathlib.Core.Path.{ap}
 use native.Mathlib.Omega.{arith}
 use Prim.Native.Nat.{ℕ, _+_, _*_}

@@ -1,4 +1,4 @@
--- `cells::cells` meets its contract: the keys are the words sorted, and the distinct rows of them, in order, are the cells (proofs/Making). Assumes nothing.
+-- `complex_cells::cells` meets its contract: the keys are the words sorted, and the distinct rows of them, in order, are the cells (proofs/Making). Assumes nothing.
 use lib.ListN.{length-append, length-drop}
 use lib.Seq.{length-take-le}
 use native.Mathlib.Nat.{div-le-self, le-trans, mul-le-mul-right, suc-mul}

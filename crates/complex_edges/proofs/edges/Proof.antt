@@ -1,4 +1,4 @@
--- `edges::edges` meets its contract: the rows are the pairs of the cells, and the distinct ones, in order, are the edges (proofs/Members). Assumes nothing.
+-- `complex_edges::edges` meets its contract: the rows are the pairs of the cells, and the distinct ones, in order, are the edges (proofs/Members). Assumes nothing.
 use Rattle.complex_edges.proofs.Members.{edging-writing, pairs-table, edges-named}
 use Rattle.complex_edges.proofs.Turns.{few-blocks, few-rows}
 use native.Mathlib.Omega.{arith}

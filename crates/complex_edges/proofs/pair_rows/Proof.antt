@@ -1,5 +1,5 @@
--- `edges::pair_rows` meets its contract. The loop's invariant: the first x pairs are written. Assumes nothing.
-use Rattle.complex_edges.specs.Pairs.{PairAt, Writing}
+-- `complex_edges::pair_rows` meets its contract. The loop's invariant: the first x pairs are written. Assumes nothing.
+use Rattle.complex_edges.specs.WorkPairs.{PairAt, Writing}
 use Rattle.complex_edges.proofs.Turns.{Turn, turn, few-blocks, few-rows, pair-more}
 use mathlib.Core.Path.{_≡_, refl, sym, ap, _∙_}
 use Prim.Native.Nat.{ℕ, _+_, _*_, _-_, _/_, _%_, _≤_, _<_}

@@ -1,4 +1,4 @@
--- `table::cell_of` meets its contract. Assumes nothing.
+-- `complex_facets::cell_of` meets its contract. Assumes nothing.
 use native.Mathlib.Nat.{div-le-self}
 use mathlib.Core.Bool.{Bool}
 use mathlib.Core.Path.{_≡_, refl, sym, ap, _∙_, subst}

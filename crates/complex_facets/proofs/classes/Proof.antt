@@ -1,4 +1,4 @@
--- `table::classes` meets its contract: the distinct rows are the facets, and the rows of a class are the cells that a facet lies in (proofs/Facets). Assumes nothing.
+-- `complex_facets::classes` meets its contract: the distinct rows are the facets, and the rows of a class are the cells that a facet lies in (proofs/Facets). Assumes nothing.
 use mathlib.Core.Path.{_≡_, refl, sym, ap, _∙_, subst}
 use Prim.Native.Nat.{ℕ, suc, _*_, _≤_, _<_}
 use native.Mathlib.Omega.{arith}

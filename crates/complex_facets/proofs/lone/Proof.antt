@@ -1,5 +1,5 @@
--- `table::lone` meets its contract. The loop's invariant: the lone rows of the first i classes are stored. Assumes nothing.
-use Rattle.complex_facets.specs.Classes.{loneRows}
+-- `complex_facets::lone` meets its contract. The loop's invariant: the lone rows of the first i classes are stored. Assumes nothing.
+use Rattle.complex_facets.specs.WorkClasses.{loneRows}
 use Rattle.complex_facets.proofs.Border.{lone-skip, lone-length, lone-turn}
 use mathlib.Core.Path.{_≡_, refl, sym, ap, _∙_, subst}
 use mathlib.Core.List.{List, [], _∷_, _++_}

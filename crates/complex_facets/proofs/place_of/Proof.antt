@@ -1,4 +1,4 @@
--- `table::place_of` meets its contract. Assumes nothing.
+-- `complex_facets::place_of` meets its contract. Assumes nothing.
 use native.Mathlib.Nat.{mod-lt}
 use mathlib.Core.Bool.{Bool}
 use mathlib.Core.Path.{_≡_, refl, sym, ap, _∙_, subst}

@@ -1,5 +1,5 @@
--- `table::seconds` meets its contract. The loop's invariant: the other rows among the first x are known. Assumes nothing.
-use Rattle.complex_facets.specs.Classes.{Seconds}
+-- `complex_facets::seconds` meets its contract. The loop's invariant: the other rows among the first x are known. Assumes nothing.
+use Rattle.complex_facets.specs.WorkClasses.{Seconds}
 use Rattle.complex_facets.proofs.Seeking.{seconds-none, seconds-first, seconds-other}
 use mathlib.Core.Path.{_≡_, refl, sym, ap, _∙_, subst}
 use mathlib.Core.List.{List, [], _∷_, _++_}

@@ -1,4 +1,4 @@
--- `table::write_table` meets its contract. The loop's invariant: the numbers of the first i facets are written. Assumes nothing.
+-- `complex_facets::write_table` meets its contract. The loop's invariant: the numbers of the first i facets are written. Assumes nothing.
 use lib.ListN.{length, getD, drop, set, length-set}
 use Rattle.complex_facets.proofs.Tabling.{fours-turn}
 use mathlib.Core.Bool.{Bool}

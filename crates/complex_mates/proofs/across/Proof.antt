@@ -1,4 +1,4 @@
--- `facets::across` meets its contract. The loop's invariant: the first x rows are crossed. Assumes nothing.
+-- `complex_mates::across` meets its contract. The loop's invariant: the first x rows are crossed. Assumes nothing.
 use native.Mathlib.Nat.{div-le-self, mod-le}
 use Rattle.complex_mates.specs.Table.{none, Across}
 use Rattle.complex_mates.proofs.Pairing.{across-more}

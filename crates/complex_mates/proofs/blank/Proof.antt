@@ -1,4 +1,4 @@
--- `facets::blank` meets its contract. The loop's invariant: the first i entries are `none`, and the others as they were. Assumes nothing.
+-- `complex_mates::blank` meets its contract. The loop's invariant: the first i entries are `none`, and the others as they were. Assumes nothing.
 use borrow.Author.Fill.{fill-more}
 use mathlib.Core.List.{append-nil}
 use lib.ListN.{drop-of-length-le}

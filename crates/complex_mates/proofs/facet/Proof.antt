@@ -1,4 +1,4 @@
--- `facets::facet` meets its contract. The loop's invariant: the first j numbers are those of the facet. Assumes nothing.
+-- `complex_mates::facet` meets its contract. The loop's invariant: the first j numbers are those of the facet. Assumes nothing.
 use Rattle.complex_mates.proofs.Laws.{facet-kept}
 use Rattle.lists.proofs.Laws.{store, copied}
 use Rattle.complex.specs.Facets.{facetAt}

@@ -1,4 +1,4 @@
--- `facets::facet_rows` meets its contract. The loop's invariant: the first x facet rows are written. Assumes nothing.
+-- `complex_mates::facet_rows` meets its contract. The loop's invariant: the first x facet rows are written. Assumes nothing.
 use Rattle.complex_mates.proofs.Laws.{part-size, wrote, wrote-length}
 use native.Mathlib.Nat.{add-sub-cancel-left}
 use native.Mathlib.Numerals.{add-one}

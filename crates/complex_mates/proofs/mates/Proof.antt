@@ -1,4 +1,4 @@
--- `facets::mates` meets its contract: what each call asks follows from the facet rows written, their sort and their classes (proofs/Meeting). Assumes nothing.
+-- `complex_mates::mates` meets its contract: what each call asks follows from the facet rows written, their sort and their classes (proofs/Meeting). Assumes nothing.
 use lib.ListN.{length-append, length-drop, length-replicate}
 use lib.Seq.{length-take-le}
 use native.Mathlib.Nat.{le-trans}

@@ -1,4 +1,4 @@
--- `facets::pair_up` meets its contract. The loop's invariant: among the first x rows each has its mate, no class has three, and no later row has one yet. Assumes nothing.
+-- `complex_mates::pair_up` meets its contract. The loop's invariant: among the first x rows each has its mate, no class has three, and no later row has one yet. Assumes nothing.
 use native.Mathlib.Nat.{le-refl}
 use mathlib.Core.Bool.{true, false}
 use Rattle.complex_mates.specs.Table.{none, Grouped, Paired, Three}

@@ -1,4 +1,4 @@
--- `facets::slots` meets its contract. Assumes nothing.
+-- `complex_mates::slots` meets its contract. Assumes nothing.
 use native.Mathlib.Numerals.{add-one}
 use Rattle.complex.specs.Facets.{slots}
 use mathlib.Core.Path.{_≡_, refl, sym, ap, _∙_, subst}

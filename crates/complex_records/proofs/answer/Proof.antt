@@ -1,4 +1,4 @@
--- `records::answer` meets its contract: by its tests. Assumes nothing.
+-- `complex_records::answer` meets its contract: by its tests. Assumes nothing.
 use borrow.Author.Needs.{needs}
 use borrow.Author.Tests.{eq-eqb, ne-eqb, lt-ltb, le-ltb}
 use Rattle.complex_records.proofs.answer.Statement.{statement}

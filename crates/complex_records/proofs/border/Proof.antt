@@ -1,4 +1,4 @@
--- `records::border` meets its contract: a derivation of its MIR by hand (`Derive`), with a loop that calls `load` and `bump`. The loop's invariant: i records are counted. The measure is what is left of m, the lesser of n and the list's length. Assumes nothing.
+-- `complex_records::border` meets its contract: a derivation of its MIR by hand (`Derive`), with a loop that calls `load` and `bump`. The loop's invariant: i records are counted. The measure is what is left of m, the lesser of n and the list's length. Assumes nothing.
 use mathlib.Core.Path.{_≡_, refl, ap, sym, _∙_}
 use Prim.Native.Nat.{ℕ, _<_, _≤_, _+_, _-_}
 use native.Mathlib.Numerals.{add-one}

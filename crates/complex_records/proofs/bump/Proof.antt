@@ -1,4 +1,4 @@
--- `records::bump` meets its contract: by the test. Assumes nothing.
+-- `complex_records::bump` meets its contract: by the test. Assumes nothing.
 use borrow.Author.Needs.{needs}
 use borrow.Author.Tests.{eq-eqb, ne-eqb}
 use Rattle.complex_records.proofs.bump.Statement.{statement}

@@ -1,4 +1,4 @@
--- `records::fill` meets its contract: a derivation of its MIR by hand (`Derive`), with calls of `answer`, `count_of` and `fill_first`. Assumes nothing.
+-- `complex_records::fill` meets its contract: a derivation of its MIR by hand (`Derive`), with calls of `answer`, `count_of` and `fill_first`. Assumes nothing.
 use mathlib.Core.Path.{refl, ap}
 use Prim.Native.Nat.{ℕ}
 use mathlib.Core.List.{List, [], _∷_}

@@ -1,4 +1,4 @@
--- `records::fill_first` meets its contract: a derivation of its MIR by hand (`Derive`), with a loop that calls `store_at`. The loop's invariant: i records are written. The measure is what is left of k. Assumes nothing.
+-- `complex_records::fill_first` meets its contract: a derivation of its MIR by hand (`Derive`), with a loop that calls `store_at`. The loop's invariant: i records are written. The measure is what is left of k. Assumes nothing.
 use mathlib.Core.Path.{_≡_, refl, ap, sym, _∙_}
 use Prim.Native.Nat.{ℕ, _<_, _≤_, _+_, _*_, _-_}
 use native.Mathlib.Numerals.{add-one}

@@ -1,4 +1,4 @@
--- `records::lesser` meets its contract: by its test. Assumes nothing.
+-- `complex_records::lesser` meets its contract: by its test. Assumes nothing.
 use borrow.Author.Tests.{lt-ltb, le-ltb}
 use Rattle.complex_records.proofs.lesser.Statement.{statement}
 use Rattle.complex_records.proofs.lesser.Tie as tie

@@ -1,4 +1,4 @@
--- `records::load` meets its contract: a derivation of its MIR by hand (`Derive`). Assumes nothing.
+-- `complex_records::load` meets its contract: a derivation of its MIR by hand (`Derive`). Assumes nothing.
 use mathlib.Core.Path.{refl}
 use mathlib.Core.List.{[], _∷_}
 use lib.ListN.{replicate}

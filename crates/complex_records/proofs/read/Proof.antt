@@ -1,4 +1,4 @@
--- `records::read` meets its contract: a derivation of its MIR by hand (`Derive`), with a test, and calls of `no_facet`, `load` and `this_facet`. Assumes nothing.
+-- `complex_records::read` meets its contract: a derivation of its MIR by hand (`Derive`), with a test, and calls of `no_facet`, `load` and `this_facet`. Assumes nothing.
 use mathlib.Core.Path.{_≡_, refl, ap, sym, _∙_}
 use Prim.Native.Nat.{ℕ, _<_, _≤_}
 use mathlib.Core.Bool.{Bool}

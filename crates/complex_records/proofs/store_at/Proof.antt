@@ -1,4 +1,4 @@
--- `records::store_at` meets its contract: a derivation of its MIR by hand (`Derive`), which cites `record_at`'s contract. Assumes nothing.
+-- `complex_records::store_at` meets its contract: a derivation of its MIR by hand (`Derive`), which cites `record_at`'s contract. Assumes nothing.
 use mathlib.Core.Path.{refl, ap}
 use Prim.Native.Nat.{ℕ}
 use mathlib.Core.List.{[], _∷_}

@@ -1,4 +1,4 @@
--- `gridlengths::classes` meets its contract: the keys are the ends of the visits sorted, and their distinct rows, in order, are the glued edges (proofs/Gathered). Assumes nothing.
+-- `grid_lengths::classes` meets its contract: the keys are the ends of the visits sorted, and their distinct rows, in order, are the glued edges (proofs/Gathered). Assumes nothing.
 use mathlib.Core.Path.{_≡_, refl, sym, ap, _∙_, subst}
 use mathlib.Core.List.{List, [], _∷_, _++_}
 use Prim.Native.Nat.{ℕ, zero, suc, _+_, _*_, _-_, _/_, _%_, _^_, _≤_, _<_}

@@ -1,4 +1,4 @@
--- `gridlengths::edge_length_sq` meets its contract: a refusal of the grid, or what all visits of the edge come to. Assumes nothing.
+-- `grid_lengths::edge_length_sq` meets its contract: a refusal of the grid, or what all visits of the edge come to. Assumes nothing.
 use mathlib.Core.Path.{_≡_, refl, sym, ap, _∙_, subst}
 use mathlib.Core.List.{List, [], _∷_, _++_}
 use Prim.Native.Nat.{ℕ, zero, suc, _+_, _*_, _-_, _/_, _%_, _^_, _≤_, _<_}

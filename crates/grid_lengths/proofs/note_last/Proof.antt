@@ -1,4 +1,4 @@
--- `gridlengths::note_last` meets its contract. The invariant: the notes tell what the first r visits come to (proofs/Notes). Assumes nothing.
+-- `grid_lengths::note_last` meets its contract. The invariant: the notes tell what the first r visits come to (proofs/Notes). Assumes nothing.
 use mathlib.Core.Path.{_≡_, refl, sym, ap, _∙_, subst}
 use mathlib.Core.List.{List, [], _∷_, _++_}
 use Prim.Native.Nat.{ℕ, zero, suc, _+_, _*_, _-_, _/_, _%_, _^_, _≤_, _<_}

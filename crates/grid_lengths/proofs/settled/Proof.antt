@@ -1,4 +1,4 @@
--- `gridlengths::settled` meets its contract. The invariant: known is what the first r visits come to. Assumes nothing.
+-- `grid_lengths::settled` meets its contract. The invariant: known is what the first r visits come to. Assumes nothing.
 use mathlib.Core.Path.{_≡_, refl, sym, ap, _∙_, subst}
 use mathlib.Core.List.{List, [], _∷_, _++_}
 use Prim.Native.Nat.{ℕ, zero, suc, _+_, _*_, _-_, _/_, _%_, _^_, _≤_, _<_}

@@ -1,4 +1,4 @@
--- `gridlengths::visits_edge` meets its contract. Assumes nothing.
+-- `grid_lengths::visits_edge` meets its contract. Assumes nothing.
 use mathlib.Core.Path.{_≡_, refl, sym, ap, _∙_, subst}
 use mathlib.Core.List.{List, [], _∷_, _++_}
 use Prim.Native.Nat.{ℕ, zero, suc, _+_, _*_, _-_, _/_, _%_, _^_, _≤_, _<_}

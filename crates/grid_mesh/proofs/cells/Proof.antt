@@ -1,4 +1,4 @@
--- `gridmesh::cells` meets its contract: the keys are the words sorted, and the distinct rows of them, in order, are the cells (proofs/Steps). Assumes nothing.
+-- `grid_mesh::cells` meets its contract: the keys are the words sorted, and the distinct rows of them, in order, are the cells (proofs/Steps). Assumes nothing.
 use mathlib.Core.Path.{_≡_, refl, sym, ap, _∙_, subst}
 use mathlib.Core.List.{List, [], _∷_, _++_}
 use Prim.Native.Nat.{ℕ, zero, suc, _+_, _*_, _-_, _/_, _%_, _^_, _≤_, _<_}
@@ -12,7 +12,7 @@ use Rattle.multiindex.specs.Sort.{sortWords}
 use Rattle.sorting.specs.Gather.{rowsOf}
 use Rattle.grid_words.specs.Cells.{flatWords}
 use Rattle.grid_words.proofs.Listed.{words-long}
-use Rattle.quotient.specs.Shape.{cellsOf}
+use Rattle.quotient.specs.Shape.{cellCount}
 use Rattle.grid_mesh.proofs.Steps.{corners-few, corners-are, keys-room, grid-table, keys-hold, count-fits, rows-fit, row-fits, grid-made, most-rows}
 use Rattle.grid_mesh.proofs.cells.Statement.{statement}
 use Rattle.grid_mesh.proofs.cells.Tie as tie

@@ -1,4 +1,4 @@
--- `gridmesh::cleared` meets its contract: the work's end stands, and the lists keep their lengths until they are cleared. Assumes nothing.
+-- `grid_mesh::cleared` meets its contract: the work's end stands, and the lists keep their lengths until they are cleared. Assumes nothing.
 use mathlib.Core.Path.{_≡_, refl, sym, ap, _∙_, subst}
 use mathlib.Core.List.{List, [], _∷_, _++_}
 use Prim.Native.Nat.{ℕ, zero, suc, _+_, _*_, _-_, _/_, _%_, _^_, _≤_, _<_}

@@ -1,4 +1,4 @@
--- `gridorder::cleared` meets its contract: the work's end stands, and the lists keep their lengths until they are cleared. Assumes nothing.
+-- `grid_order::cleared` meets its contract: the work's end stands, and the lists keep their lengths until they are cleared. Assumes nothing.
 use Rattle.lists.proofs.Laws.{zero-along}
 use borrow.Author.Needs.{needs}
 use Rattle.grid_order.proofs.cleared.Statement.{statement}

@@ -1,4 +1,4 @@
--- `gridorder::decide` meets its contract: the numbers differ, or the test of the table of mates stands. Assumes nothing.
+-- `grid_order::decide` meets its contract: the numbers differ, or the test of the table of mates stands. Assumes nothing.
 use mathlib.Core.Path.{_≡_, refl, sym, ap, _∙_, subst}
 use mathlib.Core.List.{List, [], _∷_, _++_}
 use Prim.Native.Nat.{ℕ, zero, suc, _+_, _*_, _-_, _/_, _%_, _^_, _≤_, _<_}

@@ -1,4 +1,4 @@
--- `gridorder::find` meets its contract: the keys are the words sorted, and the distinct rows of them, in order, are the cells, each with its first word (proofs/Steps). Assumes nothing.
+-- `grid_order::find` meets its contract: the keys are the words sorted, and the distinct rows of them, in order, are the cells, each with its first word (proofs/Steps). Assumes nothing.
 use mathlib.Core.Path.{_≡_, refl, sym, ap, _∙_, subst}
 use mathlib.Core.List.{List, [], _∷_, _++_}
 use Prim.Native.Nat.{ℕ, zero, suc, _+_, _*_, _-_, _/_, _%_, _^_, _≤_, _<_}
@@ -12,7 +12,7 @@ use Rattle.multiindex.specs.Sort.{sortWords}
 use Rattle.sorting.specs.Gather.{rowsOf}
 use Rattle.grid_words.specs.Cells.{flatWords}
 use Rattle.grid_words.proofs.Listed.{words-long}
-use Rattle.quotient.specs.Shape.{cellsOf}
+use Rattle.quotient.specs.Shape.{cellCount}
 use Rattle.grid_mesh.proofs.Steps.{corners-few, corners-are, grid-table, keys-hold, count-fits, rows-fit, row-fits, most-rows}
 use Rattle.grid_order.proofs.Steps.{found}
 use Rattle.grid_order.proofs.find.Statement.{statement}

@@ -1,4 +1,4 @@
--- `gridorder::hand_out` meets its contract, by its four ways out (proofs/Steps). Assumes nothing.
+-- `grid_order::hand_out` meets its contract, by its four ways out (proofs/Steps). Assumes nothing.
 use mathlib.Core.Path.{_≡_, refl, sym, ap, _∙_, subst}
 use mathlib.Core.List.{List, [], _∷_, _++_}
 use Prim.Native.Nat.{ℕ, zero, suc, _+_, _*_, _-_, _/_, _%_, _^_, _≤_, _<_}

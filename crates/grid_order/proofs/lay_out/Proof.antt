@@ -1,4 +1,4 @@
--- `gridorder::lay_out` meets its contract: the cells are put behind, the words by cell before them, and the cells back (proofs/Steps). Assumes nothing.
+-- `grid_order::lay_out` meets its contract: the cells are put behind, the words by cell before them, and the cells back (proofs/Steps). Assumes nothing.
 use mathlib.Core.Path.{_≡_, refl, sym, ap, _∙_, subst}
 use mathlib.Core.List.{List, [], _∷_, _++_}
 use Prim.Native.Nat.{ℕ, zero, suc, _+_, _*_, _-_, _/_, _%_, _^_, _≤_, _<_}

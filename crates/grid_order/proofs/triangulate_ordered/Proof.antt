@@ -1,4 +1,4 @@
--- `gridorder::triangulate_ordered` meets its contract, by its three ways out (proofs/Entry): a refusal and too little room touch nothing; else the work's end stands, and
+-- `grid_order::triangulate_ordered` meets its contract, by its three ways out (proofs/Entry): a refusal and too little room touch nothing; else the work's end stands, and
 -- what was lent to it came back as zeros. Assumes nothing.
 use mathlib.Core.Path.{sym, _∙_}
 use native.Mathlib.Omega.{arith}

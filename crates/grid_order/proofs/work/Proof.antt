@@ -1,4 +1,4 @@
--- `gridorder::work` meets its contract: each call asks what the calls before it gave (proofs/Finish). Assumes nothing.
+-- `grid_order::work` meets its contract: each call asks what the calls before it gave (proofs/Finish). Assumes nothing.
 use mathlib.Core.Path.{sym, _∙_}
 use native.Mathlib.Omega.{arith}
 use lib.Seq.{length-take-le}

@@ -1,4 +1,4 @@
--- `sides::agree` meets its contract.  Assumes nothing.
+-- `grid_sides::agree` meets its contract.  Assumes nothing.
 use borrow.Author.Needs.{needs}
 use mathlib.Core.Path.{_≡_, refl, sym, ap, subst, _∙_}
 use lib.Ieee.{ofBits}

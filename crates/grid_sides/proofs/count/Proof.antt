@@ -1,4 +1,4 @@
--- `sides::count` meets its contract.  Assumes nothing.
+-- `grid_sides::count` meets its contract.  Assumes nothing.
 use borrow.Author.Needs.{needs}
 use Rattle.grid_sides.proofs.Runs.{count-of}
 use Rattle.grid_sides.proofs.count.Statement.{statement}

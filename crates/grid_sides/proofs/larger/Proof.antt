@@ -1,4 +1,4 @@
--- `sides::larger` meets its contract.  Assumes nothing.
+-- `grid_sides::larger` meets its contract.  Assumes nothing.
 use borrow.Author.Needs.{needs}
 use mathlib.Core.Path.{_≡_, refl, sym, ap, subst, _∙_}
 use Rattle.grid_sides.proofs.larger.Statement.{statement}

@@ -1,4 +1,4 @@
--- `sides::nearest_whole` meets its contract.  Assumes nothing.
+-- `grid_sides::nearest_whole` meets its contract.  Assumes nothing.
 use borrow.Author.Needs.{needs}
 use mathlib.Core.Path.{_≡_, refl, sym, ap, subst, _∙_}
 use mathlib.Core.Bool.{Bool, true, false, cond, _&&_, _||_}

@@ -1,4 +1,4 @@
--- `sides::side_fits` meets its contract.  Assumes nothing.
+-- `grid_sides::side_fits` meets its contract.  Assumes nothing.
 use borrow.Author.Needs.{needs}
 use mathlib.Core.Path.{_≡_, refl, sym, ap, subst, _∙_}
 use mathlib.Core.Bool.{Bool, true, false, cond, _&&_, _||_}

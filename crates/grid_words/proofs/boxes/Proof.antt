@@ -1,4 +1,4 @@
--- `gridwords::boxes` meets its contract. The invariant: p is the product of the counts below k. Assumes nothing.
+-- `grid_words::boxes` meets its contract. The invariant: p is the product of the counts below k. Assumes nothing.
 use mathlib.Core.Path.{_≡_, refl, sym, ap, _∙_, subst}
 use mathlib.Core.List.{List, [], _∷_, _++_}
 use Prim.Native.Nat.{ℕ, zero, suc, _+_, _*_, _-_, _/_, _%_, _^_, _≤_, _<_}

@@ -1,4 +1,4 @@
--- `gridwords::cells` meets its contract: as many cells as orders of the axes, in each box. Assumes nothing.
+-- `grid_words::cells` meets its contract: as many cells as orders of the axes, in each box. Assumes nothing.
 use mathlib.Core.Path.{_≡_, refl, sym, ap, _∙_, subst}
 use mathlib.Core.List.{List, [], _∷_, _++_}
 use Prim.Native.Nat.{ℕ, zero, suc, _+_, _*_, _-_, _/_, _%_, _^_, _≤_, _<_}

@@ -1,4 +1,4 @@
--- `gridwords::corner` meets its contract. The invariant: v is corner i. Assumes nothing.
+-- `grid_words::corner` meets its contract. The invariant: v is corner i. Assumes nothing.
 use mathlib.Core.Path.{_≡_, refl, sym, ap, _∙_, subst}
 use mathlib.Core.List.{List, [], _∷_, _++_}
 use Prim.Native.Nat.{ℕ, zero, suc, _+_, _*_, _-_, _/_, _%_, _^_, _≤_, _<_}
@@ -9,7 +9,7 @@ use Rattle.quotient.specs.declared.Axis.{Axis}
 use Rattle.quotient.specs.Fold.{product}
 use Rattle.quotient.specs.Shape.{cellsOn, pointsOn}
 use native.Mathlib.Nat.{mod-lt}
-use Rattle.grid_words.specs.Numbered.{cornerOf}
+use Rattle.grid_words.specs.WorkNumbered.{cornerOf}
 use Rattle.grid_words.proofs.Corners.{dim, some-turn, turn-below, corner-zero, corner-axis, corner-turn}
 use Rattle.grid_words.proofs.corner.Statement.{statement}
 use Rattle.grid_words.proofs.corner.Tie as tie

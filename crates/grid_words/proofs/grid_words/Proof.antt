@@ -1,4 +1,4 @@
--- `gridwords::grid_words` meets its contract. The invariant: the first i numbers of the words are written. Assumes nothing.
+-- `grid_words::grid_words` meets its contract. The invariant: the first i numbers of the words are written. Assumes nothing.
 use mathlib.Core.Path.{_≡_, refl, sym, ap, _∙_, subst}
 use mathlib.Core.List.{List, [], _∷_, _++_}
 use Prim.Native.Nat.{ℕ, zero, suc, _+_, _*_, _-_, _/_, _%_, _^_, _≤_, _<_}

@@ -1,4 +1,4 @@
--- `gridwords::origin` meets its contract. The invariant: s is the product of the points below k, x the number that the coordinates below k make, and rest what is
+-- `grid_words::origin` meets its contract. The invariant: s is the product of the points below k, x the number that the coordinates below k make, and rest what is
 -- left of b. Assumes nothing.
 use mathlib.Core.Path.{_≡_, refl, sym, ap, _∙_, subst}
 use mathlib.Core.List.{List, [], _∷_, _++_}
@@ -9,7 +9,7 @@ use lib.ListN.{length, getD, take, drop, set, replicate, length-set}
 use Rattle.quotient.specs.declared.Axis.{Axis}
 use Rattle.quotient.specs.Fold.{product}
 use Rattle.quotient.specs.Shape.{cellsOn, pointsOn}
-use Rattle.quotient.specs.Points.{numberOf}
+use Rattle.quotient.specs.Points.{fromDigits}
 use native.Mathlib.Nat.{div-one}
 use Rattle.grid_words.specs.Cells.{boxAt}
 use Rattle.grid_words.proofs.Corners.{some-cell, stride-turn, origin-more, origin-room}
@@ -17,13 +17,13 @@ use Rattle.grid_words.proofs.origin.Statement.{statement}
 use Rattle.grid_words.proofs.origin.Tie as tie
 
 abbrev Inv-loop : tie.InvT-loop
-Inv-loop grid b d s₀ x₀ rest₀ k₀ s x rest k = (k ≤ d) × (s ≡ product (pointsOn grid) k) × (x ≡ numberOf (pointsOn grid) (boxAt grid b) k) × (rest ≡ b / product (cellsOn grid) k) × (x < s) × (d < 2 ^ 32)
+Inv-loop grid b d s₀ x₀ rest₀ k₀ s x rest k = (k ≤ d) × (s ≡ product (pointsOn grid) k) × (x ≡ fromDigits (pointsOn grid) (boxAt grid b) k) × (rest ≡ b / product (cellsOn grid) k) × (x < s) × (d < 2 ^ 32)
 
 abbrev μ-loop : tie.MeasureT-loop
 μ-loop grid b d s₀ x₀ rest₀ k₀ s x rest k = d - k
 
 loop-holds : tie.Need-loop-holds Inv-loop μ-loop
-unfolding product numberOf
+unfolding product fromDigits
 loop-holds c = (omega arith, refl, refl, sym (div-one (c .args .b)), omega arith, search needs)
 
 axis-requires : tie.Need-axis-requires Inv-loop μ-loop

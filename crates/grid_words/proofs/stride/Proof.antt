@@ -1,4 +1,4 @@
--- `gridwords::stride` meets its contract. The invariant: s is the product of the points below k. Assumes nothing.
+-- `grid_words::stride` meets its contract. The invariant: s is the product of the points below k. Assumes nothing.
 use mathlib.Core.Path.{_≡_, refl, sym, ap, _∙_, subst}
 use mathlib.Core.List.{List, [], _∷_, _++_}
 use Prim.Native.Nat.{ℕ, zero, suc, _+_, _*_, _-_, _/_, _%_, _^_, _≤_, _<_}

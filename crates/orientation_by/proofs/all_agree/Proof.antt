@@ -1,4 +1,4 @@
--- `oriented::all_agree` meets its contract. The loop's invariant: the first x slots agree. Assumes nothing.
+-- `orientation_by::all_agree` meets its contract. The loop's invariant: the first x slots agree. Assumes nothing.
 use mathlib.Core.Path.{_≡_, refl, sym, ap, _∙_, subst}
 use mathlib.Core.List.{List, [], _∷_, _++_}
 use Prim.Native.Nat.{ℕ, zero, suc, _+_, _*_, _-_, _/_, _%_, _≤_, _<_}
@@ -6,7 +6,7 @@ use native.Mathlib.Omega.{arith}
 use borrow.Author.Needs.{needs}
 use lib.ListN.{length, getD, take, drop, set, replicate, length-set}
 use borrow.Author.Count.{below-more}
-use Rattle.orientation_by.specs.Test.{AgreesAt}
+use Rattle.orientation_by.specs.WorkTest.{AgreesAt}
 use Rattle.orientation_by.proofs.all_agree.Statement.{statement}
 use Rattle.orientation_by.proofs.all_agree.Tie as tie
 use Rattle.orientation_by.proofs.all_agree.Reads as reads

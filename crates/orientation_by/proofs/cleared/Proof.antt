@@ -1,4 +1,4 @@
--- `oriented::cleared` meets its contract: the work's end stands, and the lists keep their lengths until they are cleared. Assumes nothing.
+-- `orientation_by::cleared` meets its contract: the work's end stands, and the lists keep their lengths until they are cleared. Assumes nothing.
 use Rattle.lists.proofs.Laws.{zero-along}
 use borrow.Author.Needs.{needs}
 use Rattle.orientation_by.proofs.cleared.Statement.{statement}

@@ -1,4 +1,4 @@
--- `oriented::coherent_as` meets its contract: the slots across are the cells' mates (proofs/Slots). Assumes nothing.
+-- `orientation_by::coherent_as` meets its contract: the slots across are the cells' mates (proofs/Slots). Assumes nothing.
 use mathlib.Core.Path.{_≡_, refl, sym, ap, _∙_, subst}
 use mathlib.Core.List.{List, [], _∷_, _++_}
 use Prim.Native.Nat.{ℕ, zero, suc, _+_, _*_, _-_, _/_, _%_, _≤_, _<_}

@@ -1,11 +1,11 @@
--- `oriented::mark_of` meets its contract, one number after the other. Assumes nothing.
+-- `orientation_by::mark_of` meets its contract, one number after the other. Assumes nothing.
 use mathlib.Core.Path.{_≡_, refl, sym, ap, _∙_, subst}
 use mathlib.Core.List.{List, [], _∷_, _++_}
 use Prim.Native.Nat.{ℕ, zero, suc, _+_, _*_, _-_, _/_, _%_, _≤_, _<_}
 use native.Mathlib.Omega.{arith}
 use borrow.Author.Needs.{needs}
 use lib.ListN.{length, getD, take, drop, set, replicate, length-set}
-use Rattle.orientation_by.specs.Test.{markOf}
+use Rattle.orientation_by.specs.WorkTest.{markOf}
 use Rattle.orientation_by.proofs.Marks.{plus-mark, minus-mark, other-mark}
 use Rattle.orientation_by.proofs.mark_of.Statement.{statement}
 use Rattle.orientation_by.proofs.mark_of.Tie as tie

@@ -1,4 +1,4 @@
--- `oriented::orient_by` meets its contract, by its three ways out (proofs/Entry): a refusal and too little room touch nothing; else the work's end stands, and what
+-- `orientation_by::orient_by` meets its contract, by its three ways out (proofs/Entry): a refusal and too little room touch nothing; else the work's end stands, and what
 -- was lent to it came back as zeros. Assumes nothing.
 use mathlib.Core.Path.{_≡_, sym, _∙_}
 use lib.Seq.{length-take-le}

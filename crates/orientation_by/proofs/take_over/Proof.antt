@@ -1,4 +1,4 @@
--- `oriented::take_over` meets its contract. The loop's invariant: the first c signs are +1 or -1, and their marks stand. Assumes nothing.
+-- `orientation_by::take_over` meets its contract. The loop's invariant: the first c signs are +1 or -1, and their marks stand. Assumes nothing.
 use mathlib.Core.Path.{_≡_, refl, sym, ap, _∙_, subst}
 use mathlib.Core.List.{List, [], _∷_, _++_}
 use Prim.Native.Nat.{ℕ, zero, suc, _+_, _*_, _-_, _/_, _%_, _≤_, _<_}
@@ -8,7 +8,7 @@ use lib.ListN.{length, getD, take, drop, set, replicate, length-set}
 use lib.IntN.{pos}
 use mir.Val.{toZ, ofZ}
 use mir.Syntax.{w32}
-use Rattle.orientation_by.specs.Test.{markOf}
+use Rattle.orientation_by.specs.WorkTest.{markOf}
 use Rattle.orientation_by.proofs.Marks.{Marked, marked-more, taken, unfit-length, unfit-at}
 use Rattle.orientation_by.proofs.take_over.Statement.{statement}
 use Rattle.orientation_by.proofs.take_over.Tie as tie

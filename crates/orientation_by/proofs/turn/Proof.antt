@@ -1,8 +1,8 @@
--- `oriented::turn` meets its contract. Assumes nothing.
+-- `orientation_by::turn` meets its contract. Assumes nothing.
 use mathlib.Core.Path.{_≡_, refl}
 use Prim.Native.Nat.{ℕ, zero, suc, _-_}
 use native.Mathlib.Omega.{arith}
-use Rattle.orientation_walk.specs.Signs.{turned}
+use Rattle.orientation_walk.specs.WorkSigns.{turned}
 use borrow.Author.Needs.{needs}
 use Rattle.orientation_by.proofs.turn.Statement.{statement}
 use Rattle.orientation_by.proofs.turn.Tie as tie

@@ -1,4 +1,4 @@
--- `signs::coherent` meets its contract: the walk's links are the cells' mates, and its looks are those of the defined walk (proofs/Finding). Assumes nothing.
+-- `orientation_signs::coherent` meets its contract: the walk's links are the cells' mates, and its looks are those of the defined walk (proofs/Finding). Assumes nothing.
 use Rattle.orientation_signs.proofs.Linking.{finding-few, finding-crossing, finding-links}
 use Rattle.orientation_signs.proofs.Finding.{finding-found}
 use mathlib.Core.Path.{_≡_, refl, sym, ap, _∙_, subst}

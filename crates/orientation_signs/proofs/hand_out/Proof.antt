@@ -1,9 +1,9 @@
--- `signs::hand_out` meets its contract. The loop's invariant: the first c signs are handed out. Assumes nothing.
+-- `orientation_signs::hand_out` meets its contract. The loop's invariant: the first c signs are handed out. Assumes nothing.
 use mir.Val.{toZ, ofZ}
 use mir.Syntax.{w32}
 use lib.IntN.{ℤ}
 use Rattle.orientation_signs.proofs.Handing.{stored}
-use Rattle.orientation_signs.specs.Found.{numberOf, handedOut}
+use Rattle.orientation_signs.specs.WorkFound.{markNumber, handedOut}
 use Rattle.orientation_signs.proofs.Handing.{hand-more, hand-done}
 use mathlib.Core.Path.{_≡_, refl, sym, ap, _∙_, subst}
 use mathlib.Core.List.{List, [], _∷_, _++_}
@@ -53,7 +53,7 @@ loop-again c =
     let s = l .before .before in
     let lm : l .loop .c < length (s .args .marks .now) = omega (arith, s .pre) in
     let ls : l .loop .c < length (s .args .signs .now) = omega arith in
-    let e : toZ w32 (ofZ w32 (c .sign-of .result)) ≡ numberOf (getD (s .args .marks .now) (l .loop .c) 0) = ap (λ (z : ℤ). toZ w32 (ofZ w32 z)) (c .sign-of .ensures) ∙ stored (getD (s .args .marks .now) (l .loop .c) 0) in
+    let e : toZ w32 (ofZ w32 (c .sign-of .result)) ≡ markNumber (getD (s .args .marks .now) (l .loop .c) 0) = ap (λ (z : ℤ). toZ w32 (ofZ w32 z)) (c .sign-of .ensures) ∙ stored (getD (s .args .marks .now) (l .loop .c) 0) in
     (search needs, rw (l .loop .inv .1, e) (hand-more (s .args .marks .now) (s .args .signs .now) (l .loop .c) lm ls), simp length-set (l .loop .inv .2))
 
 same-length : tie.Need-same-length Inv-loop μ-loop

@@ -1,5 +1,5 @@
--- `signs::sign_of` meets its contract. Assumes nothing.
-use Rattle.orientation_signs.specs.Found.{numberOf}
+-- `orientation_signs::sign_of` meets its contract. Assumes nothing.
+use Rattle.orientation_signs.specs.WorkFound.{markNumber}
 use lib.IntN.{negsuc}
 use mathlib.Core.Path.{_≡_, refl, sym, ap, _∙_, subst}
 use mathlib.Core.List.{List, [], _∷_, _++_}
@@ -18,7 +18,7 @@ returns c = rw (c .if1 .taken)
 returns-2 : tie.Need-returns-2
 returns-2 c = other _ (c .if1 .left)
   where
-    other : (n : ℕ) → (n ≡ 1 → ⊥) → negsuc 0 ≡ numberOf n
+    other : (n : ℕ) → (n ≡ 1 → ⊥) → negsuc 0 ≡ markNumber n
     other zero h = refl
     other (suc zero) h = absurd (h refl)
     other (suc (suc n)) h = refl

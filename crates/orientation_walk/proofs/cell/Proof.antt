@@ -4,8 +4,8 @@ use native.Mathlib.Omega.{arith}
 use lib.ListN.{length, getD}
 use denote.Ref.{now}
 use borrow.Author.Needs.{needs}
-use Rattle.orientation_walk.specs.Steps.{Slots}
-use Rattle.orientation_walk.specs.Steps.Slots.{none-yet, one-more}
+use Rattle.orientation_walk.specs.WorkSteps.{Slots}
+use Rattle.orientation_walk.specs.WorkSteps.Slots.{none-yet, one-more}
 use Rattle.orientation_walk.proofs.Lemmas.{base-fits, slot-fits, slots-ready, took-stops, took-goes}
 use Rattle.orientation_walk.proofs.cell.Statement.{statement}
 use Rattle.orientation_walk.proofs.cell.Tie as tie

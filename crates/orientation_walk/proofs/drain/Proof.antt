@@ -1,12 +1,12 @@
--- `walk::drain` meets its contract. Assumes nothing.
+-- `orientation_walk::drain` meets its contract. Assumes nothing.
 use Prim.Native.Nat.{ℕ, _+_, _-_, _*_, _<_, _≤_}
 use mathlib.Core.Path.{_≡_, refl, sym, _∙_, ap}
 use native.Mathlib.Omega.{arith}
 use lib.ListN.{length, getD}
 use denote.Ref.{now}
 use borrow.Author.Needs.{needs}
-use Rattle.orientation_walk.specs.Steps.{Drain, zeros}
-use Rattle.orientation_walk.specs.Steps.Drain.{none-yet, one-more}
+use Rattle.orientation_walk.specs.WorkSteps.{Drain, zeros}
+use Rattle.orientation_walk.specs.WorkSteps.Drain.{none-yet, one-more}
 use Rattle.orientation_walk.proofs.Lemmas.{scaled, top-in, drain-taking, drain-more, drain-stops, drain-falls, drain-fits, drain-goes}
 use Rattle.orientation_walk.proofs.drain.Statement.{statement}
 use Rattle.orientation_walk.proofs.drain.Tie as tie

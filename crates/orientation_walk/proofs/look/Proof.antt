@@ -1,11 +1,11 @@
--- `walk::look` meets its contract. Assumes nothing.
+-- `orientation_walk::look` meets its contract. Assumes nothing.
 use Prim.Native.Nat.{ℕ, _<_}
 use mathlib.Core.Path.{_≡_, refl, sym, _∙_}
 use native.Mathlib.Omega.{arith}
 use lib.ListN.{length, getD}
 use denote.Ref.{now}
 use borrow.Author.Needs.{needs}
-use Rattle.orientation_walk.specs.Steps.{Look, Clash}
+use Rattle.orientation_walk.specs.WorkSteps.{Look, Clash}
 use Rattle.orientation_walk.proofs.Lemmas.{looked-edge, looked-fresh, looked-fits, looked-clash, scaled, room-for}
 use Rattle.orientation_walk.proofs.look.Statement.{statement}
 use Rattle.orientation_walk.proofs.look.Tie as tie

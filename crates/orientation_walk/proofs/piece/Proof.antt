@@ -1,4 +1,4 @@
--- `walk::piece` meets its contract. Assumes nothing.
+-- `orientation_walk::piece` meets its contract. Assumes nothing.
 use mathlib.Core.Path.{_≡_, refl, sym, _∙_, ap}
 use lib.ListN.{length, getD, length-set}
 use Rattle.orientation_walk.proofs.Lemmas.{start-draining}

@@ -1,12 +1,12 @@
--- `walk::spread` meets its contract. Assumes nothing.
+-- `orientation_walk::spread` meets its contract. Assumes nothing.
 use Prim.Native.Nat.{ℕ, _+_, _-_, _*_, _<_, _≤_}
 use mathlib.Core.Path.{_≡_, refl, sym, _∙_, ap}
 use native.Mathlib.Omega.{arith}
 use lib.ListN.{length, getD}
 use denote.Ref.{now}
 use borrow.Author.Needs.{needs}
-use Rattle.orientation_walk.specs.Steps.{Pieces}
-use Rattle.orientation_walk.specs.Steps.Pieces.{none-yet, signed, begun}
+use Rattle.orientation_walk.specs.WorkSteps.{Pieces}
+use Rattle.orientation_walk.specs.WorkSteps.Pieces.{none-yet, signed, begun}
 use Rattle.orientation_walk.proofs.Lemmas.{scaled, spread-starting, spread-in, spread-more, spread-fits, spread-stops, spread-goes}
 use Rattle.orientation_walk.proofs.spread.Statement.{statement}
 use Rattle.orientation_walk.proofs.spread.Tie as tie

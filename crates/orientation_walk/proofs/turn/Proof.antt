@@ -1,6 +1,6 @@
--- `walk::turn` meets its contract. Assumes nothing.
+-- `orientation_walk::turn` meets its contract. Assumes nothing.
 use borrow.Author.Needs.{needs}
-use Rattle.orientation_walk.specs.Signs.{turned}
+use Rattle.orientation_walk.specs.WorkSigns.{turned}
 use Rattle.orientation_walk.proofs.Lemmas.{turned-same, turned-other}
 use Rattle.orientation_walk.proofs.turn.Statement.{statement}
 use Rattle.orientation_walk.proofs.turn.Tie as tie

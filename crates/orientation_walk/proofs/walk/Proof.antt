@@ -1,4 +1,4 @@
--- `walk::walk` meets its contract. Assumes nothing.
+-- `orientation_walk::walk` meets its contract. Assumes nothing.
 use denote.Ref.{now}
 use Rattle.orientation_walk.proofs.Theory.{walking, stop-fits, stop-fits-2, stop-fits-3, whole-fits, answer-no, answer-yes}
 use borrow.Author.Needs.{needs}

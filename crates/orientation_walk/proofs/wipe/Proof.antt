@@ -1,4 +1,4 @@
--- `walk::wipe` meets its contract. Assumes nothing.
+-- `orientation_walk::wipe` meets its contract. Assumes nothing.
 use Prim.Native.Nat.{ℕ, _+_, _-_, _*_, _<_, _≤_}
 use mathlib.Core.Path.{_≡_, refl, sym, _∙_, ap}
 use mathlib.Core.List.{_++_}

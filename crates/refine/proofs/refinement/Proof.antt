@@ -13,7 +13,7 @@ use Rattle.refusal.specs.declared.Answer.the-variants as Answer
 use Rattle.complex.specs.Check.{answerOf}
 use Rattle.complex.proofs.Fine.{fine-passed}
 use Rattle.complex_cells.proofs.Making.{few-corners}
-use Rattle.refine.specs.Reading.{OrderedBy, wordsBy}
+use Rattle.refine.specs.WorkReading.{OrderedBy, wordsBy}
 use Rattle.refine.proofs.Entry.{out-refused, out-cramped, working, out-ended}
 use Rattle.refine.proofs.refinement.Statement.{statement}
 use Rattle.refine.proofs.refinement.Tie as tie

@@ -1,7 +1,7 @@
 -- `refine::work` meets its contract: each call asks what the calls before it gave (proofs/Steps). Assumes nothing.
 use mathlib.Core.Path.{_∙_}
 use borrow.Author.Needs.{needs}
-use Rattle.refine.specs.Reading.{OrderedBy, wordsBy}
+use Rattle.refine.specs.WorkReading.{OrderedBy, wordsBy}
 use Rattle.refine.proofs.Steps.{making, readied, worked-unread, worked-finished}
 use Rattle.refine.proofs.work.Statement.{statement}
 use Rattle.refine.proofs.work.Tie as tie

@@ -1,4 +1,4 @@
--- `births::births` meets its contract: one row of d + 1 numbers for each birth. Assumes nothing.
+-- `refine_births::births` meets its contract: one row of d + 1 numbers for each birth. Assumes nothing.
 use mathlib.Core.Bool.{Bool, true, false, not}
 use mathlib.Core.Path.{_≡_, refl, sym, ap, _∙_, subst}
 use mathlib.Core.List.{List, [], _∷_, _++_}

@@ -1,4 +1,4 @@
--- `births::blank` meets its contract. The loop's invariant: the first i entries are `none`, and the others as they were. Assumes nothing.
+-- `refine_births::blank` meets its contract. The loop's invariant: the first i entries are `none`, and the others as they were. Assumes nothing.
 use mathlib.Core.Bool.{Bool, true, false, not}
 use mathlib.Core.Path.{_≡_, refl, sym, ap, _∙_, subst}
 use mathlib.Core.List.{List, [], _∷_, _++_}

@@ -1,4 +1,4 @@
--- `births::classes` meets its contract: equal rows stand together in the sorted list, and so are in one class. Assumes nothing.
+-- `refine_births::classes` meets its contract: equal rows stand together in the sorted list, and so are in one class. Assumes nothing.
 use mathlib.Core.Bool.{Bool, true, false, not}
 use mathlib.Core.Path.{_≡_, refl, sym, ap, _∙_, subst}
 use mathlib.Core.List.{List, [], _∷_, _++_}

@@ -1,4 +1,4 @@
--- `births::number` meets its contract. The loop's invariant: the first x visits are numbered, the births among them are counted, and no class is numbered that was not met. Assumes nothing.
+-- `refine_births::number` meets its contract. The loop's invariant: the first x visits are numbered, the births among them are counted, and no class is numbered that was not met. Assumes nothing.
 use mathlib.Core.Bool.{Bool, true, false, not}
 use mathlib.Core.Path.{_≡_, refl, sym, ap, _∙_, subst}
 use mathlib.Core.List.{List, [], _∷_, _++_}
@@ -7,7 +7,7 @@ use native.Mathlib.Omega.{arith}
 use borrow.Author.Needs.{needs}
 use lib.ListN.{length, getD, take, drop, set, replicate, length-set}
 use Rattle.complex_mates.proofs.Laws.{row-fits, part-size}
-use Rattle.refine_births.specs.Numbers.{Numbering, Told, Numbered}
+use Rattle.refine_births.specs.WorkNumbers.{Numbering, Told, Numbered}
 use Rattle.refine_births.proofs.Numbering.{Scanned, Scanning, seenBy, scanned-none, scanning-none, scanning-old, scanning-lone, scanning-born, the-class, class-below, in-corners, old-point, lone-point, born-point, is-lone, not-lone, scanned-done}
 use Rattle.refine_births.proofs.number.Statement.{statement}
 use Rattle.refine_births.proofs.number.Tie as tie

@@ -1,4 +1,4 @@
--- `births::resolve` meets its contract: what each call asks, and what is left at the end, follows from the rows of the visits, their classes and their numbers (proofs/Complex). Assumes nothing.
+-- `refine_births::resolve` meets its contract: what each call asks, and what is left at the end, follows from the rows of the visits, their classes and their numbers (proofs/Complex). Assumes nothing.
 use mathlib.Core.Bool.{Bool, true, false, not}
 use mathlib.Core.Path.{_≡_, refl, sym, ap, _∙_, subst}
 use mathlib.Core.List.{List, [], _∷_, _++_}

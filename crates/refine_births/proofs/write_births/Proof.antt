@@ -1,4 +1,4 @@
--- `births::write_births` meets its contract. The loop's invariant: the rows of the first b births are written. Assumes nothing.
+-- `refine_births::write_births` meets its contract. The loop's invariant: the rows of the first b births are written. Assumes nothing.
 use mathlib.Core.Bool.{Bool, true, false, not}
 use mathlib.Core.Path.{_≡_, refl, sym, ap, _∙_, subst}
 use mathlib.Core.List.{List, [], _∷_, _++_}

@@ -1,4 +1,4 @@
--- `children::child` meets its contract: the parts that it lends are the child's rows.
+-- `refine_children::child` meets its contract: the parts that it lends are the child's rows.
 use mathlib.Core.Path.{_≡_, refl, sym, ap, _∙_, subst}
 use mathlib.Core.List.{List, [], _∷_, _++_, map}
 use Prim.Native.Nat.{ℕ, zero, suc, _+_, _*_, _-_, _/_, _%_, _≤_, _<_}
@@ -8,7 +8,7 @@ use borrow.Author.Needs.{needs}
 use lib.IntN.{ℤ}
 use lib.Ieee.{Float}
 use Rattle.refine_jacobian.specs.Entries.{wholeOf, floatOf}
-use Rattle.refine_jacobian.specs.Weights.{weightOf}
+use Rattle.refine_jacobian.specs.WorkWeights.{weightOf}
 use Rattle.refine_children.proofs.Laws.{at-parts, parts-seated}
 use Rattle.refine_children.proofs.child.Statement.{statement}
 use Rattle.refine_children.proofs.child.Tie as tie

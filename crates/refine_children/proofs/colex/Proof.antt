@@ -1,4 +1,4 @@
--- `children::colex` meets its contract: the words sorted are a table, and its distinct rows are the cells.
+-- `refine_children::colex` meets its contract: the words sorted are a table, and its distinct rows are the cells.
 use mathlib.Core.Path.{_≡_, refl, sym, ap, _∙_, subst}
 use mathlib.Core.List.{List, [], _∷_, _++_, map}
 use Prim.Native.Nat.{ℕ, zero, suc, _+_, _*_, _-_, _/_, _%_, _≤_, _<_}

@@ -1,4 +1,4 @@
--- `children::jacobians` meets its contract. The loop's invariant: the Jacobians of the first i children are written.
+-- `refine_children::jacobians` meets its contract. The loop's invariant: the Jacobians of the first i children are written.
 use mathlib.Core.Path.{_≡_, refl, sym, ap, _∙_, subst}
 use mathlib.Core.List.{List, [], _∷_, _++_, map}
 use Prim.Native.Nat.{ℕ, zero, suc, _+_, _*_, _-_, _/_, _%_, _≤_, _<_}
@@ -7,7 +7,7 @@ use lib.ListN.{length, getD, take, drop, set, length-set}
 use borrow.Author.Needs.{needs}
 use lib.IntN.{ℤ}
 use lib.Ieee.{Float}
-use Rattle.refine_children.specs.Family.{joined, wholeAt, floatAt, Family}
+use Rattle.refine_children.specs.WorkFamily.{joined, wholeAt, floatAt, Family}
 use Rattle.refine_children.proofs.Laws.{joined-more, joined-kept, joined-full, part-length}
 use Rattle.refine_children.proofs.jacobians.Statement.{statement}
 use Rattle.refine_children.proofs.jacobians.Tie as tie

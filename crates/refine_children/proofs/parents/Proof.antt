@@ -1,4 +1,4 @@
--- `children::parents` meets its contract. The loop's invariant: the first i parents are written.
+-- `refine_children::parents` meets its contract. The loop's invariant: the first i parents are written.
 use mathlib.Core.Path.{_≡_, refl, sym, ap, _∙_}
 use mathlib.Core.List.{List, [], _∷_, _++_, map}
 use Prim.Native.Nat.{ℕ, zero, suc, _+_, _*_, _-_, _/_, _%_, _≤_, _<_}

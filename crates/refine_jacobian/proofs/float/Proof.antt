@@ -1,4 +1,4 @@
--- `jacobian::float` meets its contract. The loop's invariant: the first e entries are written.
+-- `refine_jacobian::float` meets its contract. The loop's invariant: the first e entries are written.
 use mathlib.Core.Path.{_≡_, refl, sym, ap, _∙_}
 use mathlib.Core.List.{List, [], _∷_, _++_, map}
 use Prim.Native.Nat.{ℕ, zero, suc, _+_, _*_, _-_, _/_, _%_, _≤_, _<_}
@@ -12,7 +12,7 @@ use lib.Dec.{ltb}
 use lib.Ieee.{Float, binary64, ofBits, sub}
 use Rattle.multiindex.specs.Permutation.{tab}
 use Rattle.refine_jacobian.specs.Entries.{shareOf, nought, floatStep}
-use Rattle.refine_jacobian.specs.Weights.{weightOf}
+use Rattle.refine_jacobian.specs.WorkWeights.{weightOf}
 use Rattle.refine_jacobian.proofs.Laws.{tab-store, tab-full, entry-in, entry-past}
 use Rattle.refine_jacobian.proofs.float.Statement.{statement}
 use Rattle.refine_jacobian.proofs.float.Tie as tie

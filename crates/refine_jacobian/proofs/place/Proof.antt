@@ -1,11 +1,11 @@
--- `jacobian::place` meets its contract. The loop's invariant: v does not stand among the first i.
+-- `refine_jacobian::place` meets its contract. The loop's invariant: v does not stand among the first i.
 use mathlib.Core.Path.{_≡_, refl, sym, ap, _∙_}
 use mathlib.Core.List.{List, [], _∷_, _++_, map}
 use Prim.Native.Nat.{ℕ, zero, suc, _+_, _*_, _-_, _/_, _%_, _≤_, _<_}
 use native.Mathlib.Omega.{arith}
 use lib.ListN.{length, getD, take, drop, set, length-set}
 use borrow.Author.Needs.{needs}
-use Rattle.refine_jacobian.specs.Weights.{placeOf}
+use Rattle.refine_jacobian.specs.WorkWeights.{placeOf}
 use Rattle.refine_jacobian.proofs.Laws.{place-hit, place-miss, place-end}
 use Rattle.refine_jacobian.proofs.place.Statement.{statement}
 use Rattle.refine_jacobian.proofs.place.Tie as tie

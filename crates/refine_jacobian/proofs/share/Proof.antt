@@ -1,4 +1,4 @@
--- `jacobian::share` meets its contract: the operations are those of the definition.
+-- `refine_jacobian::share` meets its contract: the operations are those of the definition.
 use mathlib.Core.Path.{_≡_, refl, sym, ap, _∙_}
 use mathlib.Core.List.{List, [], _∷_, _++_, map}
 use Prim.Native.Nat.{ℕ, zero, suc, _+_, _*_, _-_, _/_, _%_, _≤_, _<_}

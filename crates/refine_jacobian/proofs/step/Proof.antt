@@ -1,11 +1,11 @@
--- `jacobian::step` meets its contract: column and row are below d.
+-- `refine_jacobian::step` meets its contract: column and row are below d.
 use mathlib.Core.Path.{_≡_, refl, sym, ap, _∙_}
 use mathlib.Core.List.{List, [], _∷_, _++_, map}
 use Prim.Native.Nat.{ℕ, zero, suc, _+_, _*_, _-_, _/_, _%_, _≤_, _<_}
 use native.Mathlib.Omega.{arith}
 use lib.ListN.{length, getD, take, drop, set, length-set}
 use native.Mathlib.Numerals.{add-one}
-use Rattle.refine_jacobian.specs.Weights.{placeOf, weightOf}
+use Rattle.refine_jacobian.specs.WorkWeights.{placeOf, weightOf}
 use Rattle.refine_jacobian.proofs.Laws.{some-column, column-in, row-in, corners-square, weight-small}
 use borrow.Author.Needs.{needs}
 use Rattle.refine_jacobian.proofs.step.Statement.{statement}

@@ -1,10 +1,10 @@
--- `jacobian::weight` meets its contract: the two places are within the word and the names, so the index is within the corners.
+-- `refine_jacobian::weight` meets its contract: the two places are within the word and the names, so the index is within the corners.
 use mathlib.Core.Path.{_≡_, refl, sym, ap, _∙_}
 use mathlib.Core.List.{List, [], _∷_, _++_, map}
 use Prim.Native.Nat.{ℕ, zero, suc, _+_, _*_, _-_, _/_, _%_, _≤_, _<_}
 use native.Mathlib.Omega.{arith}
 use lib.ListN.{length, getD, take, drop, set, length-set}
-use Rattle.refine_jacobian.specs.Weights.{placeOf}
+use Rattle.refine_jacobian.specs.WorkWeights.{placeOf}
 use Rattle.refine_jacobian.proofs.Laws.{corner-in}
 use borrow.Author.Needs.{needs}
 use Rattle.refine_jacobian.proofs.weight.Statement.{statement}

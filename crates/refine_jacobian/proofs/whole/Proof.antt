@@ -1,4 +1,4 @@
--- `jacobian::whole` meets its contract. The loop's invariant: the first e entries are written.
+-- `refine_jacobian::whole` meets its contract. The loop's invariant: the first e entries are written.
 use mathlib.Core.Path.{_≡_, refl, sym, ap, _∙_}
 use mathlib.Core.List.{List, [], _∷_, _++_, map}
 use Prim.Native.Nat.{ℕ, zero, suc, _+_, _*_, _-_, _/_, _%_, _≤_, _<_}
@@ -14,7 +14,7 @@ use mir.Syntax.{w32}
 use mir.Val.{toZ, ofZ}
 use Rattle.multiindex.specs.Permutation.{tab}
 use Rattle.refine_lattice.specs.Jacobian.{jacobian}
-use Rattle.refine_jacobian.specs.Weights.{weightOf}
+use Rattle.refine_jacobian.specs.WorkWeights.{weightOf}
 use Rattle.refine_jacobian.proofs.Laws.{tab-store, tab-full, entry-in, entry-past, one-fits, step-fits, step-stored}
 use Rattle.refine_jacobian.proofs.whole.Statement.{statement}
 use Rattle.refine_jacobian.proofs.whole.Tie as tie

@@ -9,7 +9,7 @@ use borrow.Author.Needs.{needs}
 use borrow.Author.Tests.{not-true, not-false}
 use lib.ListN.{length}
 use lib.Seq.{length-take-le}
-use Rattle.refine_pattern.specs.Chains.{chainAt, keeps}
+use Rattle.refine_pattern.specs.WorkChains.{chainAt, keeps}
 use Rattle.refine_pattern.proofs.Cursors.{given-yes, chain-size, gives-onto, gives-none}
 use Rattle.refine_pattern.proofs.give.Statement.{statement}
 use Rattle.refine_pattern.proofs.give.Tie as tie

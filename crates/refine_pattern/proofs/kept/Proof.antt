@@ -10,7 +10,7 @@ use lib.Seq.{length-take-le}
 use Rattle.multiindex.specs.Permutation.{orderOf}
 use Rattle.refine_lattice.specs.Lattice.{chain}
 use Rattle.refine_lattice.specs.Children.{qualifies}
-use Rattle.refine_pattern.specs.Chains.{keeps}
+use Rattle.refine_pattern.specs.WorkChains.{keeps}
 use Rattle.refine_pattern.proofs.Chains.{order-long, order-below, keeps-not, keeps-step, keeps-end, coordinate}
 use Rattle.refine_pattern.proofs.kept.Statement.{statement}
 use Rattle.refine_pattern.proofs.kept.Tie as tie
@@ -66,7 +66,7 @@ array-read-s : tie.Need-array-read-s Inv-loop μ-loop
 array-read-s c = omega (arith, axis-low c, c .before .before .before .before .before .before .before .pre .axes)
 
 add-s : tie.Need-add-s Inv-loop μ-loop
-add-s c = omega (arith, step-low c, c .before .before .before .before .before .before .before .pre .times)
+add-s c = omega (arith, step-low c, c .before .before .before .before .before .before .before .pre .most)
 
 mul-s-2 : tie.Need-mul-s-2 Inv-loop μ-loop
 mul-s-2 c = omega (arith, axis-low c)

@@ -10,7 +10,7 @@ use lib.ListN.{length, take, drop, replicate}
 use Rattle.multiindex.proofs.Tables.{count-most, count-some}
 use Rattle.multiindex.proofs.Digits.{power-most}
 use Rattle.refine_lattice.specs.Children.{chains}
-use Rattle.refine_pattern.specs.Chains.{Steps, stepOf}
+use Rattle.refine_pattern.specs.WorkChains.{Steps, stepOf}
 use Rattle.refine_pattern.specs.declared.Cursor.{Cursor}
 use Rattle.refine_pattern.proofs.Filled.{Filled, filled-none, filled-long, filled-at, filled-stands, filled-room, filled-part, filled-steps, filled-next, filled-end, chains-length}
 use Rattle.refine_pattern.proofs.pattern.Statement.{statement}
@@ -35,7 +35,7 @@ fit : (c : tie.After-count2 Inv-loop μ-loop) → c .before .count .result * c .
 fit c =
     let a = c .before .before .before in
     let n : c .before .count .result ≤ 281474976710656 =
-    omega (arith, c .before .count .ensures, power-most (a .args .d) (a .args .r + 1) (a .pre .axes) (omega (arith, a .pre .times))) in
+    omega (arith, c .before .count .ensures, power-most (a .args .d) (a .args .r + 1) (a .pre .axes) (omega (arith, a .pre .most))) in
     let k : c .count2 .result ≤ 7 = omega (arith, c .count2 .ensures, count-most (a .args .d) (a .pre .axes)) in
     omega (arith, mul-le-mul n k)
 
@@ -57,13 +57,13 @@ inside : (c : tie.In-loop Inv-loop μ-loop) → c .before .loop .m < length (cha
 inside c = omega (arith, c .loop-test .taken, total (c .before))
 
 add-n : tie.Need-add-n Inv-loop μ-loop
-add-n c = omega (arith, c .before .pre .times)
+add-n c = omega (arith, c .before .pre .most)
 
 cast-count : tie.Need-cast-count Inv-loop μ-loop
-cast-count c = omega (arith, c .before .pre .times)
+cast-count c = omega (arith, c .before .pre .most)
 
 count-requires : tie.Need-count-requires Inv-loop μ-loop
-count-requires c κs = (c .before .pre .axes, omega (arith, c .before .pre .times))
+count-requires c κs = (c .before .pre .axes, omega (arith, c .before .pre .most))
 
 count-requires-2 : tie.Need-count-requires-2 Inv-loop μ-loop
 count-requires-2 c κs = c .before .before .pre .axes

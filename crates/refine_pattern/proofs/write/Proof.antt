@@ -94,7 +94,7 @@ array-read-s : tie.Need-array-read-s Inv-loop μ-loop
 array-read-s c = omega (arith, axis-low c, c .before .before .before .before .before .before .before .before .before .before .pre .stands .axes)
 
 add-s : tie.Need-add-s Inv-loop μ-loop
-add-s c = omega (arith, step-low c, c .before .before .before .before .before .before .before .before .before .before .pre .stands .times)
+add-s c = omega (arith, step-low c, c .before .before .before .before .before .before .before .before .before .before .pre .stands .most)
 
 mul-s-2 : tie.Need-mul-s-2 Inv-loop μ-loop
 mul-s-2 c = omega (arith, axis-low c)

@@ -1,4 +1,4 @@
--- `refined::finish` meets its contract: what each call asks, and how it ends, is told by proofs/Handing. Assumes nothing.
+-- `refine_results::finish` meets its contract: what each call asks, and how it ends, is told by proofs/Handing. Assumes nothing.
 use mathlib.Core.Path.{_≡_, sym, ap, _∙_, subst}
 use Prim.Native.Nat.{ℕ, suc, _+_, _*_, _^_}
 use native.Mathlib.Omega.{arith}
@@ -6,7 +6,7 @@ use native.Mathlib.Numerals.{add-one}
 use borrow.Author.Tests.{not-true, not-false}
 use Rattle.refine_births.specs.Promise.{Supports}
 use Rattle.refine_results.specs.Results.{lengthsOf}
-use Rattle.refine_results.specs.Steps.{Fits, Bears}
+use Rattle.refine_results.specs.WorkSteps.{Fits, Bears}
 use Rattle.refine_results.proofs.Handing.{arranged, arranging, few, handed-short, to-children, to-births, handed-made}
 use borrow.Author.Needs.{needs}
 use Rattle.refine_results.proofs.finish.Statement.{statement}
@@ -24,7 +24,7 @@ wide-requires : tie.Need-wide-requires
 wide-requires c κs = search needs
 
 count-requires : tie.Need-count-requires
-count-requires c κs = let s = c .before .before .before .before .before .before .before .before .before .before .before .before .before .before .before .before .before .before in (s .pre .refining .dim, omega (arith, c .wide .ensures, s .pre .refining .times))
+count-requires c κs = let s = c .before .before .before .before .before .before .before .before .before .before .before .before .before .before .before .before .before .before in (s .pre .refining .dim, omega (arith, c .wide .ensures, s .pre .refining .most))
 
 add-colex : tie.Need-add-colex
 add-colex c = search needs

@@ -1,4 +1,4 @@
--- `refined::fits` meets its contract: each test that fails shows a list that is too short, and past the tests none is. Assumes nothing.
+-- `refine_results::fits` meets its contract: each test that fails shows a list that is too short, and past the tests none is. Assumes nothing.
 use mathlib.Core.Path.{ap}
 use Prim.Native.Nat.{ℕ, suc, _+_, _*_}
 use native.Mathlib.Omega.{arith}

@@ -1,4 +1,4 @@
--- `refined::inside` meets its contract: past the first test R is at least 1. Assumes nothing.
+-- `refine_results::inside` meets its contract: past the first test R is at least 1. Assumes nothing.
 use native.Mathlib.Omega.{arith}
 use borrow.Author.Tests.{leb-true, leb-false}
 use Rattle.refine_results.proofs.Tests.{never}

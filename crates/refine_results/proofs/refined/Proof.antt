@@ -1,4 +1,4 @@
--- `refined::refined` meets its contract: a refusal of the search is handed on, and what is found is what the rest asks (proofs/Found, proofs/Handing). Assumes nothing.
+-- `refine_results::refined` meets its contract: a refusal of the search is handed on, and what is found is what the rest asks (proofs/Found, proofs/Handing). Assumes nothing.
 use mathlib.Core.Path.{sym, _∙_}
 use lib.Seq.{length-take-le}
 use Rattle.refine_results.proofs.Found.{len-fits, names-long, sorted-long, finishing}

@@ -1,11 +1,11 @@
--- `refined::seek` meets its contract: what each call asks, and how it ends, is told by proofs/Found. Assumes nothing.
+-- `refine_results::seek` meets its contract: what each call asks, and how it ends, is told by proofs/Found. Assumes nothing.
 use mathlib.Core.Path.{_≡_, sym, ap, _∙_, subst}
 use Prim.Native.Nat.{ℕ, suc, _+_, _*_, _^_, _≤_, _<_}
 use native.Mathlib.Omega.{arith}
 use native.Mathlib.Numerals.{add-one}
 use borrow.Author.Tests.{not-true, not-false}
 use Rattle.refusal.specs.Limits.{mostCells}
-use Rattle.refine_results.specs.Steps.{outside, many-cells}
+use Rattle.refine_results.specs.WorkSteps.{outside, many-cells}
 use Rattle.refine_results.proofs.Found.{children-fit, to-pattern, corners-fit, to-births, born-few, sought-many, sought-found}
 use borrow.Author.Needs.{needs}
 use Rattle.refine_results.proofs.seek.Statement.{statement}

@@ -1,4 +1,4 @@
--- `refined::write_births` meets its contract: the vertices and weights of the births come back in the first places, and their shares are those of the weights (proofs/Writing). Assumes nothing.
+-- `refine_results::write_births` meets its contract: the vertices and weights of the births come back in the first places, and their shares are those of the weights (proofs/Writing). Assumes nothing.
 use mathlib.Core.Path.{_≡_, sym, ap}
 use Prim.Native.Nat.{ℕ, suc, _+_, _*_}
 use native.Mathlib.Omega.{arith}

@@ -1,4 +1,4 @@
--- `refined::write_children` meets its contract: each list comes back in the first places of its result (proofs/Writing). Assumes nothing.
+-- `refine_results::write_children` meets its contract: each list comes back in the first places of its result (proofs/Writing). Assumes nothing.
 use mathlib.Core.Path.{sym}
 use Prim.Native.Nat.{_+_, _*_}
 use native.Mathlib.Omega.{arith}

@@ -1,4 +1,4 @@
--- `towers::every` meets its contract: every line begins past the one before it. Assumes nothing.
+-- `replay_towers::every` meets its contract: every line begins past the one before it. Assumes nothing.
 use Prim.Native.Nat.{_-_, _≤_}
 use lib.ListN.{length}
 use borrow.Author.Needs.{needs}

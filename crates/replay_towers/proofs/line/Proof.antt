@@ -1,4 +1,4 @@
--- `towers::line` meets its contract: the lists are as long as was read. Assumes nothing.
+-- `replay_towers::line` meets its contract: the lists are as long as was read. Assumes nothing.
 use mathlib.Core.Path.{sym}
 use lib.Seq.{length-take-le}
 use borrow.Author.Needs.{needs}

@@ -1,4 +1,4 @@
--- `sides::Sides::bad_side` meets its contract. The invariant: the search from `i` on finds what the whole search finds. Assumes nothing.
+-- `grid_sides::Sides::bad_side` meets its contract. The invariant: the search from `i` on finds what the whole search finds. Assumes nothing.
 use borrow.Author.Needs.{needs}
 use mathlib.Core.Path.{_≡_, refl, sym, ap, subst, _∙_}
 use mathlib.Core.Bool.{Bool, true, false, cond, _&&_, _||_}

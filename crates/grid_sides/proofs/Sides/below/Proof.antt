@@ -1,4 +1,4 @@
--- `sides::Sides::below` meets its contract. Assumes nothing.
+-- `grid_sides::Sides::below` meets its contract. Assumes nothing.
 use borrow.Author.Needs.{needs}
 use Rattle.grid_sides.proofs.Sides.below.Statement.{statement}
 use Rattle.grid_sides.proofs.Sides.below.Tie as tie

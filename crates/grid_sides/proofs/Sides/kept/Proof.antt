@@ -1,4 +1,4 @@
--- `sides::Sides::kept` meets its contract. Assumes nothing.
+-- `grid_sides::Sides::kept` meets its contract. Assumes nothing.
 use borrow.Author.Needs.{needs}
 use mathlib.Core.Path.{_≡_, refl, sym, ap, subst, _∙_}
 use borrow.Author.Tests.{lt-ltb, le-ltb}

@@ -1,4 +1,4 @@
--- `sides::Sides::length_sq` meets its contract. The invariant: x is the sum of the squares of the axes below i. Assumes nothing.
+-- `grid_sides::Sides::length_sq` meets its contract. The invariant: x is the sum of the squares of the axes below i. Assumes nothing.
 use borrow.Author.Needs.{needs}
 use mathlib.Core.Path.{_≡_, refl, sym, ap, subst, _∙_}
 use Prim.Native.Nat.{ℕ, suc, _+_, _-_, _*_, _/_, _%_, _^_, _≤_, _<_, min}

@@ -1,4 +1,4 @@
--- `sides::Sides::longest` meets its contract. The invariant: x is the longest of the sides below i. Assumes nothing.
+-- `grid_sides::Sides::longest` meets its contract. The invariant: x is the longest of the sides below i. Assumes nothing.
 use borrow.Author.Needs.{needs}
 use mathlib.Core.Path.{_≡_, refl, sym, ap, subst, _∙_}
 use Prim.Native.Nat.{ℕ, suc, _+_, _-_, _*_, _/_, _%_, _^_, _≤_, _<_, min}

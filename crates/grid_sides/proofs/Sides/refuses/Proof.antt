@@ -1,4 +1,4 @@
--- `sides::Sides::refuses` meets its contract.  Assumes nothing.
+-- `grid_sides::Sides::refuses` meets its contract.  Assumes nothing.
 use borrow.Author.Needs.{needs}
 use mathlib.Core.Path.{_≡_, refl, sym, ap, subst, _∙_}
 use Rattle.grid_sides.proofs.Runs.{fits-not-bad, unfit-bad}

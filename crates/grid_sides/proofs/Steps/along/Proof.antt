@@ -1,4 +1,4 @@
--- `sides::Steps::along` meets its contract.  Assumes nothing.
+-- `grid_sides::Steps::along` meets its contract.  Assumes nothing.
 use borrow.Author.Needs.{needs}
 use mathlib.Core.Path.{_≡_, refl, sym, ap, subst, _∙_}
 use native.Mathlib.Omega.{arith}

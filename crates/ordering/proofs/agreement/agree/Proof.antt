@@ -9,7 +9,7 @@ use mathlib.Core.Bool.{true, false}
 use borrow.Author.Count.{below-more}
 use borrow.Author.Tests.{not-true, not-false}
 use Rattle.complex_mates.specs.Table.{none}
-use Rattle.ordering.specs.Agree.{rowWord}
+use Rattle.ordering.specs.WorkAgree.{rowWord}
 use Rattle.ordering.proofs.Orders.{same-true, true-same}
 use Rattle.ordering.proofs.Reading.{total-small, mates-room, mate-row, reading, all-agree, clashes}
 use Rattle.ordering.proofs.agreement.agree.Statement.{statement}

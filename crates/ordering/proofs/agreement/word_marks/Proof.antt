@@ -8,7 +8,7 @@ use lib.ListN.{length, getD, take, drop, set, replicate, length-set}
 use native.Mathlib.Nat.{add-sub-cancel-left}
 use Rattle.multiindex.specs.Sort.{inversions}
 use Rattle.sorting.proofs.Rows.{pos-room}
-use Rattle.ordering.specs.Agree.{markAt}
+use Rattle.ordering.specs.WorkAgree.{markAt}
 use Rattle.ordering.proofs.Reading.{store-more}
 use Rattle.ordering.proofs.agreement.word_marks.Statement.{statement}
 use Rattle.ordering.proofs.agreement.word_marks.Tie as tie

@@ -1,4 +1,4 @@
--- `passing::given::axis` meets its contract: its parts are the numbers at the two places. Assumes nothing.
+-- `planner_passing::given::axis` meets its contract: its parts are the numbers at the two places. Assumes nothing.
 use borrow.Author.Needs.{needs}
 use Rattle.planner_passing.proofs.Laws.{axis-made}
 use Rattle.planner_passing.proofs.given.axis.Statement.{statement}

@@ -1,4 +1,4 @@
--- `passing::given::glue` meets its contract: each arm is the case that its test found. Assumes nothing.
+-- `planner_passing::given::glue` meets its contract: each arm is the case that its test found. Assumes nothing.
 use borrow.Author.Needs.{needs}
 use Rattle.planner_passing.proofs.Laws.{glue-open, glue-periodic, glue-twisted}
 use Rattle.planner_passing.proofs.given.glue.Statement.{statement}

@@ -1,4 +1,4 @@
--- `passing::given::glues` meets its contract, gluing by gluing. Assumes nothing.
+-- `planner_passing::given::glues` meets its contract, gluing by gluing. Assumes nothing.
 use borrow.Author.Needs.{needs}
 use Rattle.planner_passing.proofs.Laws.{glues-made}
 use Rattle.planner_passing.proofs.given.glues.Statement.{statement}

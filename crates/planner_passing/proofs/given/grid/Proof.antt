@@ -1,4 +1,4 @@
--- `passing::given::grid` meets its contract, axis by axis. Assumes nothing.
+-- `planner_passing::given::grid` meets its contract, axis by axis. Assumes nothing.
 use borrow.Author.Needs.{needs}
 use Rattle.planner_passing.proofs.Laws.{grid-made}
 use Rattle.planner_passing.proofs.given.grid.Statement.{statement}

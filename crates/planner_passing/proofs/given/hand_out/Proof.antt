@@ -1,4 +1,4 @@
--- `passing::given::hand_out` meets its contract, number by number. Assumes nothing.
+-- `planner_passing::given::hand_out` meets its contract, number by number. Assumes nothing.
 use borrow.Author.Needs.{needs}
 use Rattle.planner_passing.proofs.Laws.{axes-made}
 use Rattle.planner_passing.proofs.given.hand_out.Statement.{statement}

@@ -1,4 +1,4 @@
--- `passing::given::number` meets its contract. Assumes nothing.
+-- `planner_passing::given::number` meets its contract. Assumes nothing.
 use borrow.Author.Needs.{needs}
 use Rattle.planner_passing.proofs.Laws.{entry-there, entry-past}
 use Rattle.planner_passing.proofs.given.number.Statement.{statement}

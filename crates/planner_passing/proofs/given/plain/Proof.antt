@@ -1,4 +1,4 @@
--- `passing::given::plain` meets its contract, axis by axis. Assumes nothing.
+-- `planner_passing::given::plain` meets its contract, axis by axis. Assumes nothing.
 use borrow.Author.Needs.{needs}
 use mathlib.Core.List.{[]}
 use lib.Ieee.{ofBits}

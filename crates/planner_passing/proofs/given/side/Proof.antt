@@ -1,4 +1,4 @@
--- `passing::given::side` meets its contract. Assumes nothing.
+-- `planner_passing::given::side` meets its contract. Assumes nothing.
 use borrow.Author.Needs.{needs}
 use lib.Ieee.{ofBits}
 use Rattle.planner_passing.proofs.Laws.{side-there, side-past}

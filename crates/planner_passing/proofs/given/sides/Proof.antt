@@ -1,4 +1,4 @@
--- `passing::given::sides` meets its contract, side by side. Assumes nothing.
+-- `planner_passing::given::sides` meets its contract, side by side. Assumes nothing.
 use borrow.Author.Needs.{needs}
 use Rattle.planner_passing.proofs.Laws.{sides-made}
 use Rattle.planner_passing.proofs.given.sides.Statement.{statement}

@@ -1,4 +1,4 @@
--- `passing::said::child` meets its contract: refused, or handed out. Assumes nothing.
+-- `planner_passing::said::child` meets its contract: refused, or handed out. Assumes nothing.
 use borrow.Author.Needs.{needs}
 use Rattle.planner_passing.proofs.Laws.{code-refused, list-refused, code-fine, list-fine}
 use Rattle.planner_passing.proofs.said.child.Statement.{statement}

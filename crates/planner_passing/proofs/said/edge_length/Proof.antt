@@ -1,4 +1,4 @@
--- `passing::said::edge_length` meets its contract, case by case. Assumes nothing.
+-- `planner_passing::said::edge_length` meets its contract, case by case. Assumes nothing.
 use borrow.Author.Needs.{needs}
 use Rattle.planner_passing.proofs.Laws.{length-refused, length-none, length-one, length-two}
 use Rattle.planner_passing.proofs.said.edge_length.Statement.{statement}

@@ -1,4 +1,4 @@
--- `passing::said::made` meets its contract, case by case. Assumes nothing.
+-- `planner_passing::said::made` meets its contract, case by case. Assumes nothing.
 use borrow.Author.Needs.{needs}
 use Rattle.planner_passing.proofs.Laws.{made-refused, made-taken}
 use Rattle.planner_passing.proofs.said.made.Statement.{statement}

@@ -1,4 +1,4 @@
--- `passing::said::refined` meets its contract, case by case. Assumes nothing.
+-- `planner_passing::said::refined` meets its contract, case by case. Assumes nothing.
 use borrow.Author.Needs.{needs}
 use Rattle.planner_passing.proofs.Laws.{refined-refused, refined-made}
 use Rattle.planner_passing.proofs.said.refined.Statement.{statement}

@@ -1,4 +1,4 @@
--- `births::visits::write` meets its contract. The loop's invariant: the rows of the first x visits are written. Assumes nothing.
+-- `refine_births::visits::write` meets its contract. The loop's invariant: the rows of the first x visits are written. Assumes nothing.
 use mathlib.Core.Bool.{Bool, true, false, not}
 use mathlib.Core.Path.{_≡_, refl, sym, ap, _∙_, subst}
 use mathlib.Core.List.{List, [], _∷_, _++_}
@@ -7,7 +7,7 @@ use native.Mathlib.Omega.{arith}
 use borrow.Author.Needs.{needs}
 use lib.ListN.{length, getD, take, drop, set, replicate, length-set}
 use native.Mathlib.Nat.{add-sub-cancel-left}
-use Rattle.refine_births.specs.Visits.{visitAt, Visiting, Visited}
+use Rattle.refine_births.specs.WorkVisits.{visitAt, Visiting, Visited}
 use Rattle.refine_births.proofs.Visiting.{Turn, visit-turn, visit-supporting, visited-long, visited-more}
 use Rattle.refine_births.proofs.visits.write.Statement.{statement}
 use Rattle.refine_births.proofs.visits.write.Tie as tie

@@ -1,4 +1,4 @@
--- `towers::calls::by_order` meets its contract: the lists have the lengths that are written, and keep them. Assumes nothing.
+-- `replay_towers::calls::by_order` meets its contract: the lists have the lengths that are written, and keep them. Assumes nothing.
 use borrow.Author.Needs.{needs}
 use Rattle.replay_towers.proofs.calls.by_order.Statement.{statement}
 use Rattle.replay_towers.proofs.calls.by_order.Tie as tie

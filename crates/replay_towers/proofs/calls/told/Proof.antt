@@ -1,4 +1,4 @@
--- `towers::calls::told` meets its contract: the counts are tested. Assumes nothing.
+-- `replay_towers::calls::told` meets its contract: the counts are tested. Assumes nothing.
 use native.Mathlib.Omega.{arith}
 use borrow.Author.Needs.{needs}
 use Rattle.replay_towers.proofs.calls.told.Statement.{statement}

@@ -1,4 +1,4 @@
--- `towers::read::list` meets its contract: the list keeps its length, and neither place passes an end. Assumes nothing.
+-- `replay_towers::read::list` meets its contract: the list keeps its length, and neither place passes an end. Assumes nothing.
 use mathlib.Core.Path.{_≡_, refl}
 use Prim.Native.Nat.{_-_, _≤_}
 use lib.ListN.{length, length-set}

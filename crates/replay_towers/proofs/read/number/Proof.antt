@@ -1,4 +1,4 @@
--- `towers::read::number` meets its contract: the place never passes the end of the text. Assumes nothing.
+-- `replay_towers::read::number` meets its contract: the place never passes the end of the text. Assumes nothing.
 use Prim.Native.Nat.{_-_, _≤_}
 use lib.ListN.{length}
 use borrow.Author.Needs.{needs}

@@ -1,4 +1,4 @@
--- `towers::read::place` meets its contract: the place never passes the end of the text. Assumes nothing.
+-- `replay_towers::read::place` meets its contract: the place never passes the end of the text. Assumes nothing.
 use borrow.Author.Needs.{needs}
 use Prim.Native.Nat.{_-_, _≤_}
 use lib.ListN.{length}

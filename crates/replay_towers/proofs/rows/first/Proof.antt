@@ -1,4 +1,4 @@
--- `towers::rows::first` meets its contract: row i begins at `at`, and no row passed is equal. Assumes nothing.
+-- `replay_towers::rows::first` meets its contract: row i begins at `at`, and no row passed is equal. Assumes nothing.
 use mathlib.Core.Path.{_≡_, refl, sym, _∙_}
 use Prim.Native.Nat.{ℕ, _+_, _*_, _-_, _≤_, _<_}
 use native.Mathlib.Omega.{arith}

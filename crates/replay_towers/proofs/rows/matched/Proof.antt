@@ -1,9 +1,9 @@
--- `towers::rows::matched` meets its contract: the first x rows are named. Assumes nothing.
+-- `replay_towers::rows::matched` meets its contract: the first x rows are named. Assumes nothing.
 use mathlib.Core.Path.{_≡_, refl, subst, _∙_}
 use Prim.Native.Nat.{ℕ, _+_, _*_, _-_, _≤_}
 use mathlib.Core.List.{List}
 use native.Mathlib.Omega.{arith}
-use Rattle.replay_towers.specs.Rows.{Only}
+use Rattle.replay_towers.specs.WorkRows.{Only}
 use lib.ListN.{length, length-set}
 use borrow.Author.Needs.{needs}
 use Rattle.replay_towers.proofs.Naming.{part-row, row-ends, row-next, Upto, upto-none, upto-more, upto-done}

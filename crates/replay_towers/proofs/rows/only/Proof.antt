@@ -1,4 +1,4 @@
--- `towers::rows::only` meets its contract: the first that is equal, and none after it. Assumes nothing.
+-- `replay_towers::rows::only` meets its contract: the first that is equal, and none after it. Assumes nothing.
 use native.Mathlib.Omega.{arith}
 use Rattle.replay_towers.proofs.Naming.{only-one, only-none}
 use borrow.Author.Needs.{needs}

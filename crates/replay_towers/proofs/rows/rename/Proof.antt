@@ -1,4 +1,4 @@
--- `towers::rows::rename` meets its contract: the first i numbers are renamed. Assumes nothing.
+-- `replay_towers::rows::rename` meets its contract: the first i numbers are renamed. Assumes nothing.
 use mathlib.Core.Path.{_≡_, refl}
 use Prim.Native.Nat.{ℕ, _-_, _≤_, _<_}
 use native.Mathlib.Omega.{arith}

@@ -1,4 +1,4 @@
--- `towers::rows::same` meets its contract: the first i numbers are equal. Assumes nothing.
+-- `replay_towers::rows::same` meets its contract: the first i numbers are equal. Assumes nothing.
 use mathlib.Core.Path.{_≡_, ap}
 use Prim.Native.Nat.{ℕ, _-_, _≤_, _<_}
 use mathlib.Core.List.{List}

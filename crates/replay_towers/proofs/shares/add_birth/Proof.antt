@@ -1,4 +1,4 @@
--- `towers::shares::add_birth` meets its contract: the lists have one length. Assumes nothing.
+-- `replay_towers::shares::add_birth` meets its contract: the lists have one length. Assumes nothing.
 use Prim.Native.Nat.{_-_, _≤_}
 use lib.ListN.{length}
 use borrow.Author.Needs.{needs}

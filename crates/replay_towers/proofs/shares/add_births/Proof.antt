@@ -1,4 +1,4 @@
--- `towers::shares::add_births` meets its contract: the birth x has the numbers from `at` on, and x is at most n and `at` together. Assumes nothing.
+-- `replay_towers::shares::add_births` meets its contract: the birth x has the numbers from `at` on, and x is at most n and `at` together. Assumes nothing.
 use Prim.Native.Nat.{_+_, _-_, _≤_}
 use lib.ListN.{length}
 use borrow.Author.Needs.{needs}

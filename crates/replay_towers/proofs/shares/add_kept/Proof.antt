@@ -1,4 +1,4 @@
--- `towers::shares::add_kept` meets its contract: x stays below 4,096. Assumes nothing.
+-- `replay_towers::shares::add_kept` meets its contract: x stays below 4,096. Assumes nothing.
 use Prim.Native.Nat.{_-_, _≤_}
 use borrow.Author.Needs.{needs}
 use Rattle.replay_towers.proofs.shares.add_kept.Statement.{statement}

@@ -1,4 +1,4 @@
--- `towers::shares::add_row` meets its contract: row x begins at 32 x. Assumes nothing.
+-- `replay_towers::shares::add_row` meets its contract: row x begins at 32 x. Assumes nothing.
 use borrow.Author.Needs.{needs}
 use Prim.Native.Nat.{_-_, _≤_}
 use Rattle.replay_towers.proofs.shares.add_row.Statement.{statement}

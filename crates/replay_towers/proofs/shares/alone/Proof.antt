@@ -1,4 +1,4 @@
--- `towers::shares::alone` meets its contract: rows 0 to 31 have 33 numbers between their ones. Assumes nothing.
+-- `replay_towers::shares::alone` meets its contract: rows 0 to 31 have 33 numbers between their ones. Assumes nothing.
 use borrow.Author.Needs.{needs}
 use Prim.Native.Nat.{_-_, _≤_}
 use Rattle.replay_towers.proofs.shares.alone.Statement.{statement}

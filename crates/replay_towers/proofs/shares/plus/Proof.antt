@@ -1,4 +1,4 @@
--- `towers::shares::plus` meets its contract: the product is at most 64 times 4,096. Assumes nothing.
+-- `replay_towers::shares::plus` meets its contract: the product is at most 64 times 4,096. Assumes nothing.
 use native.Mathlib.Omega.{arith}
 use mathlib.Core.Path.{refl}
 use Prim.Native.Nat.{_≤_}

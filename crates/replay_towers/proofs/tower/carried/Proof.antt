@@ -1,4 +1,4 @@
--- `towers::tower::carried` meets its contract: the three steps have what each promises. Assumes nothing.
+-- `replay_towers::tower::carried` meets its contract: the three steps have what each promises. Assumes nothing.
 use mathlib.Core.Path.{_≡_, sym}
 use Prim.Native.Nat.{ℕ, _≤_}
 use native.Mathlib.Omega.{arith}

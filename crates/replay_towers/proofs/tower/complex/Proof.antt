@@ -1,4 +1,4 @@
--- `towers::tower::complex` meets its contract: r goes from 1 to 64. Assumes nothing.
+-- `replay_towers::tower::complex` meets its contract: r goes from 1 to 64. Assumes nothing.
 use Prim.Native.Nat.{_-_, _≤_}
 use borrow.Author.Needs.{needs}
 use Rattle.replay_towers.proofs.tower.complex.Statement.{statement}

@@ -1,4 +1,4 @@
--- `towers::tower::corners` meets its contract: at most 4 times 4,096. Assumes nothing.
+-- `replay_towers::tower::corners` meets its contract: at most 4 times 4,096. Assumes nothing.
 use mathlib.Core.Path.{refl}
 use native.Mathlib.Omega.{arith}
 use native.Mathlib.Nat.{mul-le-mul-right}

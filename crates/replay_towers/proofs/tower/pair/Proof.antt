@@ -1,4 +1,4 @@
--- `towers::tower::pair` meets its contract: the middle complex has as many corners as its cells say. Assumes nothing.
+-- `replay_towers::tower::pair` meets its contract: the middle complex has as many corners as its cells say. Assumes nothing.
 use mathlib.Core.Path.{sym}
 use Rattle.replay_towers.proofs.Naming.{part-long}
 use borrow.Author.Needs.{needs}

@@ -1,4 +1,4 @@
--- `towers::tower::pairs` meets its contract: a goes from 1 to r. Assumes nothing.
+-- `replay_towers::tower::pairs` meets its contract: a goes from 1 to r. Assumes nothing.
 use Prim.Native.Nat.{_+_, _-_, _≤_, _<_}
 use borrow.Author.Needs.{needs}
 use Rattle.replay_towers.proofs.tower.pairs.Statement.{statement}

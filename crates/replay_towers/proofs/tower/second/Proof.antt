@@ -1,4 +1,4 @@
--- `towers::tower::second` meets its contract: the words have as many corners as the single refinement. Assumes nothing.
+-- `replay_towers::tower::second` meets its contract: the words have as many corners as the single refinement. Assumes nothing.
 use mathlib.Core.Path.{sym, subst, _∙_}
 use Prim.Native.Nat.{ℕ, _+_, _*_, _≤_}
 use native.Mathlib.Omega.{arith}

@@ -1,4 +1,4 @@
--- `towers::tower::single` meets its contract: the words have as many corners as its cells say. Assumes nothing.
+-- `replay_towers::tower::single` meets its contract: the words have as many corners as its cells say. Assumes nothing.
 use mathlib.Core.Path.{sym}
 use native.Mathlib.Omega.{arith}
 use Rattle.replay_towers.proofs.Naming.{part-long}

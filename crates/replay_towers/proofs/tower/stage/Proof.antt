@@ -1,4 +1,4 @@
--- `towers::tower::stage` meets its contract: the births have at most 4 numbers each. Assumes nothing.
+-- `replay_towers::tower::stage` meets its contract: the births have at most 4 numbers each. Assumes nothing.
 use mathlib.Core.Path.{sym, _∙_}
 use native.Mathlib.Omega.{arith}
 use Rattle.replay_towers.proofs.Naming.{part-long}

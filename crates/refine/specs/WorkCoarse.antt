@@ -11,9 +11,9 @@ use Rattle.lists.specs.Rows.{cut}
 use Rattle.complex.specs.Check.{Passed}
 use Rattle.complex.specs.Cells.{cellsOf}
 use Rattle.complex.specs.Facets.{Crowded}
-use Rattle.complex_cells.specs.Made.{Made}
+use Rattle.complex_cells.specs.WorkMade.{Made}
 use Rattle.refine_results.specs.Refined.{coarse}
-use Rattle.refine_results.specs.Flat.{Along}
+use Rattle.refine_results.specs.WorkFlat.{Along}
 
 -- checked words, and room for their cells and their facets
 pub record Listing (d : ℕ) (ws cells keys rows spare counts : List ℕ) : Type 0 where

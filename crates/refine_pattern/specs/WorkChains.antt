@@ -38,7 +38,7 @@ stepOf d n c =
 -- a cursor of dimension d within the limits: its base has d digits, and its order is one of the orders
 pub record Stands (d R : ℕ) (c : Cursor) : Type 0 where
   pub axes : d ≤ mostDimension
-  pub times : R ≤ mostRefinement
+  pub most : R ≤ mostRefinement
   pub wide : d ≤ length (c .base)
   pub order : c .order < length (orders d)
 
@@ -63,5 +63,5 @@ pub record Fits (d R : ℕ) (c : Cursor) (n : ℕ) : Type 0 where
 -- a cell to be refined, and room for the weights of R^d children with d + 1 corners
 pub record Ready (d R n : ℕ) : Type 0 where
   pub axes : d ≤ mostDimension
-  pub times : R ≤ mostRefinement
+  pub most : R ≤ mostRefinement
   pub room : R ^ d * (suc d * suc d) ≤ n

@@ -7,7 +7,7 @@ use lib.ListN.{length}
 use Rattle.refusal.specs.Limits.{mostDimension, mostCells, mostVertices}
 use Rattle.lists.specs.Rows.{cut}
 use Rattle.refine_results.specs.declared.Refinement.{Refinement}
-use Rattle.refine_results.specs.Flat.{Along}
+use Rattle.refine_results.specs.WorkFlat.{Along}
 use Rattle.refine_results.specs.Results.{Results, Lengths, lengthsOf, Inside, Finishes, Stored}
 
 -- room for c children of cells of dimension d with n vertices, refined by R

@@ -7,7 +7,7 @@ use lib.ListN.{length, getD, take, drop}
 use Rattle.lists.specs.Rows.{cut, rows, flat}
 use Rattle.sorting.specs.Gather.{row}
 use Rattle.complex.specs.Cells.{inOrder}
-use Rattle.complex_cells.specs.Made.{Made}
+use Rattle.complex_cells.specs.WorkMade.{Made}
 use Rattle.ordering.specs.Order.{wordOf, byCell, Orders}
 
 -- m order words of n numbers below b, as many cells in `cells`, and room

@@ -7,7 +7,7 @@ use Rattle.refusal.specs.Limits.{mostDimension, mostRefinement}
 use Rattle.lists.specs.Rows.{cut, flat}
 use Rattle.sorting.specs.Gather.{row}
 use Rattle.multiindex.specs.Sort.{sortWord}
-use Rattle.refine_lattice.specs.Complex.{times}
+use Rattle.refine_lattice.specs.Complex.{occurrences}
 use Rattle.refine_lattice.specs.Pattern.{patternOf}
 use Rattle.refine_lattice.specs.Refine.{words}
 
@@ -16,14 +16,14 @@ pub record Along (d n m : ℕ) (along cells : List ℕ) : Type 0 where
   pub along-long : m * suc d ≤ length along
   pub cells-long : m * suc d ≤ length cells
   pub below : (i : ℕ) → i < m * suc d → getD along i 0 < n
-  pub plain : (a : ℕ) → a < m → (v : ℕ) → times (row along (suc d) a) v ≤ 1
+  pub plain : (a : ℕ) → a < m → (v : ℕ) → occurrences (row along (suc d) a) v ≤ 1
   pub matched : (a : ℕ) → a < m → sortWord (row along (suc d) a) ≡ row cells (suc d) a
 
 -- the pattern and the children's words
 pub record Refining (d R n m : ℕ) (along cells pattern names : List ℕ) : Type 0 where
   pub dim : d ≤ mostDimension
   pub some : 0 < R
-  pub times : R ≤ mostRefinement
+  pub most : R ≤ mostRefinement
   pub words-of : Along d n m along cells
   pub pattern-is : take (R ^ d * (suc d * suc d)) pattern ≡ flat (patternOf d R)
   pub names-long : m * R ^ d * suc d ≤ length names

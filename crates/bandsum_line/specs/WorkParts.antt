@@ -24,9 +24,9 @@ unfoldable pub begins : ℕ → List ℕ → Bool
 begins b [] = false
 begins b (x ∷ r) = eqb x b
 
-abbrev pub numberOf : List ℕ → Number → Front ℕ
-numberOf bs Number.Nothing = nothing
-numberOf bs (Number.Upto n at) = front n (drop at bs)
+abbrev pub numberReadOf : List ℕ → Number → Front ℕ
+numberReadOf bs Number.Nothing = nothing
+numberReadOf bs (Number.Upto n at) = front n (drop at bs)
 
 abbrev pub setOf : List ℕ → AxisSet → Front ℕ
 setOf bs AxisSet.Nothing = nothing

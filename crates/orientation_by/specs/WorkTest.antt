@@ -6,11 +6,11 @@ use Prim.Native.Nat.{ℕ, zero, suc, _/_, _<_, _≤_}
 use lib.IntN.{ℤ, pos, negsuc}
 use lib.ListN.{length, getD}
 use Rattle.complex_mates.specs.Table.{none}
-use Rattle.orientation_walk.specs.Signs.{turned}
-use Rattle.orientation_walk.specs.Signs as walk
+use Rattle.orientation_walk.specs.WorkSigns.{turned}
+use Rattle.orientation_walk.specs.WorkSigns as walk
 use Rattle.multiindex.specs.Sign.{Sign}
 use Rattle.orientation_signs.specs.Signs.{Coherent}
-use Rattle.orientation_signs.specs.Found.{signOf, Finding}
+use Rattle.orientation_signs.specs.WorkFound.{signOf, Finding}
 use Rattle.orientation_by.specs.Promise.{Given}
 
 -- the mark of a number: 1 for +1, 2 for -1, and 0 for any other

@@ -8,7 +8,7 @@ use lib.ListN.{length, getD, take, drop}
 use Rattle.refusal.specs.Limits.{mostDimension}
 use Rattle.sorting.specs.Gather.{row}
 use Rattle.refine_jacobian.specs.Entries.{wholeOf, floatOf}
-use Rattle.refine_jacobian.specs.Weights.{weightOf, Seated}
+use Rattle.refine_jacobian.specs.WorkWeights.{weightOf, Seated}
 
 -- the lists `f 0`, `f 1`, .. `f (m - 1)`, one after the other
 abbrev pub joined : {A : Type 0} → ℕ → (ℕ → List A) → List A

@@ -18,14 +18,14 @@ signOf (suc zero) = plus
 signOf (suc (suc n)) = minus
 
 -- and as it is handed out
-abbrev pub numberOf : ℕ → ℤ
-numberOf zero = negsuc 0
-numberOf (suc zero) = pos 1
-numberOf (suc (suc n)) = negsuc 0
+abbrev pub markNumber : ℕ → ℤ
+markNumber zero = negsuc 0
+markNumber (suc zero) = pos 1
+markNumber (suc (suc n)) = negsuc 0
 
 abbrev pub handedOut : List ℕ → List ℤ
 handedOut [] = []
-handedOut (n ∷ ns) = numberOf n ∷ handedOut ns
+handedOut (n ∷ ns) = markNumber n ∷ handedOut ns
 
 -- what the search for signs asks
 pub record Finding (d m : ℕ) (rows keys spare counts : List ℕ) : Type 0 where

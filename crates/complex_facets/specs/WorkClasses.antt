@@ -7,7 +7,7 @@ use lib.ListN.{length, getD}
 use Rattle.complex_mates.specs.Table.{none, Grouped}
 use Rattle.complex.specs.Facets.{Crowded, slots}
 use Rattle.complex.specs.Skeleton.{facetsOf, rowsWith, onlyIf}
-use Rattle.complex_cells.specs.Named.{Named}
+use Rattle.complex_cells.specs.WorkNamed.{Named}
 
 -- among the first n rows, another row of each class than its first, or none
 pub record Seconds (n : ℕ) (reps ids others : List ℕ) : Type 0 where

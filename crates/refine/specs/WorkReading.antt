@@ -13,7 +13,7 @@ use Rattle.complex.specs.Cells.{cellsOf}
 use Rattle.complex.specs.Facets.{Crowded}
 use Rattle.ordering.specs.Order.{Orders}
 use Rattle.refine_results.specs.Refined.{coarse, orderWords}
-use Rattle.refine_results.specs.Flat.{Along}
+use Rattle.refine_results.specs.WorkFlat.{Along}
 
 -- the words refined by: the caller's where an order is given, else the cells' sorted vertices
 abbrev pub wordsBy : Bool → ℕ → List ℕ → List ℕ → List (List ℕ)

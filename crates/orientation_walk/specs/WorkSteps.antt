@@ -5,7 +5,7 @@ use mathlib.Core.Path.{_≡_}
 use mathlib.Core.List.{List, _++_}
 use lib.ListN.{length, getD, set, replicate, drop}
 use mathlib.Core.Bool.{Bool, true, false}
-use Rattle.orientation_walk.specs.Signs.{turned, Table, Oriented, Coherent}
+use Rattle.orientation_walk.specs.WorkSigns.{turned, Table, OrientedMarks, CoherentMarks}
 
 -- how many of g's first n entries are 0
 abbrev pub blank : ℕ → ℕ
@@ -155,9 +155,9 @@ pub record Looks (n k : ℕ) (o fl : List ℕ) (g t : List ℕ) (g' t' : List �
 
 -- what the walk's answer says
 pub record Answer (n k : ℕ) (o fl : List ℕ) (g t g' t' : List ℕ) (ok : Bool) (looks : ℕ) : Type 0 where
-  pub yes : ok ≡ true → Oriented n k o fl (λ c. getD g' c 0)
+  pub yes : ok ≡ true → OrientedMarks n k o fl (λ c. getD g' c 0)
   pub whole : ok ≡ true → looks ≡ n * k
   pub run : ok ≡ true → Pieces k o fl (wiped n g) t n n g' t'
-  pub no : ok ≡ false → (σ : ℕ → ℕ) → Coherent n k o fl σ → ⊥
+  pub no : ok ≡ false → (σ : ℕ → ℕ) → CoherentMarks n k o fl σ → ⊥
   pub part : ok ≡ false → Looks n k o fl (wiped n g) t g' t' looks
   pub most : looks ≤ n * k

@@ -15,13 +15,13 @@ use Rattle.multiindex.specs.Permutation.{tab}
 use Rattle.refine_lattice.specs.Pattern.{patternOf}
 use Rattle.refine_lattice.specs.Refine.{births, vertices}
 use Rattle.refine_jacobian.specs.Entries.{shareOf}
-use Rattle.refine_children.specs.Family.{joined, wholeAt, floatAt, Families}
+use Rattle.refine_children.specs.WorkFamily.{joined, wholeAt, floatAt, Families}
 use Rattle.refine_births.specs.Promise.{Supports, Resolved, birthVertices, birthWeights}
 use Rattle.refine_results.specs.declared.Refinement.{Refinement}
 use Rattle.refine_results.specs.declared.Refinement.the-variants.{Made, Refused}
-use Rattle.refine_results.specs.Flat.{Refining}
+use Rattle.refine_results.specs.WorkFlat.{Refining}
 use Rattle.refine_results.specs.Results.{Results, Lengths, Holds, Inside}
-use Rattle.refine_results.specs.Stage.{Ready}
+use Rattle.refine_results.specs.WorkStage.{Ready}
 
 -- the test whether R is a refinement number
 pub record Tested (R : ℕ) (r : Bool) : Type 0 where
