@@ -131,6 +131,9 @@ module _ (g : Grid) (fine : checkOf g ≡ Fine) where
   pub size-most : length (gluedCells g) * suc (g .d) ≤ mostCorners
   size-most = le-trans (mul-le-mul-right (suc (g .d)) cells-most) corners-most
 
+  pub cells-corners : length (gluedCells g) ≤ mostCorners
+  cells-corners = omega (arith, cells-most, taken-cells g fine)
+
   -- a cell has d + 1 vertices
   each-most : Each (λ v. length v ≤ suc (g .d)) (gluedCells g)
   each-most =

@@ -1,9 +1,10 @@
 -- What the calls say where a grid is taken and the lists are long enough: never 12. Assumes nothing.
-use mathlib.Core.Bool.{Bool, true, false, cond}
+use mathlib.Core.Bool.{Bool, true, false}
 use mathlib.Core.List.{List, []}
 use mathlib.Core.Path.{_≡_, refl, sym, ap, _∙_, subst}
 use Prim.Native.Nat.{ℕ, _+_, _*_, _≤_}
 use native.Mathlib.Omega.{arith}
+use lib.IntN.{ℤ, pos}
 use lib.ListN.{length, take, drop, replicate, length-append, length-replicate}
 use lib.Seq.{take-at}
 use Rattle.refusal.specs.declared.Answer.{Answer}
@@ -28,10 +29,13 @@ use Rattle.skeleton.specs.Promise.Ends.{crowded as list-crowded, rest as list-r
 use Rattle.skeleton.specs.Promise as Skeleton
 use Rattle.skeleton.specs.Parts.{edgeNeed}
 use Rattle.skeleton.proofs.Steps.{room-most}
+use Rattle.orientation.specs.declared.Coherence.{Coherence}
+use Rattle.orientation.specs.declared.Coherence.the-variants as Coherence
+use Rattle.orientation.specs.Promise.{Orientation}
+use Rattle.orientation.specs.Promise.Ends.{crowded as signs-crowded, one-sided, short as signs-short, signed}
+use Rattle.orientation.specs.Promise as Signs
 use Rattle.quotient.specs.declared.Grid.{Grid}
-use Rattle.quotient.specs.declared.Parity.the-variants as Parity
-use Rattle.quotient.specs.Fold.{some}
-use Rattle.quotient.specs.Shape.{checkOf, cellCount, verticesOf, nverticesOf, reflectsOdd, parityOf}
+use Rattle.quotient.specs.Shape.{checkOf, cellCount, verticesOf, nverticesOf}
 use Rattle.grid_words.specs.Cells.{flatWords}
 use Rattle.grid_words.proofs.Corners.{dim}
 use Rattle.grid_words.proofs.Good.{words-pass}
@@ -46,14 +50,17 @@ use Rattle.grid_order.specs.Promise as Order
 use Rattle.grid_order.specs.Promise.{Handed, nothing, orderRoom, HandsOut, TriangulateOrdered}
 use Rattle.bandsum_lines.specs.declared.Summary.{Summary}
 use Rattle.bandsum_sums.specs.declared.Sum.the-variants.{Told, Refused}
-use Rattle.bandsum_sums.specs.Promise.{sidesOf, summaryOf, Sound, SumsOf}
+use Rattle.bandsum_sums.specs.Promise.{SidesOf, two, one, Sound, SumsOf}
 use Rattle.bandsum_sums.specs.Promise as Promise
-use Rattle.bandsum_sums.specs.Work.{mostCorners, mostListed, countOf, sidesAs, Triangulates, Glued, HasWords, HasCells}
+use Rattle.bandsum_sums.specs.Work.{mostCorners, mostListed, countOf, sidesAs, Triangulates, Glued, HasWords, HasCells, Tells}
 use Rattle.bandsum_sums.specs.Work as Work
-use Rattle.bandsum_sums.proofs.Bounds.{corners-most, words-most, size-most, edges-fit, border-fits}
+use Rattle.bandsum_sums.proofs.Bounds.{corners-most, words-most, size-most, cells-corners, edges-fit, border-fits}
 
 pub zeros : (n : ℕ) → n ≤ length (replicate {A = ℕ} n 0)
 zeros n = omega (arith, length-replicate {A = ℕ} n 0)
+
+pub no-signs : (n : ℕ) → n ≤ length (replicate {A = ℤ} n (pos 0))
+no-signs n = omega (arith, length-replicate {A = ℤ} n (pos 0))
 
 -- ---- a call that comes to an end: its checks say Fine and there is room
 module _ {S H : Type 0} (no : ℕ → ℕ → S) (nothing : H) (checked : Answer) (need have : Room) (Ends : S → H → Type 0) where
@@ -101,14 +108,6 @@ module _ (g : Grid) (fine : checkOf g ≡ Answer.Fine) where
   pub taken-counted : countOf (nverticesOf g) ≡ verticesOf g
   unfolding nverticesOf
   taken-counted = rw fine
-
-  pub taken-sides : sidesAs (parityOf g) ≡ sidesOf g
-  unfolding parityOf
-  taken-sides = rw fine (go (some (reflectsOdd g) (g .d)))
-    where
-      go : (b : Bool) → sidesAs (cond b Parity.Odd Parity.Even) ≡ cond b 1 2
-      go true = refl
-      go false = refl
 
 -- ---- the order
 module _ (g : Grid) (cells order keys rows spare counts : List ℕ) (lc : mostCorners ≤ length cells) (lo : mostCorners ≤ length order) (lk : mostListed + mostCorners + mostCorners ≤ length keys) (lr : mostCorners ≤ length rows) (ls : mostCorners ≤ length spare) (ln : mostCorners ≤ length counts) where
@@ -181,10 +180,30 @@ module _ (g : Grid) (ws : List ℕ) (w : HasWords g ws) (r : Counted) (out out�
       (subst (λ (n : ℕ). Roomy (needOf (g .d) n) (lengths keys rows spare counts)) (sym long-words) (grid-roomy g (w .sound .taken) keys rows spare counts lk lr ls ln)) (omega (arith, ap (λ (l : List (List ℕ)). length (flat l)) e, border-fits g (w .sound .taken))) t
       ∙ ap length e
 
+-- ---- the sides, by the signs of words that are those of the grid
+module _ (g : Grid) (ws : List ℕ) (w : HasWords g ws) (signs : List ℤ) (keys rows spare counts : List ℕ) (lg : mostCorners ≤ length signs) (lk : mostListed ≤ length keys) (lr : mostCorners ≤ length rows) (ls : mostCorners ≤ length spare) (ln : mostCorners ≤ length counts) where
+  sides-end : (r : Coherence) (h : List ℤ) → Signs.Ends (g .d) (gluedCells g) (length signs) r h → SidesOf g (sidesAs r)
+  sides-end r h (signs-crowded x) = absurd (w .sound .free x)
+  sides-end r h (one-sided f n) = one n
+  sides-end r h (signs-short f σ o l) = absurd (let x : ⊥ = omega (arith, cells-corners g (w .sound .taken)) in x)
+  sides-end r h (signed f σ o l) = two σ (o .coherent)
+
+  pub sides-are : (r : Coherence) (signs′ : List ℤ) (keys′ rows′ spare′ counts′ : List ℕ) → Orientation (g .d) ws r signs signs′ keys keys′ rows rows′ spare spare′ counts counts′ → SidesOf g (sidesAs r)
+  sides-are r signs′ keys′ rows′ spare′ counts′ t =
+      sides-end r (t .handed)
+      (subst (λ (l : List ℕ). Signs.Ends (g .d) (Complex.cellsOf (g .d) l) (length signs) r (t .handed)) (w .same)
+      (comes-end Coherence.Refused [] (answerOf (g .d) ws) (needOf (g .d) (length ws)) (lengths keys rows spare counts) (Signs.Ends (g .d) (Complex.cellsOf (g .d) ws) (length signs)) fine room (t .comes)))
+    where
+      fine : answerOf (g .d) ws ≡ Answer.Fine
+      fine = rw (w .same) (words-fine g (w .sound .taken))
+
+      room : Roomy (needOf (g .d) (length ws)) (lengths keys rows spare counts)
+      room = subst (λ (n : ℕ). Roomy (needOf (g .d) n) (lengths keys rows spare counts)) (sym (ap length (w .same) ∙ words-long g (w .sound .taken))) (grid-roomy g (w .sound .taken) keys rows spare counts lk lr ls ln)
+
 -- ---- the six things
-pub told-all : (g : Grid) (ordered : Bool) {cells vertices edges border sides : ℕ} → cells ≡ length (gluedCells g) → vertices ≡ verticesOf g → edges ≡ length (edgesOf (gluedCells g)) → border ≡ length (borderOf (g .d) (gluedCells g)) → sides ≡ sidesOf g →
-    _≡_ {A = Summary} (record { cells = cells; vertices = vertices; edges = edges; border = border; sides = sides; ordered = ordered }) (summaryOf g ordered)
-told-all g ordered c v e b s = rw (c, v, e, b, s)
+pub told-all : (g : Grid) (ordered : Bool) {cells vertices edges border sides : ℕ} → cells ≡ length (gluedCells g) → vertices ≡ verticesOf g → edges ≡ length (edgesOf (gluedCells g)) → border ≡ length (borderOf (g .d) (gluedCells g)) → SidesOf g sides →
+    Tells g ordered (record { cells = cells; vertices = vertices; edges = edges; border = border; sides = sides; ordered = ordered })
+told-all g ordered {sides = sides} c v e b s = record { sides = sides; right = s; same = rw (c, v, e, b) }
 
 -- ---- what is told, by what the triangulation says
 module _ (g : Grid) where
@@ -214,8 +233,8 @@ module _ (g : Grid) where
   sums-refused r n p (Work.ordered s o) f = let z : _≡_ {A = ℕ} 0 1 = cc in absurd (omega arith)
   sums-refused r n p (Work.unordered s o) f = let z : _≡_ {A = ℕ} 0 1 = cc in absurd (omega arith)
 
-  pub sums-ordered : (r : Triangulated) (m : ℕ) (s : Summary) → Triangulates g r → r ≡ Tri.Ordered m → s ≡ summaryOf g true → SumsOf g (Told s)
-  sums-ordered r m s t q e = let w = ordered-is r m t q in subst (λ (x : Summary). SumsOf g (Told x)) (sym e) (Promise.ordered (w .0) (w .1))
+  pub sums-ordered : (r : Triangulated) (m : ℕ) (s : Summary) → Triangulates g r → r ≡ Tri.Ordered m → Tells g true s → SumsOf g (Told s)
+  sums-ordered r m s t q e = let w = ordered-is r m t q in subst (λ (x : Summary). SumsOf g (Told x)) (sym (e .same)) (Promise.ordered (w .0) (e .right) (w .1))
 
-  pub sums-unordered : (r : Triangulated) (m : ℕ) (s : Summary) → Triangulates g r → r ≡ Tri.Unordered m → s ≡ summaryOf g false → SumsOf g (Told s)
-  sums-unordered r m s t q e = let w = unordered-is r m t q in subst (λ (x : Summary). SumsOf g (Told x)) (sym e) (Promise.unordered (w .0) (w .1))
+  pub sums-unordered : (r : Triangulated) (m : ℕ) (s : Summary) → Triangulates g r → r ≡ Tri.Unordered m → Tells g false s → SumsOf g (Told s)
+  sums-unordered r m s t q e = let w = unordered-is r m t q in subst (λ (x : Summary). SumsOf g (Told x)) (sym (e .same)) (Promise.unordered (w .0) (e .right) (w .1))

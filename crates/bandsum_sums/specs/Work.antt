@@ -1,4 +1,5 @@
 -- What the inner functions ask and give. Assumes nothing.
+use mathlib.Core.Bool.{Bool}
 use mathlib.Core.List.{List}
 use mathlib.Core.Path.{_≡_}
 use Prim.Native.Nat.{ℕ, _≤_}
@@ -8,16 +9,17 @@ use Rattle.refusal.specs.declared.Counted.{Counted}
 use Rattle.refusal.specs.declared.Counted.the-variants as Counted
 use Rattle.refusal.specs.Table.{crowdedFacet}
 use Rattle.complex.specs.Facets.{Crowded}
+use Rattle.orientation.specs.declared.Coherence.{Coherence}
+use Rattle.orientation.specs.declared.Coherence.the-variants as Coherence
 use Rattle.quotient.specs.declared.Grid.{Grid}
-use Rattle.quotient.specs.declared.Parity.{Parity}
-use Rattle.quotient.specs.declared.Parity.the-variants as Parity
 use Rattle.quotient.specs.Shape.{checkOf}
 use Rattle.grid_words.specs.Cells.{flatWords}
 use Rattle.grid_mesh.specs.Words.{gluedCells}
 use Rattle.grid_order.specs.declared.Triangulated.{Triangulated}
 use Rattle.grid_order.specs.declared.Triangulated.the-variants.{Ordered, Unordered, Refused}
 use Rattle.grid_order.specs.Promise.{HandsOut}
-use Rattle.bandsum_sums.specs.Promise.{Sound}
+use Rattle.bandsum_lines.specs.declared.Summary.{Summary}
+use Rattle.bandsum_sums.specs.Promise.{Sound, SidesOf, summaryOf}
 
 -- the most corners that the words of a grid have
 abbrev pub mostCorners : ℕ
@@ -32,10 +34,11 @@ abbrev pub countOf : Counted → ℕ
 countOf (Counted.Count n) = n
 countOf (Counted.Refused n p) = 0
 
-abbrev pub sidesAs : Parity → ℕ
-sidesAs Parity.Even = 2
-sidesAs Parity.Odd = 1
-sidesAs (Parity.Refused n p) = 0
+-- the sides, by what `orientation` says
+abbrev pub sidesAs : Coherence → ℕ
+sidesAs (Coherence.Signs cells looks) = 2
+sidesAs (Coherence.OneSided looks) = 1
+sidesAs (Coherence.Refused n p) = 0
 
 -- what `triangulate_ordered` says where every list is long enough
 pub data Triangulates (g : Grid) : Triangulated → Type 0 where
@@ -63,3 +66,9 @@ pub record HasWords (g : Grid) (words : List ℕ) : Type 0 where
 pub record HasCells (g : Grid) (cells : ℕ) : Type 0 where
   pub sound : Sound g
   pub same : cells ≡ length (gluedCells g)
+
+-- the six things, with the sides that the grid has
+pub record Tells (g : Grid) (ordered : Bool) (s : Summary) : Type 0 where
+  pub sides : ℕ
+  pub right : SidesOf g sides
+  pub same : s ≡ summaryOf g sides ordered

@@ -9,13 +9,13 @@ ghost use Rattle.refusal.specs.declared.Answer.the-variants.{Fine};
 ghost use Rattle.complex.specs.Skeleton.{edgesOf, borderOf};
 ghost use Rattle.quotient.specs.Shape.{checkOf, verticesOf};
 ghost use Rattle.grid_mesh.specs.Words.{gluedCells};
-ghost use Rattle.bandsum_sums.specs.Promise.{sidesOf, summaryOf, SumsOf, Printed};
-ghost use Rattle.bandsum_sums.specs.Work.{countOf, Triangulates, Fitting, Glued, HasWords, HasCells};
+ghost use Rattle.bandsum_sums.specs.Promise.{SidesOf, SumsOf, Printed};
+ghost use Rattle.bandsum_sums.specs.Work.{countOf, Triangulates, Fitting, Glued, HasWords, HasCells, Tells};
 use bandsum_line::Line;
 use bandsum_lines::Summary;
 use grid_order::Triangulated;
+use orientation::Coherence;
 use quotient::Grid;
-use quotient::Parity;
 use refusal::Counted;
 use text::Text;
 
@@ -130,34 +130,48 @@ fn vertices(grid: Grid) -> u32
     number(grid.nvertices())
 }
 
-// 2 where the gluing preserves orientation, else 1.
-fn sides(grid: Grid) -> u32
-    requires { ⌜ checkOf grid ≡ Fine ⌝ }
-    ensures { λ r. ⌜ r ≡ sidesOf grid ⌝ }
+// 2 where coherent signs of the grid's cells exist, else 1.
+fn sides(grid: Grid, words: &[u32]) -> u32
+    requires { ⌜ HasWords grid (now words) ⌝ }
+    ensures { λ r. ⌜ SidesOf grid r ⌝ }
 {
-    let parity = grid.is_orientation_preserving();
-    match parity {
-        Parity::Even => 2,
-        Parity::Odd => 1,
-        Parity::Refused(_, _) => 0,
+    let mut signs = [0i32; CORNERS];
+    let mut keys = [0u32; LISTED];
+    let mut rows = [0u32; CORNERS];
+    let mut spare = [0u32; CORNERS];
+    let mut counts = [0u32; CORNERS];
+    let said = orientation::orientation(
+        grid.d,
+        words,
+        &mut signs,
+        &mut keys,
+        &mut rows,
+        &mut spare,
+        &mut counts,
+    );
+    match said {
+        Coherence::Signs(_, _) => 2,
+        Coherence::OneSided(_) => 1,
+        Coherence::Refused(_, _) => 0,
     }
 }
 
 // The six things of a grid with as many cells, and an order or none.
 fn told(grid: Grid, cells: u32, ordered: bool) -> Summary
     requires { ⌜ HasCells grid cells ⌝ }
-    ensures { λ r. ⌜ r ≡ summaryOf grid ordered ⌝ }
+    ensures { λ r. ⌜ Tells grid ordered r ⌝ }
 {
     let mut words = [0u32; CORNERS];
     let len = write_words(grid, &mut words);
     let edges = edges(grid, &words[..len]);
     let border = border(grid, &words[..len]);
+    let sides = sides(grid, &words[..len]);
     Summary {
         cells,
         vertices: vertices(grid),
         edges,
         border,
-        sides: sides(grid),
+        sides,
         ordered,
     }
 }

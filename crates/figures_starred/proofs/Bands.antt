@@ -20,8 +20,8 @@ use Rattle.orientation_signs.proofs.Unique.{forced}
 use Rattle.orientation.specs.declared.Coherence.the-variants as Coherence
 use Rattle.orientation.specs.Promise as Orientation
 use Rattle.quotient.specs.declared.Grid.{Grid}
-use Rattle.quotient.specs.Fold.{firstFrom, product, some, count}
-use Rattle.quotient.specs.Shape.{axisOf, badSet, checkOf, verticesOf, oddSet}
+use Rattle.quotient.specs.Fold.{firstFrom, product, some}
+use Rattle.quotient.specs.Shape.{axisOf, badSet, checkOf, verticesOf}
 use Rattle.quotient.specs.Reduce.{restAt, reflectedBy, numberTo}
 use Rattle.quotient.specs.Points.{fromDigits}
 use Rattle.grid_words.specs.Cells.{met, gridCells}
@@ -34,7 +34,7 @@ use Rattle.bandsum_line.specs.declared.Line.the-variants as Line
 use Rattle.bandsum_line.specs.Grammar.{andThen, after, digitsFrom, countFrom, setFrom, glueFrom, gluedFrom, axisFrom, axisAt, gridFrom, lineEnds, ended, readLine}
 use Rattle.bandsum_lines.specs.declared.Summary.{Summary}
 use Rattle.bandsum_lines.specs.Lines.{linesOf}
-use Rattle.bandsum_sums.specs.Promise.{sidesOf, Prints, six}
+use Rattle.bandsum_sums.specs.Promise.{SidesOf, two, Prints, six}
 use Rattle.bandsum_sums.specs.Promise.SumsOf.{ordered as told-ordered}
 use Rattle.figures_starred.specs.Starred.{band, ring, ringLine}
 use Rattle.figures_starred.proofs.Tests.{coherent-by, agree-by, free-by}
@@ -140,16 +140,19 @@ unfolding readLine ended lineEnds gridFrom axisAt axisFrom gluedFrom glueFrom se
 ring-read = refl
 
 abbrev ringSummary : Words → Summary
-ringSummary cs = record { cells = length cs; vertices = verticesOf ring; edges = length (edgesOf cs); border = length (borderOf 2 cs); sides = sidesOf ring; ordered = true }
+ringSummary cs = record { cells = length cs; vertices = verticesOf ring; edges = length (edgesOf cs); border = length (borderOf 2 cs); sides = 2; ordered = true }
 
 ring-summary : ringSummary ringCells ≡ record { cells = 6; vertices = 6; edges = 12; border = 6; sides = 2; ordered = true }
-unfolding inColex place placed comesBefore decides tab numbers keep product some oddSet count axisOf
+unfolding inColex place placed comesBefore decides tab numbers keep product axisOf
 ring-summary = refl
+
+ring-two : SidesOf ring 2
+ring-two = two ring-sign (subst (λ (cs : Words). Coherent 2 cs ring-sign) (sym ring-cells) (ring-signs .coherent))
 
 pub ring-prints : Prints ringLine (linesOf (record { cells = 6; vertices = 6; edges = 12; border = 6; sides = 2; ordered = true }))
 ring-prints =
     subst (λ (s : Summary). Prints ringLine (linesOf s)) (ap ringSummary ring-cells ∙ ring-summary)
-    (six ring-read (told-ordered (record { taken = ring-taken; free = subst (λ (cs : Words). Crowded 2 cs → ⊥) (sym ring-cells) ring-free }) ring-hands-out))
+    (six ring-read (told-ordered (record { taken = ring-taken; free = subst (λ (cs : Words). Crowded 2 cs → ⊥) (sym ring-cells) ring-free }) ring-two ring-hands-out))
 
 -- ---- 3×1, axis 0 twisted over 1
 abbrev bandCells : Words

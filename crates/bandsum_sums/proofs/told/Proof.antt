@@ -30,14 +30,22 @@ slice-aggregate-border c = sym (length-take-le _ _ (c .before .before .before .b
 border-requires : tie.Need-border-requires
 border-requires c κs = search needs
 
-vertices-requires : tie.Need-vertices-requires
-vertices-requires c κs = search needs
+array-share-prefix-words-3 : tie.Need-array-share-prefix-words-3
+array-share-prefix-words-3 c = search needs
+
+slice-aggregate-sides : tie.Need-slice-aggregate-sides
+slice-aggregate-sides c = sym (length-take-le _ _ (c .before .before .before .before .before .before .write-words .ensures .many))
 
 sides-requires : tie.Need-sides-requires
 sides-requires c κs = search needs
 
+vertices-requires : tie.Need-vertices-requires
+vertices-requires c κs = search needs
+
 returns : tie.Need-returns
-returns c = told-all (c .before .before .before .before .before .before .before .before .before .args .grid) (c .before .before .before .before .before .before .before .before .before .args .ordered) (c .before .before .before .before .before .before .before .before .before .pre .same) (c .before .vertices .ensures) (c .before .before .before .before .edges .ensures) (c .before .before .border .ensures) (c .sides .ensures)
+returns c =
+    let s = c .before .before .before .before .before .before .before .before .before .before in
+    told-all (s .args .grid) (s .args .ordered) (s .pre .same) (c .vertices .ensures) (c .before .before .before .before .before .edges .ensures) (c .before .before .before .border .ensures) (c .before .sides .ensures)
 
 pub told-spec : {M : Type 1} → statement M
 told-spec =
@@ -51,6 +59,8 @@ told-spec =
     array-share-prefix-words-2
     slice-aggregate-border
     border-requires
-    vertices-requires
+    array-share-prefix-words-3
+    slice-aggregate-sides
     sides-requires
+    vertices-requires
     returns)
