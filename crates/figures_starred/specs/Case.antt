@@ -7,7 +7,7 @@ use lib.ListN.{length, replicate}
 use Rattle.refusal.specs.declared.Answer.{Answer}
 use Rattle.refusal.specs.declared.Counted.{Counted}
 use Rattle.lists.specs.Rows.{flat}
-use Rattle.multiindex.specs.Permutation.{upto}
+use Rattle.lists.specs.Tables.{upto}
 use Rattle.orientation.specs.Promise as Orientation
 use Rattle.quotient.specs.declared.Grid.{Grid}
 use Rattle.quotient.specs.Shape.{checkOf}

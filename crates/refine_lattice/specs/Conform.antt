@@ -3,7 +3,8 @@ use mathlib.Core.Path.{_≡_}
 use mathlib.Core.Logic.{_⊎_}
 use mathlib.Core.List.{List, [], _∷_}
 use Prim.Native.Nat.{ℕ, zero, suc, _-_, _≤_, _<_}
-use Rattle.refine_lattice.specs.Complex.{Words, same, times, Complex, AgreeOnFaces, AgreeOnFacets}
+use Rattle.lists.specs.Words.{same}
+use Rattle.refine_lattice.specs.Complex.{Words, times, Complex, AgreeOnFaces, AgreeOnFacets}
 
 -- how often `v` stands in `k` where one `x` is left out: the vertices of the facet of `k` against `x`
 abbrev pub rest : List ℕ → ℕ → ℕ → ℕ
