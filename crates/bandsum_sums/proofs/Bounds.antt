@@ -15,7 +15,9 @@ use Rattle.multiindex.proofs.SortLaws.{sort-length}
 use Rattle.complex.specs.Cells as Complex
 use Rattle.complex.specs.Cells.{comesBefore, placed, place}
 use Rattle.complex.specs.Facets.{cellAt, facetAt, slots}
-use Rattle.complex.specs.Skeleton.{inColex, pairsOf, allPairs, edgesOf, tab, facetRowOf, facetsOf, rowsWith, keepIf, keep, borderOf}
+use Rattle.lists.specs.Tables.{tab}
+use Rattle.lists.proofs.Tables.{length-tab}
+use Rattle.complex.specs.Skeleton.{inColex, pairsOf, allPairs, edgesOf, facetRowOf, facetsOf, rowsWith, keepIf, keep, borderOf}
 use Rattle.complex_cells.proofs.Words.{Word, Each, In, each-in, each-of, in-at, at-in}
 use Rattle.complex_mates.proofs.Meeting.{slots-most}
 use Rattle.ordering.proofs.Orders.{order-length}
@@ -69,11 +71,6 @@ keep-in p (w ∷ ws) v m = go (p w) (λ r. keep-in p ws v r) m
     go true f (inr r) = inr (f r)
     go false f r = inr (f r)
 
-tab-long : (n : ℕ) (f : ℕ → Word) → length (tab n f) ≡ n
-unfolding tab
-tab-long zero f = refl
-tab-long (suc n) f = omega (arith, length-append (tab n f) (f n ∷ []), tab-long n f)
-
 -- ---- edges and facets of cells of at most four vertices
 pairs-most : (w : Word) → length w ≤ 4 → length (pairsOf w) ≤ 6
 pairs-most [] h = omega arith
@@ -107,7 +104,7 @@ border-most d cs h =
     let r = facets-from d cs v (keep-in _ (facetsOf d cs) v m) in
     subst (λ (z : Word). length z ≤ d) (r .3) (facet-most d (cellAt cs (r .0)) (r .1) (h (r .0) (r .2 .cell)) (r .2 .place))) in
     let n : length (borderOf d cs) ≤ length cs * slots d =
-    omega (arith, keep-most (λ f. eqb (length (rowsWith d cs f)) 1) (facetsOf d cs), colex-most d (tab (length cs * slots d) (facetRowOf d cs)), tab-long (length cs * slots d) (facetRowOf d cs)) in
+    omega (arith, keep-most (λ f. eqb (length (rowsWith d cs f)) 1) (facetsOf d cs), colex-most d (tab (length cs * slots d) (facetRowOf d cs)), length-tab (length cs * slots d) (facetRowOf d cs)) in
     le-trans (flat-most d (borderOf d cs) e) (mul-le-mul-right d n)
 
 -- ---- a grid that is taken

@@ -3,14 +3,14 @@ use mathlib.Core.Path.{_≡_, refl}
 use mathlib.Core.List.{List, [], _∷_}
 use Prim.Native.Nat.{ℕ}
 use Rattle.refusal.specs.declared.Answer.the-variants.{Fine, Refused}
-use Rattle.lists.specs.Words.{either, among, hasRepeat, largestOf, foundAt, firstWhere}
+use Rattle.lists.specs.Words.{among, hasRepeat, largestOf, foundAt, firstWhere}
 use Rattle.lists.specs.Rows.{cut}
 use Rattle.complex.specs.Cells.{decides, comesBefore, placed, place, inOrder, cellsOf}
 use Rattle.complex.specs.Check.{answerOf}
 use Rattle.multiindex.specs.Sort.{insertBy, insert, sortWord, addIf, smaller, inversions}
 
 triangle : answerOf 2 (0 ∷ 1 ∷ 2 ∷ []) ≡ Fine
-unfolding answerOf either among hasRepeat largestOf foundAt firstWhere
+unfolding answerOf among hasRepeat largestOf foundAt firstWhere
 triangle = refl
 
 dimension : answerOf 4 [] ≡ Refused 1 0
@@ -27,22 +27,22 @@ ragged = refl
 
 -- words 0,0,1: 4
 twice : answerOf 2 (0 ∷ 0 ∷ 1 ∷ []) ≡ Refused 4 0
-unfolding answerOf either among hasRepeat largestOf foundAt firstWhere
+unfolding answerOf among hasRepeat largestOf foundAt firstWhere
 twice = refl
 
 -- the second word is the first that names a vertex twice
 second : answerOf 1 (0 ∷ 9999 ∷ 1 ∷ 1 ∷ 2 ∷ 2 ∷ []) ≡ Refused 4 1
-unfolding answerOf either among hasRepeat largestOf foundAt firstWhere
+unfolding answerOf among hasRepeat largestOf foundAt firstWhere
 second = refl
 
 -- 6 comes before 5
 high : answerOf 1 (7 ∷ 4096 ∷ []) ≡ Refused 6 0
-unfolding answerOf either among hasRepeat largestOf foundAt firstWhere
+unfolding answerOf among hasRepeat largestOf foundAt firstWhere
 high = refl
 
 -- words 0,1,3 alone: 5
 unused : answerOf 2 (0 ∷ 1 ∷ 3 ∷ []) ≡ Refused 5 2
-unfolding answerOf either among hasRepeat largestOf foundAt firstWhere
+unfolding answerOf among hasRepeat largestOf foundAt firstWhere
 unused = refl
 
 sorted : sortWord (2 ∷ 3 ∷ 0 ∷ []) ≡ 0 ∷ 2 ∷ 3 ∷ []

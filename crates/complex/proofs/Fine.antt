@@ -10,7 +10,8 @@ use lib.ListN.{length}
 use borrow.Author.Tests.{lt-ltb, le-ltb, lt-leb, eq-eqb, ne-eqb, ltb-false, leb-false, eqb-true, eqb-false, not-true, not-false}
 use Rattle.refusal.specs.declared.Answer.{Answer}
 use Rattle.refusal.specs.declared.Answer.the-variants.{Fine, Refused}
-use Rattle.lists.specs.Words.{among, hasRepeat, largestOf, wordAt, foundAt, firstWhere}
+use Rattle.lists.specs.Rows.{row}
+use Rattle.lists.specs.Words.{among, hasRepeat, largestOf, foundAt, firstWhere}
 use Rattle.refusal.specs.Refuse.{refuse}
 use Rattle.refusal.proofs.Chain.{refuse-fine}
 use Rattle.complex.specs.Check.{answerOf, Passed}
@@ -62,7 +63,7 @@ fine-passed d ws e =
       some-words = eqb-false _ _ (r2 .0);
       whole = eqb-true _ _ (not-false _ (r3 .0));
       few = ltb-false _ _ (r4 .0);
-      apart = first-full (λ k. hasRepeat (wordAt (d + 1) ws k)) _ (ltb-false _ _ (r5 .0));
+      apart = first-full (λ k. hasRepeat (row ws (d + 1) k)) _ (ltb-false _ _ (r5 .0));
       low = leb-false _ _ (r6 .0);
       used = λ v h. not-false _ (first-full (λ u. not (among u ws)) (largestOf ws) (ltb-false _ _ (r7 .0)) v h);
     }
@@ -76,7 +77,7 @@ passed-fine d ws p =
       ne-eqb _ _ (p .some-words),
       eq-eqb _ _ (p .whole),
       le-ltb _ _ (p .few),
-      first-none (λ k. hasRepeat (wordAt (d + 1) ws k)) (length ws / (d + 1)) (p .apart),
+      first-none (λ k. hasRepeat (row ws (d + 1) k)) (length ws / (d + 1)) (p .apart),
       le-ltb _ _ (le-refl (length ws / (d + 1))),
       lt-leb _ _ (p .low),
       first-none (λ v. not (among v ws)) (largestOf ws) (λ v h. ap not (p .used v h)),

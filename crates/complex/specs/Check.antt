@@ -10,11 +10,12 @@ use Rattle.refusal.specs.declared.Answer.the-variants.{Fine, Refused}
 use Rattle.refusal.specs.Refuse.{refuse}
 use Rattle.refusal.specs.Limits.{mostDimension, mostCells, mostVertices}
 use Rattle.refusal.specs.Table.{badDimension, raggedWords, tooManyCells, vertexTwice, unusedNumber, tooManyVertices}
-use Rattle.lists.specs.Words.{among, either, hasRepeat, largestOf, wordAt, firstWhere}
+use Rattle.lists.specs.Rows.{row}
+use Rattle.lists.specs.Words.{among, hasRepeat, largestOf, firstWhere}
 
 -- which word is the first that names a vertex twice: the number of words, where none does
 abbrev pub firstRepeat : ℕ → List ℕ → ℕ → ℕ
-firstRepeat n ws count = firstWhere (λ k. hasRepeat (wordAt n ws k)) count
+firstRepeat n ws count = firstWhere (λ k. hasRepeat (row ws n k)) count
 
 -- the least number below the largest that no word has: the largest, where there is none
 abbrev pub leastUnused : List ℕ → ℕ
@@ -40,6 +41,6 @@ pub record Passed (d : ℕ) (ws : List ℕ) : Type 0 where
   pub some-words : length ws ≡ 0 → ⊥
   pub whole : length ws % (d + 1) ≡ 0
   pub few : length ws / (d + 1) ≤ mostCells
-  pub apart : (k : ℕ) → k < length ws / (d + 1) → hasRepeat (wordAt (d + 1) ws k) ≡ false
+  pub apart : (k : ℕ) → k < length ws / (d + 1) → hasRepeat (row ws (d + 1) k) ≡ false
   pub low : largestOf ws < mostVertices
   pub used : (v : ℕ) → v < largestOf ws → among v ws ≡ true

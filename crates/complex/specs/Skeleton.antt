@@ -4,6 +4,8 @@ use mathlib.Core.List.{List, [], _∷_, _++_}
 use Prim.Native.Nat.{ℕ, zero, suc, _-_, _*_, _/_, _%_}
 use lib.Dec.{eqb}
 use lib.ListN.{length}
+use Rattle.lists.specs.Words.{sameWord}
+use Rattle.lists.specs.Tables.{tab}
 use Rattle.complex.specs.Cells.{place}
 use Rattle.complex.specs.Facets.{cellAt, facetAt, slots}
 
@@ -34,25 +36,9 @@ edgesOf cs = inColex 2 (allPairs cs)
 abbrev pub facetRowOf : ℕ → List (List ℕ) → ℕ → List ℕ
 facetRowOf d cs x = facetAt (cellAt cs (x / slots d)) (d - x % slots d)
 
--- f 0, f 1, .. f (n - 1)
-unfoldable pub tab : ℕ → (ℕ → List ℕ) → List (List ℕ)
-tab zero f = []
-tab (suc n) f = tab n f ++ (f n ∷ [])
-
 -- the facets of the cells
 abbrev pub facetsOf : ℕ → List (List ℕ) → List (List ℕ)
 facetsOf d cs = inColex d (tab (length cs * slots d) (facetRowOf d cs))
-
--- whether two words are the same
-abbrev pub both : Bool → Bool → Bool
-both true b = b
-both false b = false
-
-abbrev pub sameWord : List ℕ → List ℕ → Bool
-sameWord [] [] = true
-sameWord [] (y ∷ w) = false
-sameWord (x ∷ v) [] = false
-sameWord (x ∷ v) (y ∷ w) = both (eqb x y) (sameWord v w)
 
 -- the numbers below n that pass the test, rising
 abbrev pub onlyIf : Bool → ℕ → List ℕ

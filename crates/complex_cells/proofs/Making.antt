@@ -13,18 +13,17 @@ use Rattle.lists.proofs.Laws.{front-part}
 use Rattle.sorting.specs.Bucket.{cell}
 use Rattle.lists.proofs.Members.{All, Pairs, All-of, All-at, Pairs-at}
 use Rattle.sorting.specs.Order.{ColexLt, SameRow, Table}
-use Rattle.sorting.specs.Gather.{row}
 use Rattle.sorting.proofs.Colex.{row-cell, row-length, same-row}
 use Rattle.sorting.specs.Distinct.{Distinct}
 use Rattle.sorting.specs.Gather.{rowsOf}
 use Rattle.sorting.proofs.Rows.{RowIn, rowsOf-cell, pos-room}
-use Rattle.lists.specs.Words.{hasRepeat, largestOf, wordAt}
+use Rattle.lists.specs.Words.{hasRepeat, largestOf}
 use Rattle.lists.proofs.Words.{below-largest}
 use Rattle.complex.specs.Check.{Passed}
 use Rattle.multiindex.specs.Sort.{sortWord, sortWords}
 use Rattle.multiindex.proofs.SortLaws.{sort-length}
 use Rattle.multiindex.proofs.WordsLaws.{words-length}
-use Rattle.lists.specs.Rows.{cut}
+use Rattle.lists.specs.Rows.{cut, row}
 use Rattle.complex.specs.Cells.{inOrder, cellsOf}
 use Rattle.lists.proofs.Rows.{cut-length, cut-at}
 use Rattle.complex.specs.Facets.{cellAt, Cells}

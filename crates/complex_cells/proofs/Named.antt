@@ -7,10 +7,10 @@ use native.Mathlib.Nat.{suc-mul, mul-le-mul-right, le-refl}
 use native.Mathlib.Omega.{arith}
 use lib.ListN.{length, getD, take, drop}
 use lib.Seq.{length-take-le, getD-take}
-use Rattle.lists.specs.Rows.{flat}
+use Rattle.lists.specs.Rows.{flat, row}
 use Rattle.sorting.specs.Bucket.{cell}
 use Rattle.sorting.specs.Order.{SameRow}
-use Rattle.sorting.specs.Gather.{row, rowsOf}
+use Rattle.sorting.specs.Gather.{rowsOf}
 use Rattle.sorting.specs.Distinct.{Distinct}
 use Rattle.sorting.proofs.Colex.{row-length, same-row}
 use Rattle.complex.specs.Cells.{place}

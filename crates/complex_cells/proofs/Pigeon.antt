@@ -1,5 +1,5 @@
 -- In a list with no gap the largest number is below the length. Assumes nothing.
-use mathlib.Core.Bool.{Bool, true, false}
+use mathlib.Core.Bool.{Bool, true, false, _||_}
 use mathlib.Core.List.{List, [], _∷_, _++_}
 use mathlib.Core.Path.{_≡_, refl, sym, ap, _∙_, subst}
 use mathlib.Core.Logic.{_⊎_, inl, inr, ⊎-elim}
@@ -11,14 +11,14 @@ use lib.Dec.{eqb}
 use lib.ListN.{length}
 use borrow.Author.Tests.{eqb-true}
 use Rattle.lists.proofs.Members.{Mem}
-use Rattle.lists.specs.Words.{either, among, largestOf}
+use Rattle.lists.specs.Words.{among, largestOf}
 
 among-mem : (v : ℕ) (ws : List ℕ) → among v ws ≡ true → Mem v ws
-unfolding among either
+unfolding among
 among-mem v [] e = let z : _≡_ {A = ℕ} 0 1 = cc in absurd (omega arith)
 among-mem v (x ∷ xs) e = go (eqb x v) refl e (among-mem v xs)
   where
-    go : (t : Bool) → eqb x v ≡ t → either t (among v xs) ≡ true → (among v xs ≡ true → Mem v xs) → Mem v (x ∷ xs)
+    go : (t : Bool) → eqb x v ≡ t → (t || among v xs) ≡ true → (among v xs ≡ true → Mem v xs) → Mem v (x ∷ xs)
     go true p e r = inl (eqb-true x v p)
     go false p e r = inr (r e)
 

@@ -10,16 +10,12 @@ use lib.Dec.{ltb, eqb}
 use lib.ListN.{length, getD, take, drop}
 use borrow.Author.Tests.{ltb-true, ltb-false, eqb-true, eqb-false, eq-eqb, ne-eqb}
 use Rattle.lists.proofs.Members.{All, Pairs, All-map, All-at, Pairs-at, All-of}
-use Rattle.lists.specs.Words.{either, among, hasRepeat, largestOf}
+use Rattle.lists.specs.Words.{among, hasRepeat, largestOf}
+use Rattle.lists.proofs.Words.{or-false}
 use Rattle.multiindex.specs.Sort.{insertBy, insert, sortWord}
 
 false-true : _≡_ false true → ⊥
 false-true e = let z : _≡_ {A = ℕ} 0 1 = cc in omega arith
-
-either-false : (a b : Bool) → either a b ≡ false → (a ≡ false) × (b ≡ false)
-unfolding either
-either-false true b e = absurd (false-true (sym e))
-either-false false b e = (refl, e)
 
 -- ---- what insertion and sorting keep
 module _ (P : ℕ → Type 0) where
@@ -45,7 +41,7 @@ absent : (v : ℕ) (ws : List ℕ) → among v ws ≡ false → Absent v ws
 unfolding among
 absent v [] e = tt
 absent v (x ∷ xs) e =
-    let r = either-false (eqb x v) (among v xs) e in
+    let r = or-false (eqb x v) (among v xs) e in
     (eqb-false x v (r .0), absent v xs (r .1))
 
 insert-strict : (x : ℕ) (ys : List ℕ) → Absent x ys → Pairs (λ a b. a < b) ys → Pairs (λ a b. a < b) (insert x ys)
@@ -64,5 +60,5 @@ pub sort-strict : (w : List ℕ) → hasRepeat w ≡ false → Pairs (λ a b. a 
 unfolding hasRepeat sortWord
 sort-strict [] e = tt
 sort-strict (x ∷ w) e =
-    let r = either-false (among x w) (hasRepeat w) e in
+    let r = or-false (among x w) (hasRepeat w) e in
     insert-strict x (sortWord w) (sort-all (λ y. y ≡ x → ⊥) w (absent x w (r .0))) (sort-strict w (r .1))

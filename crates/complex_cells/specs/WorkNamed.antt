@@ -3,7 +3,7 @@ use mathlib.Core.List.{List, [], _∷_}
 use mathlib.Core.Path.{_≡_}
 use Prim.Native.Nat.{ℕ, _+_, _*_, _<_, _≤_}
 use lib.ListN.{length, getD, take}
-use Rattle.sorting.specs.Gather.{row}
+use Rattle.lists.specs.Rows.{row}
 
 -- the rows of a flat list that a list of numbers names
 abbrev pub rowList : List ℕ → ℕ → List ℕ → List (List ℕ)

@@ -11,18 +11,15 @@ use lib.ListN.{length, getD, take, drop}
 use lib.Seq.{length-take-le}
 use Rattle.sorting.specs.Bucket.{cell}
 use Rattle.sorting.specs.Order.{Table}
-use Rattle.sorting.specs.Gather.{row}
 use Rattle.sorting.specs.Distinct.{Distinct}
 use Rattle.sorting.proofs.Colex.{row-length, row-cell}
-use Rattle.lists.specs.Rows.{cut}
-use Rattle.lists.proofs.Rows.{cut-length, cut-at}
+use Rattle.lists.specs.Rows.{cut, row}
+use Rattle.lists.proofs.Rows.{cut-length, cut-at, row-in, row-div, row-mod, row-fits, row-cell-below, row-slot-below}
 use Rattle.complex.specs.Facets.{cellAt, Cells}
 use Rattle.complex.specs.Skeleton.{pairsWith, pairsOf, allPairs, edgesOf}
 use Rattle.complex_cells.specs.WorkNamed.{Named}
 use Rattle.complex_cells.proofs.Words.{Word, In}
 use Rattle.complex_cells.proofs.Named.{named}
-use Rattle.complex_mates.proofs.Laws.{row-fits, row-cell-below, row-slot-below}
-use Rattle.complex_mates.proofs.Places.{row-in, row-div, row-mod}
 use Rattle.complex_edges.specs.WorkPairs.{PairAt, Writing, Edging}
 
 -- ---- pairs of a word

@@ -8,7 +8,7 @@ use native.Mathlib.Numerals.{add-one}
 use native.Mathlib.Omega.{arith}
 use lib.ListN.{length, getD, set, length-set}
 use lib.Seq.{getD-set-same, getD-set-other}
-use Rattle.complex_mates.proofs.Laws.{row-fits, slots-some, row-cell-below, row-slot-below}
+use Rattle.lists.proofs.Rows.{row-fits, row-cell-below, row-slot-below, slots-some}
 use Rattle.complex_edges.specs.WorkPairs.{PairAt, Writing}
 
 -- what a turn of the loop knows

@@ -12,13 +12,13 @@ use lib.ListN.{length, getD, take, drop, set, length-append, List·getD-append}
 use lib.Seq.{take-suc, take-at, length-take-le, getD-take, getD-append-seam}
 use borrow.Author.Tests.{eq-eqb, ne-eqb}
 use Rattle.lists.proofs.Front.{put}
-use Rattle.sorting.specs.Gather.{row}
+use Rattle.lists.specs.Rows.{row}
 use Rattle.complex.specs.Facets.{Crowded}
 use Rattle.complex.specs.Skeleton.{facetsOf, rowsWith, onlyIf, keepIf, keep, borderOf}
 use Rattle.complex_cells.specs.WorkNamed.{rowList, Naming, Named}
 use Rattle.complex_cells.proofs.Words.{Word}
 use Rattle.complex_cells.proofs.Named.{rowList-append, rowList-at}
-use Rattle.complex_mates.specs.Table.{none}
+use Rattle.lists.specs.Words.{none}
 use Rattle.complex_facets.specs.WorkClasses.{Classes, loneRows}
 
 -- ---- the loop

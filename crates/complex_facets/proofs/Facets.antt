@@ -10,22 +10,23 @@ use lib.ListN.{length, getD, take, drop, replicate, length-replicate, getD-repli
 use lib.Seq.{length-take-le, getD-take}
 use Rattle.sorting.specs.Bucket.{cell}
 use Rattle.sorting.specs.Order.{SameRow}
-use Rattle.sorting.specs.Gather.{row}
 use Rattle.sorting.specs.Distinct.{Distinct}
 use Rattle.sorting.proofs.Colex.{row-same, same-row}
 use Rattle.sorting.proofs.Firsts.{id-eq, id-row, id-rep}
-use Rattle.lists.specs.Rows.{cut}
-use Rattle.lists.proofs.Rows.{cut-length, cut-at}
+use Rattle.lists.specs.Rows.{cut, row}
+use Rattle.lists.proofs.Rows.{cut-length, cut-at, row-fits, row-cell-below}
 use Rattle.complex.specs.Facets.{cellAt, facetAt, Crowded, Cells, slots}
-use Rattle.complex.specs.Skeleton.{inColex, tab, facetRowOf, facetsOf, sameWord, numbers, rowsWith}
+use Rattle.lists.specs.Tables.{tab}
+use Rattle.lists.specs.Words.{sameWord, none}
+use Rattle.complex.specs.Skeleton.{inColex, facetRowOf, facetsOf, numbers, rowsWith}
 use Rattle.complex_cells.specs.WorkNamed.{rowList, Naming, Named}
 use Rattle.complex_cells.proofs.Words.{Word, In}
 use Rattle.complex_cells.proofs.Named.{named, rowList-at}
-use Rattle.complex_mates.specs.Table.{none, Written, Grouped, Three, Meeting}
-use Rattle.complex_mates.proofs.Laws.{row-fits, row-cell-below}
+use Rattle.complex_mates.specs.Table.{Written, Grouped, Three, Meeting}
 use Rattle.complex_mates.proofs.Meeting.{crowd, grouped, slots-most}
 use Rattle.complex_facets.specs.WorkClasses.{Seconds, Seeking, Classes}
-use Rattle.complex_facets.proofs.Numbers.{same-word, word-true, word-false, numbers-one, numbers-two, tab-in, in-tab}
+use Rattle.lists.proofs.Words.{same-word, word-true, word-false}
+use Rattle.complex_facets.proofs.Numbers.{numbers-one, numbers-two, tab-in, in-tab}
 
 module _ (d m b : ℕ) (keys rows spare counts : List ℕ) (a : Meeting d m b keys rows spare counts) (keys′ : List ℕ) (l : length keys′ ≡ length keys) (w : Written d (slots d) rows keys′ (m * slots d))
     (f : ℕ) (reps ids others : List ℕ) (q : Distinct (cell keys′ d) d (m * slots d) f reps ids) (lr : m * slots d ≤ length reps) (lo : length others ≡ m * slots d) (s : Seconds (m * slots d) reps ids others) (narrow : m * slots d * d < 4294967296) where

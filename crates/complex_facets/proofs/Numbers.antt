@@ -1,4 +1,4 @@
--- Equal words, and the numbers that pass a test where one or two do. Assumes nothing.
+-- The numbers that pass a test where one or two do. Assumes nothing.
 use mathlib.Core.Bool.{Bool, true, false}
 use mathlib.Core.List.{List, [], _∷_, _++_, append-nil}
 use mathlib.Core.Path.{_≡_, refl, sym, ap, _∙_, subst}
@@ -7,36 +7,12 @@ use Prim.Native.Nat.{ℕ, zero, suc, _+_, _*_, _<_, _≤_}
 use native.Mathlib.Nat.{eq-or-lt-of-le}
 use native.Mathlib.Decide.{ℕ-discrete}
 use native.Mathlib.Omega.{arith}
-use lib.Dec.{eqb}
 use lib.ListN.{length, getD}
 use borrow.Author.Tests.{eq-eqb, eqb-true}
-use Rattle.complex.specs.Skeleton.{tab, both, sameWord, onlyIf, numbers}
+use Rattle.lists.specs.Tables.{tab}
+use Rattle.lists.proofs.Tables.{tab-more}
+use Rattle.complex.specs.Skeleton.{onlyIf, numbers}
 use Rattle.complex_cells.proofs.Words.{Word, In}
-
--- ---- equal words
-pub same-word : (v w : Word) → sameWord v w ≡ true → v ≡ w
-same-word [] [] e = refl
-same-word [] (y ∷ w) e = let z : _≡_ {A = ℕ} 0 1 = cc in absurd (omega arith)
-same-word (x ∷ v) [] e = let z : _≡_ {A = ℕ} 0 1 = cc in absurd (omega arith)
-same-word (x ∷ v) (y ∷ w) e = go (eqb x y) refl e (same-word v w)
-  where
-    go : (t : Bool) → eqb x y ≡ t → both t (sameWord v w) ≡ true → (sameWord v w ≡ true → v ≡ w) → x ∷ v ≡ y ∷ w
-    go true p e r = let a = eqb-true x y p in let b = r e in cc
-    go false p e r = let z : _≡_ {A = ℕ} 0 1 = cc in absurd (omega arith)
-
-word-same : (v : Word) → sameWord v v ≡ true
-word-same [] = refl
-word-same (x ∷ v) = rw (eq-eqb x x refl) (word-same v)
-
-pub word-true : (v w : Word) → v ≡ w → sameWord v w ≡ true
-word-true v w e = ap (λ (z : Word). sameWord v z) (sym e) ∙ word-same v
-
-pub word-false : (v w : Word) → (v ≡ w → ⊥) → sameWord v w ≡ false
-word-false v w n = go (sameWord v w) refl
-  where
-    go : (t : Bool) → sameWord v w ≡ t → sameWord v w ≡ false
-    go true e = absurd (n (same-word v w e))
-    go false e = e
 
 -- ---- numbers that pass a test
 module _ (p : ℕ → Bool) where
@@ -80,13 +56,12 @@ in-snoc r y (x ∷ xs) (inl e) = inl (inl e)
 in-snoc r y (x ∷ xs) (inr m) = ⊎-elim (λ k. inl (inr k)) (λ e. inr e) (in-snoc r y xs m)
 
 pub tab-in : (n : ℕ) (f : ℕ → Word) (x : ℕ) → x < n → In (f x) (tab n f)
-unfolding tab
 tab-in zero f x h = absurd (omega arith)
 tab-in (suc n) f x h =
-    ⊎-elim (λ (e : x ≡ n). rw e (in-last (f n) (tab n f))) (λ (l : x < n). in-left (f x) (tab n f) (f n ∷ []) (tab-in n f x l)) (eq-or-lt-of-le (omega arith))
+    subst (In (f x)) (sym (tab-more n f))
+    (⊎-elim (λ (e : x ≡ n). rw e (in-last (f n) (tab n f))) (λ (l : x < n). in-left (f x) (tab n f) (f n ∷ []) (tab-in n f x l)) (eq-or-lt-of-le (omega arith)))
 
 pub in-tab : (n : ℕ) (f : ℕ → Word) (w : Word) → In w (tab n f) → (x : ℕ) × (x < n) × (f x ≡ w)
-unfolding tab
 in-tab zero f w m = absurd m
 in-tab (suc n) f w m =
-    ⊎-elim (λ (k : In w (tab n f)). let r = in-tab n f w k in (r .0, omega (arith, r .1), r .2)) (λ (e : f n ≡ w). (n, omega arith, e)) (in-snoc w (f n) (tab n f) m)
+    ⊎-elim (λ (k : In w (tab n f)). let r = in-tab n f w k in (r .0, omega (arith, r .1), r .2)) (λ (e : f n ≡ w). (n, omega arith, e)) (in-snoc w (f n) (tab n f) (subst (In w) (tab-more n f) m))

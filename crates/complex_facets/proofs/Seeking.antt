@@ -8,7 +8,7 @@ use native.Mathlib.Decide.{ℕ-discrete}
 use native.Mathlib.Omega.{arith}
 use lib.ListN.{length, getD, set, length-set}
 use lib.Seq.{getD-set-same, getD-set-other}
-use Rattle.complex_mates.specs.Table.{none}
+use Rattle.lists.specs.Words.{none}
 use Rattle.complex_facets.specs.WorkClasses.{Seconds, Seeking}
 
 pub seconds-none : (reps ids others : List ℕ) → ((i : ℕ) → i < length others → getD others i 0 ≡ none) → Seconds 0 reps ids others

@@ -17,7 +17,7 @@ use Rattle.complex.specs.Skeleton.{facetsOf, rowsWith}
 use Rattle.complex_cells.specs.WorkNamed.{Named}
 use Rattle.complex_cells.proofs.Words.{Word}
 use Rattle.complex_cells.proofs.Named.{named-many}
-use Rattle.complex_mates.specs.Table.{none}
+use Rattle.lists.specs.Words.{none}
 use Rattle.complex_facets.specs.WorkClasses.{Classes}
 use Rattle.complex_facets.specs.Sides.{sideOf, sidesOf, eachSides, tableOf, orNone, cellOf, placeOf, fourOf, fours}
 

@@ -4,7 +4,8 @@ use mathlib.Core.Path.{_≡_}
 use Prim.Native.Nat.{ℕ, zero, suc, _*_, _<_, _≤_}
 use lib.Dec.{eqb}
 use lib.ListN.{length, getD}
-use Rattle.complex_mates.specs.Table.{none, Grouped}
+use Rattle.lists.specs.Words.{none}
+use Rattle.complex_mates.specs.Table.{Grouped}
 use Rattle.complex.specs.Facets.{Crowded, slots}
 use Rattle.complex.specs.Skeleton.{facetsOf, rowsWith, onlyIf}
 use Rattle.complex_cells.specs.WorkNamed.{Named}

@@ -3,17 +3,18 @@ use mathlib.Core.List.{List, [], _∷_, _++_, append-assoc}
 use mathlib.Core.Path.{_≡_, refl, sym, ap, _∙_, subst}
 use mathlib.Core.Logic.{⊎-elim}
 use Prim.Native.Nat.{ℕ, zero, suc, _+_, _-_, _*_, _/_, _%_, _<_, _≤_}
-use native.Mathlib.Nat.{suc-mul, mul-le-mul-right, eq-or-lt-of-le, mod-lt, div-add-mod', div-lt-iff-lt-mul}
+use native.Mathlib.Nat.{suc-mul, mul-le-mul-right, eq-or-lt-of-le}
 use native.Mathlib.Omega.{arith}
 use lib.ListN.{length, getD, take, drop, length-append, length-drop, take-append-drop, List·getD-append}
 use lib.Seq.{length-take-le, getD-take, getD-drop, getD-append-add, take-at, drop-at, take-append-le, drop-append-le}
 use Rattle.lists.proofs.Laws.{front-part}
-use Rattle.sorting.specs.Gather.{row}
+use Rattle.lists.specs.Rows.{row}
 use Rattle.sorting.proofs.Colex.{row-length}
+use Rattle.lists.proofs.Rows.{row-fits, slots-some, row-cell-below, row-slot-below, part-row}
 use Rattle.complex.specs.Facets.{facetAt}
 use Rattle.complex_mates.specs.Table.{Kept, facetRow, Written, Writing}
 use native.Mathlib.Numerals.{add-one}
-use native.Mathlib.Nat.{mul-le-mul-left, add-sub-cancel-left}
+use native.Mathlib.Nat.{mul-le-mul-left}
 use native.Mathlib.Decide.{decLt}
 
 -- ---- a facet
@@ -72,32 +73,10 @@ module _ (d x : ℕ) (keys ys : List ℕ) (fits : x * d + d ≤ length keys) (lo
   put-length =
       omega (arith, length-append (take (x * d) keys) (ys ++ drop d (drop (x * d) keys)), length-append ys (drop d (drop (x * d) keys)), length-drop d (drop (x * d) keys), length-drop (x * d) keys, length-take-le (x * d) keys (omega arith))
 
--- row x is in its place
-pub row-fits : (x n d len : ℕ) → x < n → n * d ≤ len → x * d + d ≤ len
-row-fits x n d len h l = omega (arith, suc-mul x d, mul-le-mul-right d h)
-
 -- one row more
 pub written-more : (d k : ℕ) (cells keys keys′ : List ℕ) (x : ℕ) → Written d k cells keys x → ((y : ℕ) → y < x → row keys′ d y ≡ row keys d y) → row keys′ d x ≡ facetRow d k cells x → Written d k cells keys′ (x + 1)
 written-more d k cells keys keys′ x w old new y h =
     ⊎-elim (λ (e : y ≡ x). rw e new) (λ (l : y < x). old y l ∙ w y l) (eq-or-lt-of-le (omega arith))
-
--- the cell and the slot of a row
-module _ (x m k : ℕ) (h : x < m * k) where
-  pub slots-some : 0 < k
-  slots-some = elim-zero k h
-    where
-      elim-zero : (k : ℕ) → x < m * k → 0 < k
-      elim-zero zero l = absurd (omega (arith, l))
-      elim-zero (suc k) l = omega arith
-
-  pub row-cell-below : x / k < m
-  row-cell-below = div-lt-iff-lt-mul slots-some .1 h
-
-  pub row-slot-below : x % k < k
-  row-slot-below = mod-lt x slots-some
-
-  pub row-is : x / k * k + x % k ≡ x
-  row-is = div-add-mod' x k
 
 pub writing-few : (d k m : ℕ) (cells keys : List ℕ) → Writing d k m cells keys → m * k < 4294967295
 writing-few d k m cells keys w = omega (arith, mul-le-mul-left m (w .few), w .small)
@@ -111,17 +90,10 @@ writing-turn d k m cells keys keys′ x w e h =
       slot = omega (arith, row-slot-below x m k h, w .few);
     }
 
--- a part of n numbers from a on
-pub part-size : (l : List ℕ) (a n : ℕ) → a + n ≤ length l → length (take (a + n - a) (drop a l)) ≡ n
-part-size l a n h = rw (add-sub-cancel-left a n) (length-take-le n (drop a l) (rw length-drop (omega arith)))
-
-pub part-row : (l : List ℕ) (q d : ℕ) → take (q * (d + 1) + (d + 1) - q * (d + 1)) (drop (q * (d + 1)) l) ≡ row l (suc d) q
-part-row l q d = rw (add-sub-cancel-left (q * (d + 1)) (d + 1), add-one d)
-
 -- what a turn wrote
 module _ (d k m : ℕ) (cells keys : List ℕ) (x : ℕ) (t : Turn d k m cells keys x) (ys : List ℕ) (e : ys ≡ facetAt (take (x / k * (d + 1) + (d + 1) - x / k * (d + 1)) (drop (x / k * (d + 1)) cells)) (d - x % k)) where
   pub wrote : ys ≡ facetRow d k cells x
-  wrote = e ∙ ap (λ (w : List ℕ). facetAt w (d - x % k)) (part-row cells (x / k) d)
+  wrote = e ∙ ap (λ (w : List ℕ). facetAt w (d - x % k)) (part-row cells (d + 1) (x / k) ∙ ap (λ (n : ℕ). row cells n (x / k)) (add-one d))
 
   pub wrote-length : length ys ≡ d
   wrote-length =

@@ -9,15 +9,15 @@ use lib.ListN.{length, getD, take, drop, replicate, length-replicate, getD-repli
 use lib.Seq.{length-take-le}
 use Rattle.sorting.specs.Bucket.{cell}
 use Rattle.sorting.specs.Order.{SameRow, Table}
-use Rattle.sorting.specs.Gather.{row}
 use Rattle.sorting.proofs.Colex.{row-same, same-row, row-cell, row-length}
 use Rattle.sorting.specs.Distinct.{Distinct}
 use Rattle.sorting.proofs.Firsts.{id-eq, id-row, id-rep}
-use Rattle.lists.specs.Rows.{cut}
-use Rattle.lists.proofs.Rows.{cut-length, cut-at}
+use Rattle.lists.specs.Rows.{cut, row}
+use Rattle.lists.proofs.Rows.{cut-length, cut-at, row-fits, row-cell-below, row-slot-below, row-is, slots-some}
 use Rattle.complex.specs.Facets.{cellAt, facetAt, FacetOf, Mates, Crowded, Cells, slots}
-use Rattle.complex_mates.specs.Table.{none, facetRow, Written, Writing, Grouped, Paired, Three, Meet, MateTable, Meeting}
-use Rattle.complex_mates.proofs.Laws.{facet-length, facet-before, facet-after, facets-differ, row-fits, slots-some, row-cell-below, row-slot-below, row-is}
+use Rattle.lists.specs.Words.{none}
+use Rattle.complex_mates.specs.Table.{facetRow, Written, Writing, Grouped, Paired, Three, Meet, MateTable, Meeting}
+use Rattle.complex_mates.proofs.Laws.{facet-length, facet-before, facet-after, facets-differ}
 
 pub slots-most : (d : ℕ) → slots d ≤ suc d
 slots-most zero = omega arith

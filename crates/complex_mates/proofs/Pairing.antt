@@ -7,7 +7,8 @@ use native.Mathlib.Decide.{ℕ-discrete}
 use native.Mathlib.Omega.{arith}
 use lib.ListN.{length, getD, set, replicate, getD-replicate, length-set}
 use lib.Seq.{getD-set-same, getD-set-other}
-use Rattle.complex_mates.specs.Table.{none, Grouped, Paired, Three, Across}
+use Rattle.lists.specs.Words.{none}
+use Rattle.complex_mates.specs.Table.{Grouped, Paired, Three, Across}
 
 -- nothing is paired yet
 pub paired-none : (ids mates : List ℕ) → Paired 0 ids mates

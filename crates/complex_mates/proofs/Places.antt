@@ -2,19 +2,10 @@
 use mathlib.Core.List.{List}
 use mathlib.Core.Path.{_≡_, refl, sym, ap, _∙_, subst}
 use Prim.Native.Nat.{ℕ, zero, suc, _+_, _-_, _*_, _/_, _%_, _<_, _≤_}
-use native.Mathlib.Nat.{suc-mul, mul-le-mul-right, mul-add-div-right, div-eq-of-lt, add-zero, mul-add-mod-self-right, mod-eq-of-lt}
 use native.Mathlib.Omega.{arith}
 use lib.ListN.{length}
+use Rattle.lists.proofs.Rows.{row-in, row-div, row-mod}
 use Rattle.complex.specs.Facets.{FacetOf, slots}
-
-pub row-in : (c s m k : ℕ) → c < m → s < k → c * k + s < m * k
-row-in c s m k hc hs = omega (arith, suc-mul c k, mul-le-mul-right k hc)
-
-pub row-div : (c s k : ℕ) → s < k → (c * k + s) / k ≡ c
-row-div c s k h = mul-add-div-right (omega arith) c s ∙ ap (λ (x : ℕ). c + x) (div-eq-of-lt h) ∙ add-zero c
-
-pub row-mod : (c s k : ℕ) → s < k → (c * k + s) % k ≡ s
-row-mod c s k h = mul-add-mod-self-right c k s ∙ mod-eq-of-lt h
 
 pub slots-pos : (d : ℕ) → 0 < d → slots d ≡ suc d
 slots-pos zero h = absurd (omega arith)

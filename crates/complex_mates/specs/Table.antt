@@ -4,13 +4,9 @@ use mathlib.Core.List.{List, [], _∷_, _++_}
 use mathlib.Core.Path.{_≡_}
 use Prim.Native.Nat.{ℕ, zero, suc, _+_, _-_, _*_, _/_, _%_, _<_, _≤_}
 use lib.ListN.{length, getD, take, drop}
-use Rattle.sorting.specs.Gather.{row}
 use Rattle.complex.specs.Facets.{facetAt, slots, Mates, Cells}
-use Rattle.lists.specs.Rows.{cut}
-
--- no row
-abbrev pub none : ℕ
-none = 4294967295
+use Rattle.lists.specs.Rows.{cut, row}
+use Rattle.lists.specs.Words.{none}
 
 -- number j of a cell without position skip stands at r in the cell
 pub record Kept (skip j r : ℕ) : Type 0 where

@@ -4,10 +4,10 @@ ghost use mathlib.Core.Bool.{true, false};
 ghost use mathlib.Core.Path.{_≡_};
 ghost use Prim.Native.Nat.{ℕ, suc, _+_, _-_, _*_, _/_, _%_, _<_, _≤_};
 ghost use lib.ListN.{length, getD, replicate};
-ghost use Rattle.sorting.specs.Gather.{row};
-ghost use Rattle.lists.specs.Rows.{cut};
+ghost use Rattle.lists.specs.Rows.{cut, row};
 ghost use Rattle.complex.specs.Facets.{facetAt, slots, Cells, Crowded};
-ghost use Rattle.complex_mates.specs.Table.{none, Kept, Written, Writing, Grouped, Paired, Three, MateTable, Across, Crossing, Meeting};
+ghost use Rattle.lists.specs.Words.{none};
+ghost use Rattle.complex_mates.specs.Table.{Kept, Written, Writing, Grouped, Paired, Three, MateTable, Across, Crossing, Meeting};
 
 // No row: a facet in one cell has no mate.
 pub const NONE: u32 = 4294967295;

@@ -1,7 +1,7 @@
 -- A facet's record and the two enums to `Derive`, and what each function that a proof by hand cites says: its kinds, one for each parameter, and its clauses, of the arguments a, the result z and the parameters at exit e.
 -- Assumes nothing: these are definitions.
 use mathlib.Core.Path.{_≡_}
-use Prim.Native.Nat.{ℕ, _+_, _*_, _<_, _≤_, _^_}
+use Prim.Native.Nat.{ℕ, _+_, _*_, _<_, _≤_, _^_, min}
 use mathlib.Core.List.{[], _∷_}
 use lib.ListN.{length, set, getD}
 use mir.Syntax.{Ty, named, mut, imm, erased, w32, w64, tyInt, tyRef}
@@ -10,7 +10,7 @@ use Rattle.refusal.specs.Lent.{onto}
 use Rattle.refusal.proofs.Counted as C
 use Rattle.refusal.proofs.Counted.Laws as C′
 use Rattle.complex_records.specs.declared.Found.the-variants.{Facet, NoFacet}
-use Rattle.complex_records.specs.Record.{noFacet, recordAt, firstRecords, least, loneOf, bordering, foundAt}
+use Rattle.complex_records.specs.Record.{noFacet, recordAt, firstRecords, loneOf, bordering, foundAt}
 use Rattle.complex_records.specs.Fill.{fillAnswer, countOf, Filled}
 use Rattle.complex_records.proofs.Derive.{Says, Rc, Sc, sInt, rtF, fInt, pointee, now, rowR, pRec, rRec, pShrS, pMutS, pNum, rNum, rUnit}
 use Rattle.complex_records.proofs.Enums.{En, pEnum, rEnum}
@@ -100,10 +100,10 @@ abbrev pub fill-says : Says 2
 fill-says = record { ps = pShrS U 0 tt ∷ pMutS R 1 tt ∷ []; r = rEnum counted; Pre = λ κs a. Unit {0}; Post = λ κs a z e. Filled (now (a .0)) z (now (a .1 .0)) (now (e .1 .0)) }
 
 abbrev pub lesser-says : Says 0
-lesser-says = record { ps = pNum w64 ∷ pNum w64 ∷ []; r = rNum w64; Pre = λ κs a. Unit {0}; Post = λ κs a z e. z ≡ least (a .0) (a .1 .0) }
+lesser-says = record { ps = pNum w64 ∷ pNum w64 ∷ []; r = rNum w64; Pre = λ κs a. Unit {0}; Post = λ κs a z e. z ≡ min (a .0) (a .1 .0) }
 
 abbrev pub bump-says : Says 0
 bump-says = record { ps = pNum w64 ∷ pRec facet ∷ []; r = rNum w64; Pre = λ κs a. a .0 + 1 < 2 ^ 64; Post = λ κs a z e. z ≡ a .0 + loneOf (a .1 .0) }
 
 abbrev pub border-says : Says 1
-border-says = record { ps = pShrS R 0 tt ∷ pNum w64 ∷ []; r = rNum w64; Pre = λ κs a. Unit {0}; Post = λ κs a z e. z ≡ bordering (least (a .1 .0) (length (now (a .0)))) (now (a .0)) }
+border-says = record { ps = pShrS R 0 tt ∷ pNum w64 ∷ []; r = rNum w64; Pre = λ κs a. Unit {0}; Post = λ κs a z e. z ≡ bordering (min (a .1 .0) (length (now (a .0)))) (now (a .0)) }

@@ -15,7 +15,7 @@ use Rattle.refusal.specs.declared.Counted.the-variants.{Count}
 use Rattle.refusal.specs.Lent.{onto}
 use Rattle.refusal.specs.Table.{raggedWords, tooManyCells, tooShort}
 use Rattle.complex_records.specs.declared.FacetRec.{FacetRec}
-use Rattle.complex_records.specs.Record.{noFacet, recordAt, firstRecords, oneIf, bordering, pick, least}
+use Rattle.complex_records.specs.Record.{noFacet, recordAt, firstRecords, oneIf, bordering}
 use Rattle.complex_records.specs.Fill.{mostFacets, refuseCount, fillAnswer, countOf, handed, Filled}
 
 -- ---- the records written so far
@@ -38,14 +38,6 @@ pub bordering-most : (n : ℕ) (records : List FacetRec) → bordering n records
 unfolding bordering
 bordering-most zero records = zero≤
 bordering-most (suc n) records = omega (arith, bordering-most n records, one-most (eqb (getD records n noFacet .other) 4294967295))
-
--- ---- the lesser of two numbers is at most the second
-pick-most : (n m : ℕ) (t : Bool) → ltb n m ≡ t → pick t n m ≤ m
-pick-most n m true e = let h : n < m = ltb-true n m e in omega arith
-pick-most n m false e = omega arith
-
-pub least-most : (n m : ℕ) → least n m ≤ m
-least-most n m = pick-most n m (ltb n m) refl
 
 -- ---- the answer of `fill`: its count has room and is of the table, and what it hands out are that many records
 abbrev Said : ℕ → Bool → Bool → Bool → Counted

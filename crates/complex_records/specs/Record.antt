@@ -38,14 +38,6 @@ unfoldable pub bordering : ℕ → List FacetRec → ℕ
 bordering zero records = 0
 bordering (suc n) records = bordering n records + loneOf (getD records n noFacet)
 
--- the lesser of two numbers
-abbrev pub pick : Bool → ℕ → ℕ → ℕ
-pick true n m = n
-pick false n m = m
-
-abbrev pub least : ℕ → ℕ → ℕ
-least n m = pick (ltb n m) n m
-
 -- the i-th record, or that there is none
 abbrev pub foundIf : Bool → FacetRec → Found
 foundIf true r = Facet r

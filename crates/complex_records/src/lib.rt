@@ -6,10 +6,10 @@ use refusal::RAGGED_WORDS;
 use refusal::TOO_MANY_CELLS;
 use refusal::TOO_SHORT;
 ghost use mathlib.Core.Path.{_≡_};
-ghost use Prim.Native.Nat.{_<_, _≤_, _+_, _*_, _^_};
+ghost use Prim.Native.Nat.{_<_, _≤_, _+_, _*_, _^_, min};
 ghost use lib.ListN.{length, set, getD};
 ghost use Rattle.refusal.specs.Lent.{onto};
-ghost use Rattle.complex_records.specs.Record.{noFacet, recordAt, firstRecords, least, loneOf, bordering, foundAt};
+ghost use Rattle.complex_records.specs.Record.{noFacet, recordAt, firstRecords, loneOf, bordering, foundAt};
 ghost use Rattle.complex_records.specs.Fill.{fillAnswer, countOf, Filled};
 
 // The most facets that 4,096 cells have, four a cell: specs/Fill.antt has the same number.
@@ -139,7 +139,7 @@ pub fn fill(table: &[u32], records: &mut [FacetRec]) -> Counted
 
 // The lesser of two numbers.
 fn lesser(n: usize, m: usize) -> usize
-    ensures { λ r. ⌜ r ≡ least n m ⌝ }
+    ensures { λ r. ⌜ r ≡ min n m ⌝ }
 {
     if n < m { n } else { m }
 }
@@ -158,7 +158,7 @@ fn bump(count: usize, r: FacetRec) -> usize
 
 // How many of the first n records, or of all where there are fewer, have a facet that lies in one cell.
 pub fn border(records: &[FacetRec], n: usize) -> usize
-    ensures { λ r. ⌜ r ≡ bordering (least n (length (now (records .entry)))) (now (records .entry)) ⌝ }
+    ensures { λ r. ⌜ r ≡ bordering (min n (length (now (records .entry)))) (now (records .entry)) ⌝ }
 {
     let m = lesser(n, records.len());
     let mut count = 0;

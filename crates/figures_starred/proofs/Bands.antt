@@ -13,7 +13,7 @@ use Rattle.lists.specs.Words.{foundAt, firstWhere}
 use Rattle.multiindex.specs.Sort.{insertBy, insert, sortWord}
 use Rattle.multiindex.specs.Sign.{Sign, plus, minus, opposite, times}
 use Rattle.complex.specs.Cells.{decides, comesBefore, placed, place, inOrder, cellsOf}
-use Rattle.complex.specs.Skeleton.{inColex, edgesOf, tab, numbers, keep, borderOf}
+use Rattle.complex.specs.Skeleton.{inColex, edgesOf, numbers, keep, borderOf}
 use Rattle.complex.specs.Facets.{cellAt, facetAt, Mates, Crowded}
 use Rattle.orientation_signs.specs.Signs.{Coherent, here, across, Lowest, Oriented}
 use Rattle.orientation_signs.proofs.Unique.{forced}
@@ -26,7 +26,8 @@ use Rattle.quotient.specs.Reduce.{restAt, reflectedBy, numberTo}
 use Rattle.quotient.specs.Points.{fromDigits}
 use Rattle.grid_words.specs.Cells.{met, gridCells}
 use Rattle.grid_mesh.specs.Words.{gluedCells}
-use Rattle.ordering.specs.Order.{sameWord, wordIf, wordOf, byCell, keepUnless, without, IsOrder, AgreeOnFacets}
+use Rattle.lists.specs.Words.{sameWord, without}
+use Rattle.ordering.specs.Order.{wordIf, wordOf, byCell, IsOrder, AgreeOnFacets}
 use Rattle.grid_order.specs.declared.Triangulated.the-variants as Triangulated
 use Rattle.grid_order.specs.Promise.{ownWords, wordsByCell, HandsOut, cellsLength}
 use Rattle.grid_order.specs.Promise as Order
@@ -97,7 +98,7 @@ ring-oriented =
     (Orientation.signed ring-free ring-sign ring-signs (le-refl 6))
 
 each-ring : (c : ℕ) → c < 6 → sortWord (wordOf ringWords (cellAt ringCells c)) ≡ cellAt ringCells c
-unfolding sameWord wordIf wordOf sortWord insert insertBy
+unfolding wordIf wordOf sortWord insert insertBy
 each-ring zero h = refl
 each-ring (suc zero) h = refl
 each-ring (suc (suc zero)) h = refl
@@ -107,11 +108,11 @@ each-ring (suc (suc (suc (suc (suc zero))))) h = refl
 each-ring (suc (suc (suc (suc (suc (suc c)))))) h = absurd (let y : ⊥ = omega arith in y)
 
 ring-by : byCell ringWords ringCells ≡ ringOrder
-unfolding byCell sameWord wordIf wordOf sortWord insert insertBy
+unfolding byCell wordIf wordOf sortWord insert insertBy
 ring-by = refl
 
 ring-agree : AgreeOnFacets 2 ringCells ringOrder
-unfolding some without keepUnless
+unfolding some
 ring-agree = agree-by 2 ringCells ringOrder refl
 
 -- the words by cell, in numbers
@@ -143,7 +144,7 @@ abbrev ringSummary : Words → Summary
 ringSummary cs = record { cells = length cs; vertices = verticesOf ring; edges = length (edgesOf cs); border = length (borderOf 2 cs); sides = 2; ordered = true }
 
 ring-summary : ringSummary ringCells ≡ record { cells = 6; vertices = 6; edges = 12; border = 6; sides = 2; ordered = true }
-unfolding inColex place placed comesBefore decides tab numbers keep product axisOf
+unfolding inColex place placed comesBefore decides numbers keep product axisOf
 ring-summary = refl
 
 ring-two : SidesOf ring 2
@@ -173,7 +174,7 @@ unfolding cut gridCells met inOrder place placed comesBefore decides sortWord in
 band-words = refl
 
 band-by : byCell bandWords bandCells ≡ bandOrder
-unfolding byCell sameWord wordIf wordOf sortWord insert insertBy
+unfolding byCell wordIf wordOf sortWord insert insertBy
 band-by = refl
 
 band-free : Crowded 2 bandCells → ⊥
@@ -185,7 +186,6 @@ three-zero : Mates 2 bandCells 0 1 2 2
 three-zero = mates bandCells 0 1 2 2 (omega arith) (omega arith) (omega arith) (omega arith) (λ e. omega arith) refl
 
 band-differ : AgreeOnFacets 2 bandCells bandOrder → ⊥
-unfolding without keepUnless
 band-differ a = let e : _≡_ {A = List ℕ} (3 ∷ 0 ∷ []) (0 ∷ 3 ∷ []) = a .one 0 1 2 2 three-zero in let z : _≡_ {A = ℕ} 3 0 = ap (λ (l : List ℕ). getD l 0 0) e in omega arith
 
 band-no-order : HandsOut band → ⊥

@@ -10,7 +10,8 @@ use Rattle.quotient.specs.Shape.{axisOf, badSet, checkOf}
 use Rattle.quotient.specs.Reduce.{restAt, reflectedBy, numberTo}
 use Rattle.quotient.specs.Points.{fromDigits}
 use Rattle.grid_words.specs.Cells.{met, gridCells}
-use Rattle.ordering.specs.Order.{sameWord, wordIf, wordOf, byCell}
+use Rattle.lists.specs.Words.{sameWord}
+use Rattle.ordering.specs.Order.{wordIf, wordOf, byCell}
 use Rattle.refine_results.specs.Results.{outside}
 use Rattle.figures_starred.specs.Case.{All}
 use Rattle.figures_starred.specs.Starred.{starred}
@@ -21,6 +22,6 @@ none : 1 ≤ 0 → ⊥
 none h = omega arith
 
 pub table : All starred
-unfolding checkOf firstFrom badSet some axisOf product restAt reflectedBy numberTo fromDigits gridCells met cellsOf cut inOrder place placed comesBefore decides sortWord insert insertBy sameWord wordIf wordOf byCell
+unfolding checkOf firstFrom badSet some axisOf product restAt reflectedBy numberTo fromDigits gridCells met cellsOf cut inOrder place placed comesBefore decides sortWord insert insertBy wordIf wordOf byCell
 table =
     (refl, (refl, (band-ordered, (band-oriented, (refl, (refl, (refl, (ring-oriented, (ring-ordered, (refl, (refl, (refl, (refl, (refl, ((λ given. outside (λ i. none (i .least))), (refl, (refl, (refl, (refl, (refl, (refl, (ring-prints, tt))))))))))))))))))))))

@@ -9,13 +9,13 @@ use lib.ListN.{length, getD}
 use borrow.Author.Tests.{ne-eqb}
 use Rattle.multiindex.specs.Sign.{Sign, plus, minus, opposite, times, induced}
 use Rattle.complex.specs.Facets.{cellAt, facetAt, Mates, Crowded}
-use Rattle.complex.specs.Skeleton.{sameWord}
-use Rattle.complex_facets.proofs.Numbers.{same-word, word-true}
+use Rattle.lists.specs.Words.{sameWord, without}
+use Rattle.lists.proofs.Words.{same-word, word-true}
 use Rattle.orientation_signs.specs.Signs.{Coherent}
 use Rattle.orientation_signs.specs.Looks.{sameSign}
 use Rattle.quotient.specs.Fold.{some}
 use Rattle.quotient.proofs.Laws.{some-true}
-use Rattle.ordering.specs.Order.{without, AgreeOnFacets}
+use Rattle.ordering.specs.Order.{AgreeOnFacets}
 
 abbrev Four : Type 0
 Four = ℕ → ℕ → ℕ → ℕ → Bool

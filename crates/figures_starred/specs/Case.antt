@@ -6,7 +6,7 @@ use lib.IntN.{ℤ}
 use lib.ListN.{length, replicate}
 use Rattle.refusal.specs.declared.Answer.{Answer}
 use Rattle.lists.specs.Rows.{flat}
-use Rattle.multiindex.specs.Permutation.{upto}
+use Rattle.lists.specs.Tables.{upto}
 use Rattle.orientation.specs.declared.Coherence.{Coherence}
 use Rattle.orientation.specs.Promise as Orientation
 use Rattle.quotient.specs.declared.Grid.{Grid}

@@ -14,8 +14,10 @@ use Rattle.multiindex.specs.Sort.{sortWord}
 use Rattle.complex.specs.Facets.{Crowded}
 use Rattle.complex.specs.Cells.{inOrder}
 use Rattle.complex_cells.proofs.Words.{Word, Each}
-use Rattle.ordering.specs.Order.{sameWord, IsOrder, AgreeOnFacets}
-use Rattle.ordering.proofs.Orders.{same-true, true-same, order-length, same-order}
+use Rattle.lists.specs.Words.{sameWord}
+use Rattle.ordering.specs.Order.{IsOrder, AgreeOnFacets}
+use Rattle.lists.proofs.Words.{same-word, word-true}
+use Rattle.ordering.proofs.Orders.{order-length, same-order}
 use Rattle.quotient.specs.declared.Grid.{Grid}
 use Rattle.quotient.specs.Fold.{product, factorial, some}
 use Rattle.quotient.specs.Shape.{cellsOn, checkOf, cellCount}
@@ -80,13 +82,13 @@ module _ (g : Grid) (fine : checkOf g ≡ Fine) where
       go : (b : Bool) → some (λ x. sameWord (sortWord (wordNo g x)) (sortWord (wordNo g n))) n ≡ b → Pair n ⊎ ((x y : ℕ) → x < y → y < n → sortWord (wordNo g x) ≡ sortWord (wordNo g y) → ⊥) → Pair (suc n) ⊎ ((x y : ℕ) → x < y → y < suc n → sortWord (wordNo g x) ≡ sortWord (wordNo g y) → ⊥)
       go true q r =
           let w = some-found (λ x. sameWord (sortWord (wordNo g x)) (sortWord (wordNo g n))) n q in
-          inl (record { first = w .0; second = n; order = w .1; within = le-refl (suc n); one = same-true _ _ (w .2) })
+          inl (record { first = w .0; second = n; order = w .1; within = le-refl (suc n); one = same-word _ _ (w .2) })
       go false q (inl p) = inl (record { first = p .first; second = p .second; order = p .order; within = omega (arith, p .within); one = p .one })
       go false q (inr f) =
           inr (λ x y h l e.
           elim (ℕ-discrete y n) [
             | yes z ↦
-                false≢true (sym q ∙ some-true (λ x. sameWord (sortWord (wordNo g x)) (sortWord (wordNo g n))) n x (omega arith) (true-same (sortWord (wordNo g x)) (sortWord (wordNo g n)) (e ∙ ap (λ (k : ℕ). sortWord (wordNo g k)) z)))
+                false≢true (sym q ∙ some-true (λ x. sameWord (sortWord (wordNo g x)) (sortWord (wordNo g n))) n x (omega arith) (word-true (sortWord (wordNo g x)) (sortWord (wordNo g n)) (e ∙ ap (λ (k : ℕ). sortWord (wordNo g k)) z)))
             | no z ↦ f x y h (omega arith) e
           ])
 

@@ -12,10 +12,10 @@ use lib.ListN.{length, getD}
 use borrow.Author.Tests.{eqb-true, ltb-true}
 use Rattle.refusal.specs.declared.Answer.the-variants.{Fine}
 use Rattle.lists.proofs.Members.{Mem, Mem-of, Mem-at, Pairs-at}
-use Rattle.multiindex.specs.Permutation.{tab, upto}
+use Rattle.lists.specs.Tables.{tab, upto}
 use Rattle.multiindex.specs.Sort.{sortWord}
 use Rattle.multiindex.proofs.Tables.{allBelow, at-below, first-of, second-of}
-use Rattle.refine_lattice.proofs.Tab.{map-tab}
+use Rattle.lists.proofs.Tables.{map-tab}
 use Rattle.complex.specs.Facets.{cellAt}
 use Rattle.complex.specs.Skeleton as Skeleton
 use Rattle.complex_cells.proofs.Words.{Word, Each, In, each-of, one-list}

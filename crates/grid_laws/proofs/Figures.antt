@@ -13,7 +13,8 @@ use Rattle.multiindex.specs.Sort.{insertBy, insert, sortWord}
 use Rattle.complex.specs.Cells.{decides, comesBefore, placed, place, inOrder}
 use Rattle.complex.specs.Cells as Complex
 use Rattle.complex.specs.Facets.{Crowded}
-use Rattle.complex.specs.Skeleton.{inColex, tab, numbers, keep, borderOf}
+use Rattle.lists.specs.Tables.{tab}
+use Rattle.complex.specs.Skeleton.{inColex, numbers, keep, borderOf}
 use Rattle.quotient.specs.declared.Glue.{Glue}
 use Rattle.quotient.specs.declared.Glue.the-variants.{Open, Periodic, Twisted}
 use Rattle.quotient.specs.declared.Axis.{Axis}

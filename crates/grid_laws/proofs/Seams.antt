@@ -11,8 +11,8 @@ use native.Mathlib.Decide.{ℕ-discrete}
 use native.Mathlib.Omega.{arith}
 use lib.Dec.{eqb}
 use Rattle.refusal.specs.declared.Answer.the-variants.{Fine}
-use Rattle.refine_lattice.specs.Complex.{sum}
-use Rattle.refine_lattice.proofs.Sums.{sum-ext}
+use Rattle.lists.specs.Tables.{sum}
+use Rattle.lists.proofs.Sums.{sum-ext}
 use Rattle.quotient.specs.declared.Grid.{Grid}
 use Rattle.quotient.specs.Fold.{member}
 use Rattle.quotient.specs.Shape.{cellsOn, closedAt, maskAt, checkOf}

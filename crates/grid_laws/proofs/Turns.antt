@@ -15,7 +15,7 @@ use borrow.Author.Tests.{eqb-true, eqb-false, ltb-true, not-true, ne-eqb, eq-eqb
 use Rattle.multiindex.specs.Permutation.{orders, orderOf}
 use Rattle.multiindex.proofs.Tables.{allBelow, at-below, first-of, second-of}
 use Rattle.quotient.specs.Fold.{some}
-use Rattle.refine_lattice.specs.Complex.{sum}
+use Rattle.lists.specs.Tables.{sum}
 use Rattle.grid_words.proofs.Corners.{timesIn, times-take, times-all, order-long, order-once}
 
 -- whether axis k is among the first i of order number t: 1 or 0

@@ -10,14 +10,13 @@ use native.Mathlib.Omega.{arith}
 use lib.ListN.{length, getD}
 use Rattle.refusal.specs.declared.Answer.the-variants.{Fine}
 use Rattle.lists.specs.Words.{hasRepeat}
-use Rattle.lists.specs.Rows.{cut, rows}
+use Rattle.lists.specs.Rows.{cut, rows, row}
 use Rattle.lists.proofs.Rows.{cut-at}
 use Rattle.lists.proofs.Flat.{each-long, cut-flat}
 use Rattle.lists.proofs.Members.{Mem, Mem-of, Mem-at, Pairs-at}
 use Rattle.multiindex.specs.Sort.{sortWord}
 use Rattle.multiindex.proofs.SortLaws.{sort-length}
-use Rattle.refine_lattice.proofs.Tab.{getD-tab}
-use Rattle.sorting.specs.Gather.{row}
+use Rattle.lists.proofs.Tables.{getD-tab}
 use Rattle.sorting.proofs.Colex.{row-cell}
 use Rattle.complex.specs.Cells.{inOrder}
 use Rattle.complex.specs.Cells as Complex

@@ -8,9 +8,9 @@ use native.Mathlib.Omega.{arith}
 use lib.Ieee.{Float}
 use borrow.Author.Tests.{eq-eqb}
 use Rattle.grid_sides.specs.Lengths.{agrees}
-use Rattle.multiindex.specs.Permutation.{tab, upto}
+use Rattle.lists.specs.Tables.{tab, upto}
 use Rattle.multiindex.specs.Sort.{sortWord}
-use Rattle.refine_lattice.proofs.Tab.{map-tab}
+use Rattle.lists.proofs.Tables.{map-tab}
 use Rattle.complex_cells.proofs.Words.{In}
 use Rattle.complex_cells.proofs.Order.{order-from}
 use Rattle.grid_words.proofs.Flat.{of-tab}

@@ -10,15 +10,15 @@ use lib.ListN.{length, getD, take, drop}
 use lib.Seq.{ext-getD}
 use borrow.Author.Tests.{ltb-true, ltb-false, leb-true, eqb-true, eq-eqb}
 use Rattle.refusal.specs.declared.Answer.the-variants.{Fine}
-use Rattle.multiindex.specs.Permutation.{tab, upto}
+use Rattle.lists.specs.Tables.{tab, upto}
 use Rattle.multiindex.specs.Sort.{insertBy, insert, sortWord, sortWords}
 use Rattle.multiindex.proofs.Tables.{at-below}
-use Rattle.refine_lattice.proofs.Tab.{length-tab, getD-tab, map-tab, list-tab}
-use Rattle.lists.specs.Rows.{cut}
+use Rattle.lists.proofs.Tables.{length-tab, getD-tab, map-tab, list-tab}
+use Rattle.lists.specs.Rows.{cut, row}
 use Rattle.lists.proofs.Rows.{cut-length, cut-at}
 use Rattle.sorting.specs.Bucket.{cell}
 use Rattle.sorting.specs.Order.{SameRow, Table}
-use Rattle.sorting.specs.Gather.{row, rowsOf}
+use Rattle.sorting.specs.Gather.{rowsOf}
 use Rattle.sorting.specs.Distinct.{Distinct}
 use Rattle.sorting.proofs.Colex.{row-cell, row-length, same-row, row-same}
 use Rattle.sorting.proofs.Firsts.{id-eq, id-row, id-rep}

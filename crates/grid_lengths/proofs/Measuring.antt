@@ -11,8 +11,8 @@ use lib.ListN.{length, getD}
 use borrow.Author.Tests.{ltb-true, leb-true, eqb-true, eq-eqb, ne-eqb}
 use Rattle.refusal.specs.declared.Answer.the-variants.{Fine}
 use Rattle.multiindex.proofs.Tables.{allBelow, at-below}
-use Rattle.multiindex.specs.Permutation.{tab}
-use Rattle.refine_lattice.proofs.Tab.{getD-tab}
+use Rattle.lists.specs.Tables.{tab}
+use Rattle.lists.proofs.Tables.{getD-tab}
 use Rattle.grid_sides.specs.declared.Sides.{Sides}
 use Rattle.grid_sides.specs.declared.Steps.{Steps}
 use Rattle.grid_sides.specs.Counts.{sideOf}

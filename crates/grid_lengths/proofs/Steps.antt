@@ -13,8 +13,8 @@ use Rattle.refusal.specs.declared.Answer.the-variants.{Fine}
 use Rattle.refusal.specs.declared.Counted.{Counted}
 use Rattle.refusal.specs.declared.Counted.the-variants.{Count, Refused}
 use Rattle.refusal.specs.Table.{twoLengths, tooShort}
-use Rattle.multiindex.specs.Permutation.{tab}
-use Rattle.refine_lattice.proofs.Tab.{length-tab, map-tab, tab-ext, list-tab}
+use Rattle.lists.specs.Tables.{tab}
+use Rattle.lists.proofs.Tables.{length-tab, tab-ext, map-tab, list-tab}
 use Rattle.quotient.specs.declared.Grid.{Grid}
 use Rattle.quotient.specs.Shape.{checkOf}
 use Rattle.quotient.specs.Reduce.{vertexOf}

@@ -5,7 +5,7 @@ use Prim.Native.Nat.{ℕ, suc, _+_, _-_, _*_, _/_, _%_, min, max}
 use lib.Dec.{eqb}
 use lib.Ieee.{Float}
 use lib.ListN.{getD}
-use Rattle.multiindex.specs.Permutation.{upto}
+use Rattle.lists.specs.Tables.{upto}
 use Rattle.grid_sides.specs.declared.Sides.{Sides}
 use Rattle.grid_sides.specs.declared.Steps.{Steps}
 use Rattle.grid_sides.specs.Counts.{sideOf}

@@ -6,7 +6,7 @@ use Prim.Native.Nat.{ℕ, zero, suc, _*_, _/_, _%_, _<_, _≤_}
 use lib.Dec.{eqb}
 use lib.Ieee.{Float}
 use lib.ListN.{length, getD}
-use Rattle.multiindex.specs.Permutation.{tab}
+use Rattle.lists.specs.Tables.{tab}
 use Rattle.refusal.specs.declared.Answer.the-variants.{Fine}
 use Rattle.quotient.specs.declared.Grid.{Grid}
 use Rattle.quotient.specs.Shape.{checkOf}

@@ -19,7 +19,7 @@ ghost use Rattle.grid_lengths.specs.Settled.{metBy, settle, edgeValues, 
 ghost use Rattle.grid_lengths.specs.Noted.{endOf, endsOf, told, isLength, Noting, Noted, Clashed};
 ghost use Rattle.grid_lengths.specs.Lengths.{lengthsNeed, EdgeLengths};
 ghost use Rattle.grid_lengths.specs.Work.{Working, Classed, Handing, Worked};
-ghost use Rattle.multiindex.specs.Permutation.{tab};
+ghost use Rattle.lists.specs.Tables.{tab};
 ghost use Rattle.lists.specs.Zero.{AllZero};
 use grid_sides::Sides;
 use grid_sides::Steps;

@@ -15,7 +15,7 @@ use Rattle.refusal.specs.Table.{crowdedFacet, tooShort}
 use Rattle.refusal.specs.Lent.{onto}
 use Rattle.lists.specs.Rows.{cut}
 use Rattle.lists.proofs.Rows.{cut-length}
-use Rattle.refine_lattice.proofs.Tab.{length-tab}
+use Rattle.lists.proofs.Tables.{length-tab}
 use Rattle.multiindex.specs.Sort.{sortWords}
 use Rattle.multiindex.proofs.WordsLaws.{words-length}
 use Rattle.sorting.proofs.Rows.{pos-room}
@@ -28,9 +28,10 @@ use Rattle.complex.specs.Room.{keyRoom}
 use Rattle.complex.specs.Facets.{Crowded, Cells, slots}
 use Rattle.complex_cells.specs.WorkMade.{Made}
 use Rattle.complex_cells.proofs.Making.{few-corners, words-table, made}
-use Rattle.complex_mates.specs.Table.{none, MateTable, Meeting}
+use Rattle.lists.specs.Words.{none}
+use Rattle.complex_mates.specs.Table.{MateTable, Meeting}
 use Rattle.complex_mates.proofs.Meeting.{slots-most}
-use Rattle.orientation_signs.proofs.Linking.{not-crowded}
+use Rattle.complex_mates.proofs.Mated.{not-crowded}
 use Rattle.quotient.specs.declared.Grid.{Grid}
 use Rattle.quotient.specs.Shape.{checkOf, cellCount}
 use Rattle.quotient.proofs.Taken.{taken-cells}

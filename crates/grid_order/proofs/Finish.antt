@@ -9,21 +9,22 @@ use native.Mathlib.Omega.{arith}
 use lib.ListN.{length, getD, take, drop, length-append, length-drop, drop-of-length-le}
 use lib.Seq.{length-take-le, take-at, drop-at, drop-drop, take-all, getD-take, getD-drop}
 use Rattle.refusal.specs.Table.{crowdedFacet}
-use Rattle.lists.specs.Rows.{cut, rows, flat}
+use Rattle.lists.specs.Rows.{cut, rows, flat, row}
 use Rattle.lists.proofs.Flat.{flat-cut}
 use Rattle.lists.proofs.Rows.{cut-length, cut-at}
 use Rattle.lists.proofs.Words.{tail-part}
 use Rattle.multiindex.specs.Sort.{sortWord}
-use Rattle.sorting.specs.Gather.{row, rowsOf}
+use Rattle.sorting.specs.Gather.{rowsOf}
 use Rattle.sorting.proofs.Rows.{rowsOf-pos, pos-room}
 use Rattle.complex.specs.Cells as Complex
 use Rattle.complex.specs.Facets.{Cells, Crowded, cellAt}
-use Rattle.complex_mates.specs.Table.{none, MateTable, Meeting}
+use Rattle.lists.specs.Words.{none}
+use Rattle.complex_mates.specs.Table.{MateTable, Meeting}
 use Rattle.complex_cells.specs.WorkMade.{Made}
 use Rattle.complex_cells.proofs.Words.{In, in-at}
 use Rattle.complex_cells.proofs.Order.{order-from}
 use Rattle.complex_mates.proofs.Meeting.{slots-most}
-use Rattle.orientation_signs.proofs.Linking.{not-crowded, mate-below}
+use Rattle.complex_mates.proofs.Mated.{not-crowded, mate-below}
 use Rattle.quotient.specs.declared.Grid.{Grid}
 use Rattle.quotient.specs.Shape.{cellCount}
 use Rattle.grid_words.specs.Cells.{flatWords}

@@ -11,19 +11,18 @@ use lib.Seq.{length-take-le, take-at, drop-at, getD-take, getD-drop}
 use Rattle.refusal.specs.declared.Answer.the-variants.{Fine}
 use Rattle.refusal.specs.Table.{tooShort}
 use Rattle.refusal.specs.Lent.{onto}
-use Rattle.lists.specs.Rows.{cut, rows}
-use Rattle.lists.proofs.Rows.{cut-length, cut-at}
+use Rattle.lists.specs.Rows.{cut, rows, row}
+use Rattle.lists.proofs.Rows.{cut-length, cut-at, row-cell-below}
 use Rattle.multiindex.specs.Sort.{sortWord, sortWords}
 use Rattle.sorting.specs.Bucket.{cell}
 use Rattle.sorting.specs.Distinct.{Distinct}
-use Rattle.sorting.specs.Gather.{row, rowsOf}
+use Rattle.sorting.specs.Gather.{rowsOf}
 use Rattle.sorting.proofs.Colex.{row-same}
 use Rattle.sorting.proofs.Rows.{rowsOf-pos, pos-room}
 use Rattle.complex.specs.Facets.{cellAt, slots, Mates}
-use Rattle.complex_mates.specs.Table.{none, MateTable}
-use Rattle.complex_mates.proofs.Laws.{row-cell-below}
+use Rattle.complex_mates.specs.Table.{MateTable}
 use Rattle.complex_cells.proofs.Making.{key-row, made-cell, whole-words}
-use Rattle.orientation_signs.proofs.Linking.{rows-few, facet-row, mates-row}
+use Rattle.complex_mates.proofs.Mated.{facet-row, mates-row, rows-few}
 use Rattle.quotient.specs.declared.Grid.{Grid}
 use Rattle.quotient.specs.Shape.{checkOf, cellCount}
 use Rattle.grid_words.specs.Cells.{flatWords}
@@ -31,7 +30,8 @@ use Rattle.grid_words.proofs.Listed.{words-long}
 use Rattle.grid_words.proofs.Good.{words-count, words-pass}
 use Rattle.grid_mesh.specs.Words.{gluedCells, cornersOf}
 use Rattle.grid_mesh.proofs.Steps.{grid-made, corners-are, corners-few}
-use Rattle.ordering.specs.Order.{wordOf, without, AgreeOnFacets}
+use Rattle.lists.specs.Words.{without, none}
+use Rattle.ordering.specs.Order.{wordOf, AgreeOnFacets}
 use Rattle.ordering.specs.WorkAgree.{rowWord, AgreesAt, Clash}
 use Rattle.ordering.proofs.Orders.{word-first}
 use Rattle.grid_order.specs.declared.Triangulated.the-variants.{Ordered, Unordered, Refused}

@@ -7,7 +7,8 @@ use lib.ListN.{length, getD, take, drop}
 use Rattle.refusal.specs.declared.Answer.the-variants.{Fine}
 use Rattle.refusal.specs.Table.{tooShort}
 use Rattle.refusal.specs.Lent.{onto}
-use Rattle.sorting.specs.Gather.{row, rowsOf}
+use Rattle.lists.specs.Rows.{row}
+use Rattle.sorting.specs.Gather.{rowsOf}
 use Rattle.complex.specs.Room.{keyRoom}
 use Rattle.complex.specs.Facets.{cellAt, slots}
 use Rattle.complex_cells.specs.WorkMade.{Made}

@@ -13,9 +13,10 @@ use lib.ListN.{length, getD, take}
 use borrow.Author.Tests.{eqb-true, ltb-true, ltb-false}
 use Rattle.refusal.specs.declared.Answer.the-variants.{Fine}
 use Rattle.refusal.specs.Limits.{mostCells, mostDimension}
-use Rattle.multiindex.specs.Permutation.{same, orders, orderOf}
+use Rattle.lists.specs.Words.{same}
+use Rattle.multiindex.specs.Permutation.{orders, orderOf}
 use Rattle.multiindex.proofs.Tables.{allBelow, at-below}
-use Rattle.refine_lattice.proofs.Sums.{same-yes, same-no}
+use Rattle.lists.proofs.Words.{same-yes, same-no}
 use Rattle.quotient.specs.declared.Grid.{Grid}
 use Rattle.quotient.specs.Fold.{product, factorial}
 use Rattle.quotient.specs.Shape.{cellsOn, pointsOn, closedAt, closedFloor, openFloor, checkOf, cellCount}

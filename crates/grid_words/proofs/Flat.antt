@@ -8,8 +8,9 @@ use native.Mathlib.Omega.{arith}
 use lib.ListN.{length, getD, length-append, List·getD-append}
 use lib.Seq.{getD-append-add}
 use Rattle.lists.specs.Rows.{flat}
-use Rattle.multiindex.specs.Permutation.{tab, gather}
-use Rattle.refine_lattice.proofs.Tab.{list-tab, getD-tab}
+use Rattle.lists.specs.Tables.{tab}
+use Rattle.multiindex.specs.Permutation.{gather}
+use Rattle.lists.proofs.Tables.{getD-tab, list-tab}
 use Rattle.complex_cells.proofs.Words.{Word, In}
 use Rattle.quotient.proofs.Laws.{lt-or-ge}
 

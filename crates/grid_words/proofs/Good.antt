@@ -1,6 +1,6 @@
 -- The words of a grid that is taken pass the checks of a cell list: no word names a vertex twice, and no vertex number is left out. Assumes nothing.
 use mathlib.Core.Path.{_≡_, refl, sym, ap, subst, _∙_}
-use mathlib.Core.Bool.{Bool, true, false}
+use mathlib.Core.Bool.{Bool, true, false, _||_}
 use mathlib.Core.Logic.{_⊎_, inl, inr, ⊎-elim}
 use mathlib.Core.List.{List, [], _∷_, _++_, map}
 use Prim.Native.Nat.{ℕ, zero, suc, _+_, _-_, _*_, _/_, _%_, _≤_, _<_, max}
@@ -15,11 +15,11 @@ use lib.Seq.{length-take-le}
 use borrow.Author.Tests.{eq-eqb, ne-eqb}
 use Rattle.refusal.specs.declared.Answer.the-variants.{Fine}
 use Rattle.refusal.specs.Limits.{mostCells, mostVertices}
-use Rattle.multiindex.specs.Permutation.{same, orders, orderOf}
-use Rattle.lists.specs.Words.{among, either, hasRepeat, largestOf, wordAt}
+use Rattle.multiindex.specs.Permutation.{orders, orderOf}
+use Rattle.lists.specs.Words.{among, hasRepeat, largestOf, same}
 use Rattle.lists.proofs.Members.{Mem, Mem-of, All, All-of, Pairs, Pairs-of}
 use Rattle.lists.proofs.Words.{below-largest}
-use Rattle.sorting.specs.Gather.{row}
+use Rattle.lists.specs.Rows.{row}
 use Rattle.sorting.proofs.Colex.{row-cell, row-length}
 use Rattle.complex.specs.Check.{Passed}
 use Rattle.quotient.specs.declared.Grid.{Grid}
@@ -39,22 +39,22 @@ use Rattle.grid_words.proofs.Listed.{words-long, words-at}
 
 -- ---- numbers in lists
 pub mem-among : (v : ℕ) (ws : List ℕ) → Mem v ws → among v ws ≡ true
-unfolding among either
+unfolding among
 mem-among v [] m = absurd m
 mem-among v (x ∷ ws) (inl e) = rw (eq-eqb x v e)
 mem-among v (x ∷ ws) (inr m) = go (eqb x v) (mem-among v ws m)
   where
-    go : (b : Bool) → among v ws ≡ true → either b (among v ws) ≡ true
+    go : (b : Bool) → among v ws ≡ true → (b || among v ws) ≡ true
     go true r = refl
     go false r = r
 
 not-among : (v : ℕ) (ws : List ℕ) → All (λ x. v ≡ x → ⊥) ws → among v ws ≡ false
-unfolding among either
+unfolding among
 not-among v [] a = refl
 not-among v (x ∷ ws) a = rw (ne-eqb x v (λ e. a .0 (sym e)), not-among v ws (a .1))
 
 no-repeat : (ws : List ℕ) → Pairs (λ x y. x ≡ y → ⊥) ws → hasRepeat ws ≡ false
-unfolding hasRepeat either
+unfolding hasRepeat
 no-repeat [] p = refl
 no-repeat (x ∷ ws) p = rw (not-among x ws (p .0), no-repeat ws (p .1))
 
@@ -230,7 +230,7 @@ module _ (g : Grid) (fine : checkOf g ≡ Fine) where
         some-words = λ e. omega (arith, words-long g fine, some-cells, mul-suc (cellCount g) (g .d));
         whole = words-whole;
         few = rw words-count (taken-cells g fine);
-        apart = λ k h. subst (λ (n : ℕ). hasRepeat (wordAt n (flatWords g) k) ≡ false) (sym (add-one (g .d))) (row-apart k (rw words-count at h));
+        apart = λ k h. subst (λ (n : ℕ). hasRepeat (row (flatWords g) n k) ≡ false) (sym (add-one (g .d))) (row-apart k (rw words-count at h));
         low = omega (arith, low, taken-vertices g fine);
         used = λ v h. words-all v (omega (arith, low));
       }

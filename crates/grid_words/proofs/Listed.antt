@@ -16,9 +16,10 @@ use borrow.Author.Tests.{ltb-true, ltb-false, le-ltb}
 use Rattle.refusal.specs.declared.Answer.the-variants.{Fine}
 use Rattle.lists.specs.Rows.{flat}
 use Rattle.lists.proofs.Laws.{map-at}
-use Rattle.multiindex.specs.Permutation.{tab, upto, orders, orderOf}
+use Rattle.lists.specs.Tables.{tab, upto}
+use Rattle.multiindex.specs.Permutation.{orders, orderOf}
 use Rattle.multiindex.specs.Sort.{insertBy, insert, sortWord}
-use Rattle.refine_lattice.proofs.Tab.{length-tab, getD-tab, map-tab, tab-ext}
+use Rattle.lists.proofs.Tables.{length-tab, getD-tab, tab-ext, map-tab}
 use Rattle.lists.proofs.Members.{All, All-at, All-of, Pairs, Pairs-of}
 use Rattle.complex.specs.Cells.{inOrder}
 use Rattle.complex_cells.proofs.Words.{Word, In, Each, Rising, each-of, rising-by, one-list}

@@ -3,7 +3,9 @@
 use mathlib.Core.List.{List, [], _∷_, map}
 use Prim.Native.Nat.{ℕ, suc, _+_, _/_, _%_}
 use Rattle.lists.specs.Rows.{flat}
-use Rattle.multiindex.specs.Permutation.{upto, gather, same, orders}
+use Rattle.lists.specs.Tables.{upto}
+use Rattle.lists.specs.Words.{same}
+use Rattle.multiindex.specs.Permutation.{gather, orders}
 use Rattle.quotient.specs.declared.Grid.{Grid}
 use Rattle.quotient.specs.Fold.{product}
 use Rattle.quotient.specs.Shape.{cellsOn}

@@ -4,3 +4,5 @@ pub mod Front
 pub mod Rows
 pub mod Words
 pub mod Flat
+pub mod Tables
+pub mod Sums

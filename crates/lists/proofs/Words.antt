@@ -1,6 +1,7 @@
 -- Laws of `specs/Words.antt`: each function over `drop i ws`, one element at a time, and what a search has shown. Assumes nothing.
 use mathlib.Core.Path.{_≡_, refl, sym, ap, _∙_}
-use mathlib.Core.Bool.{Bool, true, false, not}
+use mathlib.Core.Bool.{Bool, true, false, not, _&&_, _||_}
+use mathlib.Core.Logic.{_≢_}
 use mathlib.Core.List.{List, [], _∷_}
 use Prim.Native.Nat.{ℕ, zero, suc, _+_, _*_, _-_, _≤_, _<_, max, zero-le, suc-le-suc}
 use native.Mathlib.Numerals.{add-one}
@@ -10,9 +11,9 @@ use lib.Dec.{eqb}
 use lib.ListN.{length, getD, take, drop, set, drop-of-length-le, length-drop, length-set, length-replicate, replicate, getD-replicate}
 use lib.Seq.{drop-cons, take-all, getD-set-same, getD-set-other, lt-length-set}
 use borrow.Author.Tests.{eq-eqb, ne-eqb, eqb-true, eqb-false}
-use Rattle.lists.specs.Words.{either, among, hasRepeat, largestOf, foundAt, firstWhere, marked}
+use Rattle.lists.specs.Words.{sameWord, same, among, hasRepeat, largestOf, foundAt, firstWhere, marked}
 
-pub among-step : (v : ℕ) (ws : List ℕ) (i : ℕ) → i < length ws → among v (drop i ws) ≡ either (eqb (getD ws i 0) v) (among v (drop (i + 1) ws))
+pub among-step : (v : ℕ) (ws : List ℕ) (i : ℕ) → i < length ws → among v (drop i ws) ≡ (eqb (getD ws i 0) v || among v (drop (i + 1) ws))
 unfolding among
 among-step v ws i h = rw add-one (ap (among v) (drop-cons ws i 0 h))
 
@@ -20,7 +21,7 @@ pub among-end : (v : ℕ) (ws : List ℕ) (i : ℕ) → length ws ≤ i → amon
 unfolding among
 among-end v ws i h = ap (among v) (drop-of-length-le ws h)
 
-pub repeat-step : (ws : List ℕ) (i : ℕ) → i < length ws → hasRepeat (drop i ws) ≡ either (among (getD ws i 0) (drop (i + 1) ws)) (hasRepeat (drop (i + 1) ws))
+pub repeat-step : (ws : List ℕ) (i : ℕ) → i < length ws → hasRepeat (drop i ws) ≡ (among (getD ws i 0) (drop (i + 1) ws) || hasRepeat (drop (i + 1) ws))
 unfolding hasRepeat
 repeat-step ws i h = rw add-one (ap hasRepeat (drop-cons ws i 0 h))
 
@@ -66,20 +67,16 @@ first-at p (suc m) (suc k) l h t = rw (h 0 (suc-le-suc zero-le)) (ap suc (first-
 
 -- v stands at i, or it does not
 pub among-hit : (v : ℕ) (ws : List ℕ) (i : ℕ) → i < length ws → getD ws i 0 ≡ v → among v (drop i ws) ≡ true
-unfolding either
 among-hit v ws i h e = among-step v ws i h ∙ rw (eq-eqb _ _ e)
 
 pub among-miss : (v : ℕ) (ws : List ℕ) (i : ℕ) → i < length ws → (getD ws i 0 ≡ v → ⊥) → among v (drop i ws) ≡ among v (drop (i + 1) ws)
-unfolding either
 among-miss v ws i h e = among-step v ws i h ∙ rw (ne-eqb _ _ e)
 
 -- the number at i stands again after i, or it does not
 pub repeat-hit : (ws : List ℕ) (i : ℕ) → i < length ws → among (getD ws i 0) (drop (i + 1) ws) ≡ true → hasRepeat (drop i ws) ≡ true
-unfolding either
 repeat-hit ws i h e = repeat-step ws i h ∙ rw e
 
 pub repeat-miss : (ws : List ℕ) (i : ℕ) → i < length ws → among (getD ws i 0) (drop (i + 1) ws) ≡ false → hasRepeat (drop i ws) ≡ hasRepeat (drop (i + 1) ws)
-unfolding either
 repeat-miss ws i h e = repeat-step ws i h ∙ rw e
 
 -- the part &ws[i..] is what is left after the first i
@@ -107,11 +104,11 @@ free-false true = refl
 free-false false = refl
 
 pub marked-at : (ws l : List ℕ) (v : ℕ) → v < length l → eqb (getD (marked l ws) v 0) 0 ≡ freeAfter (among v ws) (eqb (getD l v 0) 0)
-unfolding marked among either
+unfolding marked among
 marked-at [] l v h = refl
 marked-at (x ∷ ws) l v h = marked-at ws (set l x 1) v (lt-length-set l x 1 h) ∙ go (eqb x v) refl
   where
-    go : (t : Bool) → eqb x v ≡ t → freeAfter (among v ws) (eqb (getD (set l x 1) v 0) 0) ≡ freeAfter (either t (among v ws)) (eqb (getD l v 0) 0)
+    go : (t : Bool) → eqb x v ≡ t → freeAfter (among v ws) (eqb (getD (set l x 1) v 0) 0) ≡ freeAfter (t || among v ws) (eqb (getD l v 0) 0)
     go true e = rw (eqb-true x v e, getD-set-same l v 1 0 h) (free-false (among v ws))
     go false e = rw (getD-set-other l x v 1 0 (λ s. eqb-false x v e (sym s)))
 
@@ -124,3 +121,53 @@ free-unused n ws m h = first-same _ _ m λ k l.
     free-not : (t : Bool) → freeAfter t true ≡ not t
     free-not true = refl
     free-not false = refl
+
+-- ---- equal numbers, as 1 and 0
+pub same-self : (n : ℕ) → same n n ≡ 1
+same-self zero = refl
+same-self (suc n) = same-self n
+
+pub same-yes : (m n : ℕ) → m ≡ n → same m n ≡ 1
+same-yes m n e = ap (same m) (sym e) ∙ same-self m
+
+pub same-no : (m n : ℕ) → m ≢ n → same m n ≡ 0
+same-no zero zero h = absurd (h refl)
+same-no zero (suc n) h = refl
+same-no (suc m) zero h = refl
+same-no (suc m) (suc n) h = same-no m n (λ e. h (ap suc e))
+
+pub same-eq : (m n : ℕ) → 0 < same m n → m ≡ n
+same-eq zero zero h = refl
+same-eq zero (suc n) h = omega arith
+same-eq (suc m) zero h = omega arith
+same-eq (suc m) (suc n) h = ap suc (same-eq m n h)
+
+-- ---- equal words, as a test
+pub same-word : (v w : List ℕ) → sameWord v w ≡ true → v ≡ w
+same-word [] [] e = refl
+same-word [] (y ∷ w) e = let z : _≡_ {A = ℕ} 0 1 = cc in absurd (omega arith)
+same-word (x ∷ v) [] e = let z : _≡_ {A = ℕ} 0 1 = cc in absurd (omega arith)
+same-word (x ∷ v) (y ∷ w) e = go (eqb x y) refl e (same-word v w)
+  where
+    go : (t : Bool) → eqb x y ≡ t → (t && sameWord v w) ≡ true → (sameWord v w ≡ true → v ≡ w) → x ∷ v ≡ y ∷ w
+    go true p e r = let a = eqb-true x y p in let b = r e in cc
+    go false p e r = let z : _≡_ {A = ℕ} 0 1 = cc in absurd (omega arith)
+
+pub word-same : (v : List ℕ) → sameWord v v ≡ true
+word-same [] = refl
+word-same (x ∷ v) = rw (eq-eqb x x refl) (word-same v)
+
+pub word-true : (v w : List ℕ) → v ≡ w → sameWord v w ≡ true
+word-true v w e = ap (λ (z : List ℕ). sameWord v z) (sym e) ∙ word-same v
+
+pub word-false : (v w : List ℕ) → (v ≡ w → ⊥) → sameWord v w ≡ false
+word-false v w n = go (sameWord v w) refl
+  where
+    go : (t : Bool) → sameWord v w ≡ t → sameWord v w ≡ false
+    go true e = absurd (n (same-word v w e))
+    go false e = e
+
+-- where neither test holds, each fails
+pub or-false : (a b : Bool) → (a || b) ≡ false → (a ≡ false) × (b ≡ false)
+or-false true b e = let z : _≡_ {A = ℕ} 0 1 = cc in absurd (omega arith)
+or-false false b e = (refl, e)

@@ -1,3 +1,4 @@
 pub mod Rows
 pub mod Words
 pub mod Zero
+pub mod Tables

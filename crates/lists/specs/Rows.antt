@@ -1,6 +1,6 @@
 -- Words one after the other in a flat list, and a flat list cut into words. Assumes nothing.
 use mathlib.Core.List.{List, [], _∷_, _++_}
-use Prim.Native.Nat.{ℕ, zero, suc, _/_}
+use Prim.Native.Nat.{ℕ, zero, suc, _*_, _/_}
 use lib.ListN.{length, take, drop}
 
 -- words one after the other
@@ -16,3 +16,7 @@ cut n (suc count) ws = take n ws ∷ cut n count (drop n ws)
 -- a flat list cut into words of n numbers
 abbrev pub rows : ℕ → List ℕ → List (List ℕ)
 rows n ws = cut n (length ws / n) ws
+
+-- row k of a flat list of rows of `size` entries each
+abbrev pub row : {A : Type 0} → List A → ℕ → ℕ → List A
+row l size k = take size (drop (k * size) l)

@@ -6,7 +6,8 @@ use native.Mathlib.Nat.{not-suc-le-zero, le-of-suc-le-suc}
 use native.Mathlib.Omega.{arith}
 use lib.ListN.{length, getD, replicate}
 use borrow.Author.Tests.{lt-ltb, le-ltb}
-use Rattle.multiindex.specs.Permutation.{tab, upto, gather}
+use Rattle.lists.specs.Tables.{tab, upto}
+use Rattle.multiindex.specs.Permutation.{gather}
 use Rattle.multiindex.specs.Cartesian.{carry, digits, raised}
 
 -- the list goes on from x, each entry made of the one before it

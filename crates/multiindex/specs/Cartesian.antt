@@ -3,7 +3,8 @@ use mathlib.Core.Bool.{Bool, true, false}
 use mathlib.Core.List.{List, [], _∷_, map}
 use Prim.Native.Nat.{ℕ, zero, suc}
 use lib.Dec.{ltb}
-use Rattle.multiindex.specs.Permutation.{upto, gather}
+use Rattle.lists.specs.Tables.{upto}
+use Rattle.multiindex.specs.Permutation.{gather}
 
 -- all lists of d digits below n, the first digit fastest
 abbrev pub digits : ℕ → ℕ → List (List ℕ)

@@ -9,21 +9,21 @@ use native.Mathlib.Numerals.{add-one}
 use native.Mathlib.Omega.{arith}
 use lib.ListN.{length, getD, take, drop, take-append-drop}
 use lib.Seq.{getD-take, getD-drop}
-use Rattle.lists.specs.Rows.{rows, flat}
+use Rattle.lists.specs.Rows.{rows, flat, row}
 use Rattle.lists.proofs.Flat.{each-long, flat-length, flat-at}
 use Rattle.lists.proofs.Laws.{front-part}
-use Rattle.sorting.specs.Gather.{row}
 use Rattle.multiindex.specs.Sort.{inversions}
 use Rattle.multiindex.specs.Sign.{Sign, plus, minus, opposite, induced}
 use Rattle.multiindex.proofs.SortLaws.{sort-length}
 use Rattle.complex.specs.Facets.{cellAt, slots, Mates}
-use Rattle.complex_mates.specs.Table.{none, MateTable}
-use Rattle.complex_mates.proofs.Laws.{row-cell-below, row-slot-below}
+use Rattle.complex_mates.specs.Table.{MateTable}
+use Rattle.lists.proofs.Rows.{row-cell-below, row-slot-below}
 use Rattle.complex_mates.proofs.Meeting.{slots-most}
 use Rattle.orientation_walk.specs.WorkSigns as walk
 use Rattle.orientation_signs.specs.WorkFound.{signOf}
-use Rattle.orientation_signs.proofs.Linking.{facet-row, mates-row, mate-below, rows-few}
-use Rattle.ordering.specs.Order.{wordOf, without, AgreeOnFacets}
+use Rattle.complex_mates.proofs.Mated.{mate-below, facet-row, mates-row, rows-few}
+use Rattle.lists.specs.Words.{without, none}
+use Rattle.ordering.specs.Order.{wordOf, AgreeOnFacets}
 use Rattle.ordering.specs.WorkAgree.{rowWord, AgreesAt, Clash, markAt}
 use Rattle.ordering.specs.Promise.{wordsBy, wordSign, Ready}
 use Rattle.ordering.proofs.Orders.{by-cell-at, by-cell-length}

@@ -8,11 +8,11 @@ use native.Mathlib.Numerals.{add-one}
 use native.Mathlib.Omega.{arith}
 use lib.ListN.{length, getD, take, drop, length-append, length-drop}
 use lib.Seq.{length-take-le, take-at, drop-at, getD-take}
-use Rattle.lists.specs.Rows.{cut, rows, flat}
+use Rattle.lists.specs.Rows.{cut, rows, flat, row}
 use Rattle.lists.proofs.Rows.{cut-length, cut-at}
 use Rattle.lists.proofs.Members.{All, All-at, All-of}
 use Rattle.multiindex.specs.Sort.{sortWord}
-use Rattle.sorting.specs.Gather.{row, rowsOf}
+use Rattle.sorting.specs.Gather.{rowsOf}
 use Rattle.sorting.proofs.Colex.{row-cell, row-length}
 use Rattle.sorting.proofs.Rows.{RowIn, rowsOf-length, rowsOf-pos, pos-room}
 use Rattle.complex.specs.Cells.{inOrder, cellsOf}

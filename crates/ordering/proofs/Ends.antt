@@ -16,10 +16,10 @@ use Rattle.lists.specs.Rows.{flat}
 use Rattle.complex.specs.Room.{keyRoom}
 use Rattle.complex.specs.Cells.{cellsOf}
 use Rattle.complex.specs.Facets.{slots}
-use Rattle.complex_mates.specs.Table.{none}
+use Rattle.lists.specs.Words.{none}
 use Rattle.complex_mates.proofs.Meeting.{slots-most}
 use Rattle.complex_cells.proofs.Making.{few-corners}
-use Rattle.orientation_signs.proofs.Linking.{mate-below}
+use Rattle.complex_mates.proofs.Mated.{mate-below}
 use Rattle.ordering.specs.declared.Ordered.{Ordered}
 use Rattle.ordering.specs.declared.Ordered.the-variants.{Agree, Differ, Refused}
 use Rattle.ordering.specs.WorkAgree.{AgreesAt, Clash, Agreeing}

@@ -7,13 +7,13 @@ use native.Mathlib.Nat.{add-sub-cancel-left, le-trans, mul-le-mul-right, mul-suc
 use native.Mathlib.Omega.{arith}
 use lib.ListN.{length, getD, take, drop, length-append, length-drop}
 use lib.Seq.{length-take-le, take-at, drop-at}
-use Rattle.lists.specs.Rows.{cut}
+use Rattle.lists.specs.Rows.{cut, row}
 use Rattle.lists.proofs.Rows.{cut-length, cut-at}
 use Rattle.multiindex.specs.Sort.{sortWord, sortWords}
 use Rattle.sorting.specs.Bucket.{cell}
 use Rattle.sorting.specs.Order.{Table}
 use Rattle.sorting.specs.Distinct.{Distinct}
-use Rattle.sorting.specs.Gather.{row, rowsOf}
+use Rattle.sorting.specs.Gather.{rowsOf}
 use Rattle.sorting.proofs.Colex.{row-same}
 use Rattle.sorting.proofs.Rows.{pos-room}
 use Rattle.complex.specs.Cells.{inOrder}

@@ -8,53 +8,24 @@ use native.Mathlib.Omega.{arith}
 use lib.Dec.{eqb}
 use lib.ListN.{length, getD}
 use borrow.Author.Tests.{eqb-true, eqb-false, eq-eqb, ne-eqb}
-use Rattle.lists.specs.Rows.{flat}
+use Rattle.lists.specs.Rows.{flat, row}
 use Rattle.multiindex.specs.Sort.{sortWord}
 use Rattle.complex.specs.Cells.{comesBefore, placed, place, inOrder}
 use Rattle.complex.specs.Facets.{cellAt}
 use Rattle.complex_cells.proofs.Words.{Word, Each, Rising, In, each-in, each-of, in-at, at-in}
 use Rattle.complex_cells.proofs.Order.{Colex, colex-irr, colex-trans, order-rising, order-from, order-has}
-use Rattle.sorting.specs.Gather.{row, rowsOf}
-use Rattle.ordering.specs.Order.{sameWord, wordIf, wordOf, byCell, IsOrder}
-
--- ---- the test of two words
-both-true : (a b : Bool) → (a && b) ≡ true → (a ≡ true) × (b ≡ true)
-both-true true b e = (refl, e)
-both-true false b e = let z : _≡_ {A = ℕ} 0 1 = cc in absurd (omega arith)
-
-pub same-true : (w v : List ℕ) → sameWord w v ≡ true → w ≡ v
-unfolding sameWord
-same-true [] [] e = refl
-same-true [] (y ∷ v) e = let z : _≡_ {A = ℕ} 0 1 = cc in absurd (omega arith)
-same-true (x ∷ w) [] e = let z : _≡_ {A = ℕ} 0 1 = cc in absurd (omega arith)
-same-true (x ∷ w) (y ∷ v) e =
-    let r = both-true (eqb x y) (sameWord w v) e in
-    let h : x ≡ y = eqb-true x y (r .0) in
-    let t : w ≡ v = same-true w v (r .1) in
-    cc
-
-pub same-refl : (w : List ℕ) → sameWord w w ≡ true
-unfolding sameWord
-same-refl [] = refl
-same-refl (x ∷ w) = rw (eq-eqb x x refl) (same-refl w)
-
-pub true-same : (w v : List ℕ) → w ≡ v → sameWord w v ≡ true
-true-same w v e = subst (λ (u : List ℕ). sameWord w u ≡ true) e (same-refl w)
-
-pub same-false : (w v : List ℕ) → (w ≡ v → ⊥) → sameWord w v ≡ false
-same-false w v f = go (sameWord w v) refl
-  where
-    go : (t : Bool) → sameWord w v ≡ t → t ≡ false
-    go true e = absurd (f (same-true w v e))
-    go false e = refl
+use Rattle.sorting.specs.Gather.{rowsOf}
+use Rattle.lists.specs.Words.{sameWord}
+use Rattle.lists.proofs.Words.{same-word, word-true, word-false}
+use Rattle.ordering.specs.Order.{wordIf, wordOf, byCell, IsOrder}
 
 -- ---- the first word of a cell
 pub word-first : (ows : List Word) (cell : Word) (r : ℕ) → r < length ows → sortWord (getD ows r []) ≡ cell → ((s : ℕ) → s < r → sortWord (getD ows s []) ≡ cell → ⊥) → wordOf ows cell ≡ getD ows r []
 unfolding wordOf wordIf
 word-first [] cell r h e f = absurd (omega arith)
-word-first (w ∷ ows) cell zero h e f = rw (true-same (sortWord w) cell e)
+word-first (w ∷ ows) cell zero h e f = rw (word-true (sortWord w) cell e)
 word-first (w ∷ ows) cell (suc r) h e f =
-    rw (same-false (sortWord w) cell (f 0 (omega arith))) (word-first ows cell r (omega arith) e (λ s l. f (suc s) (omega arith)))
+    rw (word-false (sortWord w) cell (f 0 (omega arith))) (word-first ows cell r (omega arith) e (λ s l. f (suc s) (omega arith)))
 
 -- a word that sorts to the cell is found
 pub word-found : (ows : List Word) (cell w : Word) → In w ows → sortWord w ≡ cell → sortWord (wordOf ows cell) ≡ cell
@@ -63,8 +34,8 @@ word-found [] cell w m e = absurd m
 word-found (v ∷ ows) cell w m e = go (sameWord (sortWord v) cell) refl m (λ k. word-found ows cell w k e)
   where
     go : (t : Bool) → sameWord (sortWord v) cell ≡ t → In w (v ∷ ows) → (In w ows → sortWord (wordOf ows cell) ≡ cell) → sortWord (wordIf t v (wordOf ows cell)) ≡ cell
-    go true q m r = same-true (sortWord v) cell q
-    go false q (inl s) r = let z : _≡_ {A = Bool} true false = sym (true-same (sortWord v) cell (ap sortWord s ∙ e)) ∙ q in let y : _≡_ {A = ℕ} 0 1 = cc in absurd (omega arith)
+    go true q m r = same-word (sortWord v) cell q
+    go false q (inl s) r = let z : _≡_ {A = Bool} true false = sym (word-true (sortWord v) cell (ap sortWord s ∙ e)) ∙ q in let y : _≡_ {A = ℕ} 0 1 = cc in absurd (omega arith)
     go false q (inr m) r = r m
 
 -- and what is found is one of the words
@@ -74,7 +45,7 @@ word-in [] cell l e = absurd (omega (arith, ap length e))
 word-in (v ∷ ows) cell l e = go (sameWord (sortWord v) cell) refl e (word-in ows cell l)
   where
     go : (t : Bool) → sameWord (sortWord v) cell ≡ t → sortWord (wordIf t v (wordOf ows cell)) ≡ cell → (sortWord (wordOf ows cell) ≡ cell → (w : Word) × In w ows × (sortWord w ≡ cell)) → (w : Word) × In w (v ∷ ows) × (sortWord w ≡ cell)
-    go true q e f = (v, inl refl, same-true (sortWord v) cell q)
+    go true q e f = (v, inl refl, same-word (sortWord v) cell q)
     go false q e f = let r = f e in (r .0, inr (r .1), r .2)
 
 pub by-cell-at : (ows cs : List Word) (c : ℕ) → c < length cs → getD (byCell ows cs) c [] ≡ wordOf ows (getD cs c [])

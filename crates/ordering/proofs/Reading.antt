@@ -11,10 +11,9 @@ use lib.ListN.{length, getD, take, drop, set}
 use lib.Seq.{getD-set-same, getD-set-other}
 use Rattle.sorting.proofs.Rows.{pos-room}
 use Rattle.complex.specs.Facets.{slots}
-use Rattle.complex_mates.specs.Table.{none}
-use Rattle.complex_mates.proofs.Laws.{slots-some, row-cell-below}
+use Rattle.lists.proofs.Rows.{row-cell-below, slots-some}
 use Rattle.complex_mates.proofs.Meeting.{slots-most}
-use Rattle.ordering.specs.Order.{sameWord, without}
+use Rattle.lists.specs.Words.{sameWord, without, none}
 use Rattle.ordering.specs.WorkAgree.{rowWord, Reading, Agreeing, AgreesAt, Clash}
 
 -- where the words of rows x and y stand

@@ -18,7 +18,7 @@ use Rattle.complex.specs.Cells.{cellsOf}
 use Rattle.complex.specs.Facets.{Cells, Crowded}
 use Rattle.complex_mates.specs.Table.{MateTable, Meeting}
 use Rattle.complex_cells.specs.WorkMade.{Making, Made}
-use Rattle.orientation_signs.proofs.Linking.{not-crowded}
+use Rattle.complex_mates.proofs.Mated.{not-crowded}
 use Rattle.orientation.specs.Work.{Working}
 use Rattle.orientation.proofs.Steps.{meeting}
 use Rattle.ordering.specs.Order.{byCell, Orders}

@@ -13,11 +13,12 @@ use Rattle.refusal.specs.declared.Counted.the-variants as Counted
 use Rattle.refusal.specs.declared.Verdict.{Verdict}
 use Rattle.refusal.specs.declared.Verdict.the-variants.{Yes, No, Refused}
 use Rattle.refusal.specs.Table.{crowdedFacet, badOrder}
-use Rattle.sorting.specs.Gather.{row}
+use Rattle.lists.specs.Rows.{row}
 use Rattle.multiindex.specs.Sort.{inversions}
 use Rattle.complex.specs.Cells.{cellsOf}
 use Rattle.complex.specs.Facets.{cellAt, slots}
-use Rattle.complex_mates.specs.Table.{none, MateTable}
+use Rattle.lists.specs.Words.{none}
+use Rattle.complex_mates.specs.Table.{MateTable}
 use Rattle.complex_mates.proofs.Meeting.{slots-most}
 use Rattle.orientation_walk.specs.WorkSigns as walk
 use Rattle.orientation_signs.specs.Signs.{Coherent}

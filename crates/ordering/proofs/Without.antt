@@ -8,39 +8,32 @@ use lib.Dec.{eqb}
 use lib.ListN.{length, getD, drop, drop-of-length-le}
 use lib.Seq.{drop-cons}
 use borrow.Author.Tests.{eq-eqb, ne-eqb}
-use Rattle.ordering.specs.Order.{sameWord, keepUnless, without}
+use Rattle.lists.specs.Words.{sameWord, without}
+use Rattle.lists.proofs.Words.{same-yes, same-no}
 
 pub without-hit : (v : ℕ) (w : List ℕ) (i : ℕ) → i < length w → getD w i 0 ≡ v → without v (drop i w) ≡ without v (drop (i + 1) w)
-unfolding without keepUnless
-without-hit v w i h e = rw add-one (ap (without v) (drop-cons w i 0 h) ∙ rw (eq-eqb (getD w i 0) v e))
+without-hit v w i h e = rw add-one (ap (without v) (drop-cons w i 0 h) ∙ rw (same-yes v (getD w i 0) (sym e)))
 
 pub without-miss : (v : ℕ) (w : List ℕ) (i : ℕ) → i < length w → (getD w i 0 ≡ v → ⊥) → without v (drop i w) ≡ getD w i 0 ∷ without v (drop (i + 1) w)
-unfolding without keepUnless
-without-miss v w i h e = rw add-one (ap (without v) (drop-cons w i 0 h) ∙ rw (ne-eqb (getD w i 0) v e))
+without-miss v w i h e = rw add-one (ap (without v) (drop-cons w i 0 h) ∙ rw (same-no v (getD w i 0) (λ q. e (sym q))))
 
 pub without-end : (v : ℕ) (w : List ℕ) (i : ℕ) → length w ≤ i → without v (drop i w) ≡ []
-unfolding without
 without-end v w i h = ap (without v) (drop-of-length-le w h)
 
 -- ---- what is left to compare
 pub same-nil : sameWord [] [] ≡ true
-unfolding sameWord
 same-nil = refl
 
 pub same-longer : (x : ℕ) (w : List ℕ) → sameWord [] (x ∷ w) ≡ false
-unfolding sameWord
 same-longer x w = refl
 
 pub same-shorter : (x : ℕ) (w : List ℕ) → sameWord (x ∷ w) [] ≡ false
-unfolding sameWord
 same-shorter x w = refl
 
 pub same-heads : (x y : ℕ) (w u : List ℕ) → x ≡ y → sameWord (x ∷ w) (y ∷ u) ≡ sameWord w u
-unfolding sameWord
 same-heads x y w u e = rw (eq-eqb x y e)
 
 pub other-heads : (x y : ℕ) (w u : List ℕ) → (x ≡ y → ⊥) → sameWord (x ∷ w) (y ∷ u) ≡ false
-unfolding sameWord
 other-heads x y w u e = rw (ne-eqb x y e)
 
 -- the words from i and from j on

@@ -1,21 +1,14 @@
 -- Document 01: an order gives each cell one word. It agrees on a facet if its cells list the facet's vertices in one sequence. 16: order words not one for each cell,
 -- no more. Assumes nothing.
-use mathlib.Core.Bool.{Bool, true, false, _&&_}
+use mathlib.Core.Bool.{Bool, true, false}
 use mathlib.Core.List.{List, [], _∷_}
 use mathlib.Core.Path.{_≡_}
 use Prim.Native.Nat.{ℕ, zero, suc, _%_, _<_}
-use lib.Dec.{eqb}
 use lib.ListN.{length, getD}
 use Rattle.lists.specs.Rows.{rows}
+use Rattle.lists.specs.Words.{sameWord, without}
 use Rattle.multiindex.specs.Sort.{sortWord}
 use Rattle.complex.specs.Facets.{cellAt, Mates}
-
--- whether two words are one sequence
-unfoldable pub sameWord : List ℕ → List ℕ → Bool
-sameWord [] [] = true
-sameWord [] (y ∷ v) = false
-sameWord (x ∷ w) [] = false
-sameWord (x ∷ w) (y ∷ v) = eqb x y && sameWord w v
 
 -- one word where the test holds, else the other
 unfoldable pub wordIf : Bool → List ℕ → List ℕ → List ℕ
@@ -41,16 +34,6 @@ pub record IsOrder (cs ows : List (List ℕ)) : Type 0 where
 pub record Orders (d : ℕ) (cs : List (List ℕ)) (order : List ℕ) : Type 0 where
   pub whole : length order % suc d ≡ 0
   pub words : IsOrder cs (rows (suc d) order)
-
--- x in front of the rest, unless it is what is left out
-unfoldable pub keepUnless : Bool → ℕ → List ℕ → List ℕ
-keepUnless true x w = w
-keepUnless false x w = x ∷ w
-
--- the word without the vertex v
-unfoldable pub without : ℕ → List ℕ → List ℕ
-without v [] = []
-without v (x ∷ w) = keepUnless (eqb x v) x (without v w)
 
 -- the words ks, one for each cell, agree on every facet of two cells: without the vertex that each cell has not on the facet, they are one sequence
 pub record AgreeOnFacets (d : ℕ) (cs ks : List (List ℕ)) : Type 0 where

@@ -3,11 +3,10 @@ use mathlib.Core.List.{List}
 use mathlib.Core.Path.{_≡_}
 use Prim.Native.Nat.{ℕ, suc, _+_, _-_, _*_, _/_, _%_, _<_, _≤_}
 use lib.ListN.{length, getD}
-use Rattle.sorting.specs.Gather.{row}
+use Rattle.lists.specs.Rows.{row}
 use Rattle.multiindex.specs.Sort.{inversions}
 use Rattle.complex.specs.Facets.{slots}
-use Rattle.complex_mates.specs.Table.{none}
-use Rattle.ordering.specs.Order.{without}
+use Rattle.lists.specs.Words.{without, none}
 
 -- the word of facet row x's cell, without the vertex that is dropped
 abbrev pub rowWord : ℕ → ℕ → ℕ → List ℕ → ℕ → List ℕ

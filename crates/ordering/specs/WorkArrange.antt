@@ -4,8 +4,7 @@ use mathlib.Core.List.{List, []}
 use mathlib.Core.Path.{_≡_}
 use Prim.Native.Nat.{ℕ, suc, _+_, _*_, _<_, _≤_, _^_}
 use lib.ListN.{length, getD, take, drop}
-use Rattle.lists.specs.Rows.{cut, rows, flat}
-use Rattle.sorting.specs.Gather.{row}
+use Rattle.lists.specs.Rows.{cut, rows, flat, row}
 use Rattle.complex.specs.Cells.{inOrder}
 use Rattle.complex_cells.specs.WorkMade.{Made}
 use Rattle.ordering.specs.Order.{wordOf, byCell, Orders}

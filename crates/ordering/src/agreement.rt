@@ -5,7 +5,7 @@ ghost use mathlib.Core.List.{[]};
 ghost use Prim.Native.Nat.{ℕ, _*_, _<_};
 ghost use lib.ListN.{getD};
 ghost use Rattle.complex.specs.Facets.{slots};
-ghost use Rattle.ordering.specs.Order.{sameWord, without};
+ghost use Rattle.lists.specs.Words.{sameWord, without};
 ghost use Rattle.ordering.specs.WorkAgree.{rowWord, Reading, Agreeing, AgreesAt, Clash, markAt, Marking};
 
 fn wide(x: u32) -> usize

@@ -16,14 +16,15 @@ use Rattle.lists.specs.Rows.{cut}
 use Rattle.complex.specs.Cells.{cellsOf}
 use Rattle.lists.proofs.Rows.{cut-length}
 use Rattle.complex.specs.Facets.{Crowded, Cells, slots}
-use Rattle.complex_mates.specs.Table.{none, MateTable, Meeting}
+use Rattle.lists.specs.Words.{none}
+use Rattle.complex_mates.specs.Table.{MateTable, Meeting}
 use Rattle.complex_mates.proofs.Meeting.{slots-most}
 use Rattle.complex_cells.specs.WorkMade.{Making, Made}
 use Rattle.multiindex.specs.Sign.{Sign, signNumber}
 use Rattle.orientation_signs.specs.Signs.{Coherent, Oriented, signList}
 use Rattle.orientation_signs.specs.Looks.{looksOf}
 use Rattle.orientation_signs.specs.WorkFound.{signOf, markNumber, handedOut, Finding, Found}
-use Rattle.orientation_signs.proofs.Linking.{not-crowded}
+use Rattle.complex_mates.proofs.Mated.{not-crowded}
 use Rattle.orientation_signs.proofs.Whole.{looks-whole}
 use Rattle.complex.specs.Room.{keyRoom}
 use Rattle.orientation.specs.Promise.{Ends, crowded, one-sided, short, signed}

@@ -8,8 +8,9 @@ use native.Mathlib.Nat.{mul-add-div-right, div-eq-of-lt, add-zero, suc-mul, mul-
 use native.Mathlib.Omega.{arith}
 use lib.ListN.{length, getD}
 use Rattle.complex.specs.Facets.{slots}
-use Rattle.complex_mates.specs.Table.{none, MateTable, Across}
-use Rattle.complex_mates.proofs.Laws.{slots-some, row-cell-below, row-slot-below, row-is}
+use Rattle.lists.specs.Words.{none}
+use Rattle.complex_mates.specs.Table.{MateTable, Across}
+use Rattle.lists.proofs.Rows.{row-cell-below, row-slot-below, row-is, slots-some}
 use Rattle.orientation_walk.specs.WorkSigns as walk
 use Rattle.orientation_walk.specs.WorkSigns.{turned, Link}
 use Rattle.multiindex.specs.Sign.{Sign, plus, minus}

@@ -18,7 +18,7 @@ use Rattle.complex_cells.specs.WorkMade.{Made}
 use Rattle.multiindex.specs.Sign.{Sign}
 use Rattle.orientation_signs.specs.Signs.{Coherent}
 use Rattle.orientation_signs.specs.WorkFound.{signOf}
-use Rattle.orientation_signs.proofs.Linking.{not-crowded}
+use Rattle.complex_mates.proofs.Mated.{not-crowded}
 use Rattle.orientation.specs.Work.{Working}
 use Rattle.orientation.proofs.Steps.{finding}
 use Rattle.orientation_by.specs.Promise.{Given, Ends, crowded, unfit, agreed, differs}

@@ -5,7 +5,7 @@ use mathlib.Core.Path.{_≡_}
 use Prim.Native.Nat.{ℕ, zero, suc, _/_, _<_, _≤_}
 use lib.IntN.{ℤ, pos, negsuc}
 use lib.ListN.{length, getD}
-use Rattle.complex_mates.specs.Table.{none}
+use Rattle.lists.specs.Words.{none}
 use Rattle.orientation_walk.specs.WorkSigns.{turned}
 use Rattle.orientation_walk.specs.WorkSigns as walk
 use Rattle.multiindex.specs.Sign.{Sign}

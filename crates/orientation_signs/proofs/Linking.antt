@@ -9,9 +9,12 @@ use native.Mathlib.Numerals.{add-one}
 use native.Mathlib.Omega.{arith}
 use lib.ListN.{length, getD}
 use Rattle.complex.specs.Facets.{FacetOf, Mates, Crowded, slots}
-use Rattle.complex_mates.specs.Table.{none, Meet, MateTable, Across, Crossing}
-use Rattle.complex_mates.proofs.Laws.{row-cell-below, row-slot-below, row-is, slots-some}
+use Rattle.lists.specs.Words.{none}
+use Rattle.complex_mates.specs.Table.{Meet, MateTable, Across, Crossing}
+use Rattle.lists.proofs.Rows.{row-in, row-div, row-mod, row-cell-below, row-slot-below, row-is, slots-some}
 use Rattle.complex_mates.proofs.Meeting.{slots-most, slots-dim}
+use Rattle.complex_mates.proofs.Places.{slots-pos}
+use Rattle.complex_mates.proofs.Mated.{moved, rows-few, mate-below, facet-row, mates-row}
 use Rattle.orientation_walk.specs.WorkSigns as walk
 use Rattle.orientation_walk.specs.WorkSigns.{turned, Link}
 use Rattle.orientation_walk.specs.WorkSigns.Way.{here, on}
@@ -112,63 +115,12 @@ opposed-by d s s′ a b h h′ e =
 by-opposed : (d s s′ : ℕ) (a b : Sign) → s ≤ d → s′ ≤ d → times a (induced (d - s)) ≡ opposite (times b (induced (d - s′))) → b ≡ times a (induced (s + s′ + 1))
 by-opposed d s s′ a b h h′ e = forced a b (induced (d - s)) (induced (d - s′)) e ∙ across-sign d s s′ a h h′
 
--- ---- rows
-pub row-in : (c s m k : ℕ) → c < m → s < k → c * k + s < m * k
-row-in c s m k hc hs = omega (arith, suc-mul c k, mul-le-mul-right k hc)
-
-pub row-div : (c s k : ℕ) → s < k → (c * k + s) / k ≡ c
-row-div c s k h = mul-add-div-right (omega arith) c s ∙ ap (λ (x : ℕ). c + x) (div-eq-of-lt h) ∙ add-zero c
-
-pub row-mod : (c s k : ℕ) → s < k → (c * k + s) % k ≡ s
-row-mod c s k h = mul-add-mod-self-right c k s ∙ mod-eq-of-lt h
-
--- mates, said of equal numbers
-pub moved : (d : ℕ) (cs : List (List ℕ)) {c i c′ i′ : ℕ} (c₁ i₁ c₂ i₂ : ℕ) → c ≡ c₁ → i ≡ i₁ → c′ ≡ c₂ → i′ ≡ i₂ → Mates d cs c i c′ i′ → Mates d cs c₁ i₁ c₂ i₂
-moved d cs {c} {i} {c′} {i′} c₁ i₁ c₂ i₂ e f g h u =
-    subst (λ (z : ℕ). Mates d cs z i₁ c₂ i₂) e
-    (subst (λ (z : ℕ). Mates d cs c z c₂ i₂) f
-    (subst (λ (z : ℕ). Mates d cs c i z i₂) g
-    (subst (λ (z : ℕ). Mates d cs c i c′ z) h u)))
-
 turned-round : {d : ℕ} {cs : List (List ℕ)} {c i c′ i′ : ℕ} → Mates d cs c i c′ i′ → Mates d cs c′ i′ c i
 turned-round u = record { this = u .that; that = u .this; apart = λ e. u .apart (sym e); one = sym (u .one) }
-
-pub slots-pos : (d : ℕ) → 0 < d → slots d ≡ suc d
-slots-pos zero h = absurd (omega arith)
-slots-pos (suc d) h = refl
 
 module _ (d m : ℕ) (cs : List (List ℕ)) (many : length cs ≡ m) (mates : List ℕ) (t : MateTable d cs mates) (few : m * suc d < none) where
   in-cs : (x : ℕ) → x < m * slots d → x < length cs * slots d
   in-cs x h = rw many h
-
-  pub rows-few : m * slots d < none
-  rows-few = omega (arith, mul-le-mul-left m (slots-most d))
-
-  pub mate-below : (x : ℕ) → x < m * slots d → (getD mates x 0 ≡ none → ⊥) → getD mates x 0 < m * slots d
-  mate-below x h s = subst (λ (z : ℕ). getD mates x 0 < z * slots d) many (t .below x (in-cs x h) s)
-
-  -- the row of a facet
-  pub facet-row : {c i : ℕ} → FacetOf d cs c i → (c * slots d + (d - i) < m * slots d) × ((c * slots d + (d - i)) / slots d ≡ c) × ((c * slots d + (d - i)) % slots d ≡ d - i) × (d - (c * slots d + (d - i)) % slots d ≡ i)
-  facet-row {c} {i} u =
-      let z : slots d ≡ suc d = slots-pos d (u .some) in
-      let l : d - i < slots d = omega arith in
-      let g : (c * slots d + (d - i)) % slots d ≡ d - i = row-mod c (d - i) (slots d) l in
-      let p = u .place in
-      (row-in c (d - i) m (slots d) (omega (arith, u .cell)) l, row-div c (d - i) (slots d) l, g, omega arith)
-
-  -- mates are in the table
-  pub mates-row : {c i c′ i′ : ℕ} → Mates d cs c i c′ i′ → getD mates (c * slots d + (d - i)) 0 ≡ c′ * slots d + (d - i′)
-  mates-row {c} {i} {c′} {i′} u =
-      let x = facet-row (u .this) in
-      let y = facet-row (u .that) in
-      t .all (c * slots d + (d - i)) (c′ * slots d + (d - i′)) (in-cs (c * slots d + (d - i)) (x .0)) (in-cs (c′ * slots d + (d - i′)) (y .0)) (moved d cs _ _ _ _ (sym (x .1)) (sym (x .3)) (sym (y .1)) (sym (y .3)) u)
-
-  -- a table of mates leaves no room for three
-  pub not-crowded : Crowded d cs → ⊥
-  not-crowded w =
-      let x = facet-row (w .one .that) in
-      let y = facet-row (w .other .that) in
-      w .apart (sym (x .1) ∙ ap (λ (z : ℕ). z / slots d) (sym (mates-row (w .one)) ∙ mates-row (w .other)) ∙ y .1)
 
   module _ (o fl : List ℕ) (a : (x : ℕ) → x < m * slots d → Across (slots d) mates o fl x) where
     -- a link is a pair of mates
@@ -184,7 +136,7 @@ module _ (d m : ℕ) (cs : List (List ℕ)) (many : length cs ≡ m) (mates : Li
         let u = t .meet x (in-cs x h) some in
         let y = getD mates x 0 in
         let p : y / slots d ≡ j = sym (w .to some) ∙ l .to in
-        let q : y % slots d < slots d = row-slot-below y m (slots d) (mate-below x h some) in
+        let q : y % slots d < slots d = row-slot-below y m (slots d) (mate-below d m cs many mates t few x h some) in
         let o = slots-most d in
         let b = l .below in (
           y % slots d,
@@ -197,11 +149,11 @@ module _ (d m : ℕ) (cs : List (List ℕ)) (many : length cs ≡ m) (mates : Li
     -- and back
     mates-link : {c i c′ i′ : ℕ} → Mates d cs c i c′ i′ → Link m (slots d) o fl c c′ ((d - i + (d - i′) + 1) % 2)
     mates-link {c} {i} {c′} {i′} u =
-        let x = facet-row (u .this) in
-        let y = facet-row (u .that) in
-        let q = mates-row u in
+        let x = facet-row d m cs many mates t few (u .this) in
+        let y = facet-row d m cs many mates t few (u .that) in
+        let q = mates-row d m cs many mates t few u in
         let w = a (c * slots d + (d - i)) (x .0) in
-        let some : getD mates (c * slots d + (d - i)) 0 ≡ none → ⊥ = λ z. omega (arith, q, y .0, rows-few) in
+        let some : getD mates (c * slots d + (d - i)) 0 ≡ none → ⊥ = λ z. omega (arith, q, y .0, rows-few d m cs many mates t few) in
         let z : slots d ≡ suc d = slots-pos d (u .this .some) in
         record {
           slot = d - i;
@@ -231,7 +183,7 @@ module _ (d m : ℕ) (cs : List (List ℕ)) (many : length cs ≡ m) (mates : Li
               λ p h s.
               let w = a p h in
               let some : getD mates p 0 ≡ none → ⊥ = λ z. s (w .edge z) in
-              rw (w .to some) (row-cell-below (getD mates p 0) m (slots d) (mate-below p h some));
+              rw (w .to some) (row-cell-below (getD mates p 0) m (slots d) (mate-below d m cs many mates t few p h some));
           back = linked-back;
         }
 

@@ -6,7 +6,8 @@ use Prim.Native.Nat.{ℕ, zero, suc, _*_, _<_, _≤_}
 use lib.IntN.{ℤ, pos, negsuc}
 use lib.ListN.{length, getD}
 use Rattle.complex.specs.Facets.{slots}
-use Rattle.complex_mates.specs.Table.{none, MateTable}
+use Rattle.lists.specs.Words.{none}
+use Rattle.complex_mates.specs.Table.{MateTable}
 use Rattle.multiindex.specs.Sign.{Sign, plus, minus}
 use Rattle.orientation_signs.specs.Signs.{Coherent, Oriented}
 use Rattle.orientation_signs.specs.Looks.{looksOf}

@@ -9,12 +9,11 @@ use lib.Dec.{ltb}
 use borrow.Author.Tests.{le-ltb}
 use lib.ListN.{length, getD, take}
 use lib.Seq.{take-all}
-use Rattle.lists.specs.Rows.{cut, rows, flat}
+use Rattle.lists.specs.Rows.{cut, rows, flat, row}
 use Rattle.lists.proofs.Flat.{each-long, flat-length, cut-flat}
 use Rattle.lists.proofs.Rows.{cut-length, cut-at}
 use Rattle.lists.proofs.Words.{below-largest, word-within}
 use Rattle.lists.proofs.Members.{All, All-of, All-at}
-use Rattle.sorting.specs.Gather.{row}
 use Rattle.sorting.proofs.Colex.{row-length, row-cell}
 use Rattle.multiindex.specs.Sort.{insertBy, insert, sortWord}
 use Rattle.multiindex.proofs.SortLaws.{AtLeast, Sorted, sort-sorted, sort-length}
@@ -26,7 +25,8 @@ use Rattle.complex_cells.proofs.Words.{Word, In, in-at, at-in}
 use Rattle.complex_cells.proofs.Order.{order-from}
 use Rattle.complex_cells.proofs.Strict.{sort-all}
 use Rattle.complex_cells.proofs.Making.{whole-words}
-use Rattle.refine_lattice.specs.Complex.{occurrences, same}
+use Rattle.lists.specs.Words.{same}
+use Rattle.refine_lattice.specs.Complex.{occurrences}
 use Rattle.refine_lattice.proofs.Enumerate.{once-of-apart}
 use Rattle.ordering.specs.Order.{wordOf, byCell, IsOrder}
 use Rattle.ordering.proofs.Lists.{cut-front, sort-back}

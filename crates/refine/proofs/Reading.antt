@@ -18,12 +18,12 @@ use Rattle.complex.specs.Facets.{Cells, Crowded, slots}
 use Rattle.complex_cells.specs.WorkMade.{Made}
 use Rattle.complex_mates.specs.Table.{MateTable, Meeting}
 use Rattle.complex_mates.proofs.Meeting.{slots-most}
-use Rattle.orientation_signs.proofs.Linking.{not-crowded}
+use Rattle.complex_mates.proofs.Mated.{not-crowded}
 use Rattle.ordering.specs.Order.{byCell, Orders}
 use Rattle.ordering.specs.WorkArrange.{Arranging, Arranged}
 use Rattle.ordering.proofs.Lists.{cut-front, front-at}
 use Rattle.refine_results.specs.Refined.{coarse, orderWords}
-use Rattle.refine.specs.WorkReading.{wordsBy, OrderedBy, Making, Reads}
+use Rattle.refine.specs.WorkReading.{wordsAlong, OrderedBy, Making, Reads}
 use Rattle.refine.specs.WorkReading.Reads.{crowded as reads-crowded, unordered as reads-unordered, read as reads-read}
 use Rattle.refine.specs.WorkCoarse.{Listing, Listed, Naming, Named}
 use Rattle.refine.specs.WorkCoarse.Listed.{crowded as listed-crowded, listed as listed-cells}
@@ -129,7 +129,7 @@ module _ (d m : ℕ) (ws cells along keys spare counts : List ℕ) (w : Naming d
       }
 
   -- the cells are their own words
-  pub named-plain : (order part : List ℕ) → part ≡ take (m * (d + 1)) cells → Named d m ws (OrderedBy false d ws order) (wordsBy false d ws order) true cells (part ++ drop (m * (d + 1)) along)
+  pub named-plain : (order part : List ℕ) → part ≡ take (m * (d + 1)) cells → Named d m ws (OrderedBy false d ws order) (wordsAlong false d ws order) true cells (part ++ drop (m * (d + 1)) along)
   named-plain order part e =
       let front : take (m * suc d) (part ++ drop (m * (d + 1)) along) ≡ take (m * suc d) cells = copied d m (m * (d + 1)) (size d m) cells along part fits-cells e in
       let long : m * suc d ≤ length (part ++ drop (m * (d + 1)) along) = copied-long d m (m * (d + 1)) (size d m) cells along part fits-cells e in
@@ -178,12 +178,12 @@ module _ (d m : ℕ) (ws cells along keys spare counts : List ℕ) (w : Naming d
 
 -- where an order is given, and where none is
 pub by-order : (given : Bool) → given ≡ true → (d m : ℕ) (ws order : List ℕ) (ok : Bool) (cells along : List ℕ) → Named d m ws (Orders d (cellsOf d ws) order) (orderWords d ws order) ok cells along
-    → Named d m ws (OrderedBy given d ws order) (wordsBy given d ws order) ok cells along
+    → Named d m ws (OrderedBy given d ws order) (wordsAlong given d ws order) ok cells along
 by-order true e d m ws order ok cells along n = n
 by-order false e d m ws order ok cells along n = absurd (no-true e)
 
-pub by-cells : (given : Bool) → given ≡ false → (d m : ℕ) (ws order : List ℕ) (ok : Bool) (cells along : List ℕ) → Named d m ws (OrderedBy false d ws order) (wordsBy false d ws order) ok cells along
-    → Named d m ws (OrderedBy given d ws order) (wordsBy given d ws order) ok cells along
+pub by-cells : (given : Bool) → given ≡ false → (d m : ℕ) (ws order : List ℕ) (ok : Bool) (cells along : List ℕ) → Named d m ws (OrderedBy false d ws order) (wordsAlong false d ws order) ok cells along
+    → Named d m ws (OrderedBy given d ws order) (wordsAlong given d ws order) ok cells along
 by-cells true e d m ws order ok cells along n = absurd (no-true (sym e))
 by-cells false e d m ws order ok cells along n = n
 

@@ -16,9 +16,9 @@ use Rattle.refine_results.specs.Refined.{coarse, orderWords}
 use Rattle.refine_results.specs.WorkFlat.{Along}
 
 -- the words refined by: the caller's where an order is given, else the cells' sorted vertices
-abbrev pub wordsBy : Bool → ℕ → List ℕ → List ℕ → List (List ℕ)
-wordsBy true d ws os = orderWords d ws os
-wordsBy false d ws os = cellsOf d ws
+abbrev pub wordsAlong : Bool → ℕ → List ℕ → List ℕ → List (List ℕ)
+wordsAlong true d ws os = orderWords d ws os
+wordsAlong false d ws os = cellsOf d ws
 
 -- 16 does not apply: where no order is given it never does
 abbrev pub OrderedBy : Bool → ℕ → List ℕ → List ℕ → Type 0

@@ -10,7 +10,7 @@ ghost use Rattle.lists.specs.Words.{largestOf};
 ghost use Rattle.complex.specs.Cells.{cellsOf};
 ghost use Rattle.ordering.specs.Order.{Orders};
 ghost use Rattle.refine_results.specs.Refined.{coarse, orderWords};
-ghost use Rattle.refine.specs.WorkReading.{wordsBy, OrderedBy, Making, Reads};
+ghost use Rattle.refine.specs.WorkReading.{wordsAlong, OrderedBy, Making, Reads};
 ghost use Rattle.refine.specs.WorkCoarse.{Listing, Listed, Naming, Named};
 
 fn wide(x: u32) -> usize
@@ -98,7 +98,7 @@ fn name(
 ) -> bool
     requires { ⌜ Naming d m (now given) (now cells) (now along) (now keys) (now spare) (now counts) ⌝ }
     ensures { λ r.
-        ⌜ Named d m (now (given .entry)) (OrderedBy «with_order» d (now (given .entry)) (now (order .entry))) (wordsBy «with_order» d (now (given .entry)) (now (order .entry))) r
+        ⌜ Named d m (now (given .entry)) (OrderedBy «with_order» d (now (given .entry)) (now (order .entry))) (wordsAlong «with_order» d (now (given .entry)) (now (order .entry))) r
         (now (cells .exit)) (now (along .exit)) ⌝ }
 {
     if with_order {
@@ -124,7 +124,7 @@ pub fn read(
 ) -> Counted
     requires { ⌜ Making d (now given) (now cells) (now along) (now keys) (now rows) (now spare) (now counts) ⌝ }
     ensures { λ r.
-        ⌜ Reads d (now (given .entry)) (OrderedBy «with_order» d (now (given .entry)) (now (order .entry))) (wordsBy «with_order» d (now (given .entry)) (now (order .entry)))
+        ⌜ Reads d (now (given .entry)) (OrderedBy «with_order» d (now (given .entry)) (now (order .entry))) (wordsAlong «with_order» d (now (given .entry)) (now (order .entry)))
         (now (cells .exit)) (now (along .exit)) r ⌝ }
 {
     let listed = list(d, given, cells, keys, rows, spare, counts);

@@ -23,7 +23,7 @@ use refusal::TOO_SHORT;
 ghost use Rattle.complex.specs.Cells.{cellsOf};
 ghost use Rattle.ordering.specs.Order.{Orders};
 ghost use Rattle.refine_results.specs.Refined.{orderWords};
-ghost use Rattle.refine.specs.WorkReading.{OrderedBy, wordsBy};
+ghost use Rattle.refine.specs.WorkReading.{OrderedBy, wordsAlong};
 ghost use Rattle.refine.specs.Promise.{Refining};
 ghost use Rattle.refine.specs.Work.{Working, Worked, AllTen};
 
@@ -68,7 +68,7 @@ fn work(
     buckets: &mut [u32],
 ) -> Refinement
     requires { ⌜ Working d (now given) r (now cells) (now along) (now pattern) (now keys) (now rows) (now spare) (now counts) (now sorted) (now firsts) (now buckets) ⌝ }
-    ensures { λ res. ⌜ Worked d (now (given .entry)) r (OrderedBy «with_order» d (now (given .entry)) (now (order .entry))) (wordsBy «with_order» d (now (given .entry)) (now (order .entry))) res (now («out_cells» .entry)) (now («out_cells» .exit)) (now («out_words» .entry)) (now («out_words» .exit)) (now (parents .entry)) (now (parents .exit)) (now (jacobians .entry)) (now (jacobians .exit)) (now (wholes .entry)) (now (wholes .exit)) (now («birth_vertices» .entry)) (now («birth_vertices» .exit)) (now («birth_weights» .entry)) (now («birth_weights» .exit)) (now («birth_shares» .entry)) (now («birth_shares» .exit)) ⌝ }
+    ensures { λ res. ⌜ Worked d (now (given .entry)) r (OrderedBy «with_order» d (now (given .entry)) (now (order .entry))) (wordsAlong «with_order» d (now (given .entry)) (now (order .entry))) res (now («out_cells» .entry)) (now («out_cells» .exit)) (now («out_words» .entry)) (now («out_words» .exit)) (now (parents .entry)) (now (parents .exit)) (now (jacobians .entry)) (now (jacobians .exit)) (now (wholes .entry)) (now (wholes .exit)) (now («birth_vertices» .entry)) (now («birth_vertices» .exit)) (now («birth_weights» .entry)) (now («birth_weights» .exit)) (now («birth_shares» .entry)) (now («birth_shares» .exit)) ⌝ }
 {
     let found = coarse::read(
         with_order,
@@ -142,7 +142,7 @@ fn cleared(
     buckets: &mut [u32],
 ) -> Refinement
     requires { ⌜ Working d (now given) r (now cells) (now along) (now pattern) (now keys) (now rows) (now spare) (now counts) (now sorted) (now firsts) (now buckets) ⌝ }
-    ensures work { λ res. ⌜ Worked d (now (given .entry)) r (OrderedBy «with_order» d (now (given .entry)) (now (order .entry))) (wordsBy «with_order» d (now (given .entry)) (now (order .entry))) res (now («out_cells» .entry)) (now («out_cells» .exit)) (now («out_words» .entry)) (now («out_words» .exit)) (now (parents .entry)) (now (parents .exit)) (now (jacobians .entry)) (now (jacobians .exit)) (now (wholes .entry)) (now (wholes .exit)) (now («birth_vertices» .entry)) (now («birth_vertices» .exit)) (now («birth_weights» .entry)) (now («birth_weights» .exit)) (now («birth_shares» .entry)) (now («birth_shares» .exit)) ⌝ }
+    ensures work { λ res. ⌜ Worked d (now (given .entry)) r (OrderedBy «with_order» d (now (given .entry)) (now (order .entry))) (wordsAlong «with_order» d (now (given .entry)) (now (order .entry))) res (now («out_cells» .entry)) (now («out_cells» .exit)) (now («out_words» .entry)) (now («out_words» .exit)) (now (parents .entry)) (now (parents .exit)) (now (jacobians .entry)) (now (jacobians .exit)) (now (wholes .entry)) (now (wholes .exit)) (now («birth_vertices» .entry)) (now («birth_vertices» .exit)) (now («birth_weights» .entry)) (now («birth_weights» .exit)) (now («birth_shares» .entry)) (now («birth_shares» .exit)) ⌝ }
     ensures room { λ _. ⌜ AllTen (now (cells .entry)) (now (cells .exit)) (now (along .entry)) (now (along .exit)) (now (pattern .entry)) (now (pattern .exit)) (now (keys .entry)) (now (keys .exit)) (now (rows .entry)) (now (rows .exit)) (now (spare .entry)) (now (spare .exit)) (now (counts .entry)) (now (counts .exit)) (now (sorted .entry)) (now (sorted .exit)) (now (firsts .entry)) (now (firsts .exit)) (now (buckets .entry)) (now (buckets .exit)) ⌝ }
 {
     let said = work(
@@ -211,7 +211,7 @@ fn refinement(
     firsts: &mut [u32],
     buckets: &mut [u32],
 ) -> Refinement
-    ensures { λ res. ⌜ Refining d (now (given .entry)) r (OrderedBy «with_order» d (now (given .entry)) (now (order .entry))) (wordsBy «with_order» d (now (given .entry)) (now (order .entry))) res (now («out_cells» .entry)) (now («out_cells» .exit)) (now («out_words» .entry)) (now («out_words» .exit)) (now (parents .entry)) (now (parents .exit)) (now (jacobians .entry)) (now (jacobians .exit)) (now (wholes .entry)) (now (wholes .exit)) (now («birth_vertices» .entry)) (now («birth_vertices» .exit)) (now («birth_weights» .entry)) (now («birth_weights» .exit)) (now («birth_shares» .entry)) (now («birth_shares» .exit)) (now (cells .entry)) (now (cells .exit)) (now (along .entry)) (now (along .exit)) (now (pattern .entry)) (now (pattern .exit)) (now (keys .entry)) (now (keys .exit)) (now (rows .entry)) (now (rows .exit)) (now (spare .entry)) (now (spare .exit)) (now (counts .entry)) (now (counts .exit)) (now (sorted .entry)) (now (sorted .exit)) (now (firsts .entry)) (now (firsts .exit)) (now (buckets .entry)) (now (buckets .exit)) ⌝ }
+    ensures { λ res. ⌜ Refining d (now (given .entry)) r (OrderedBy «with_order» d (now (given .entry)) (now (order .entry))) (wordsAlong «with_order» d (now (given .entry)) (now (order .entry))) res (now («out_cells» .entry)) (now («out_cells» .exit)) (now («out_words» .entry)) (now («out_words» .exit)) (now (parents .entry)) (now (parents .exit)) (now (jacobians .entry)) (now (jacobians .exit)) (now (wholes .entry)) (now (wholes .exit)) (now («birth_vertices» .entry)) (now («birth_vertices» .exit)) (now («birth_weights» .entry)) (now («birth_weights» .exit)) (now («birth_shares» .entry)) (now («birth_shares» .exit)) (now (cells .entry)) (now (cells .exit)) (now (along .entry)) (now (along .exit)) (now (pattern .entry)) (now (pattern .exit)) (now (keys .entry)) (now (keys .exit)) (now (rows .entry)) (now (rows .exit)) (now (spare .entry)) (now (spare .exit)) (now (counts .entry)) (now (counts .exit)) (now (sorted .entry)) (now (sorted .exit)) (now (firsts .entry)) (now (firsts .exit)) (now (buckets .entry)) (now (buckets .exit)) ⌝ }
 {
     let checked = complex::check_cells(d, given);
     if let Answer::Refused(number, place) = checked {

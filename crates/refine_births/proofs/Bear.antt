@@ -9,13 +9,14 @@ use native.Mathlib.Omega.{arith}
 use native.Mathlib.Numerals.{add-one}
 use lib.ListN.{length, getD, set, take, drop, length-append, length-drop, length-set, length-map, List·getD-append, List·getD-eq-default, drop-of-length-le, take-append-drop}
 use lib.Seq.{ext-getD, getD-drop, getD-set-same, getD-set-other, length-take-le, take-at, drop-at, drop-drop}
-use Rattle.lists.specs.Rows.{flat}
-use Rattle.sorting.specs.Gather.{row}
-use Rattle.refine_lattice.specs.Lattice.{tab}
+use Rattle.lists.specs.Rows.{flat, row}
+use Rattle.lists.specs.Tables.{tab}
 use Rattle.refine_lattice.specs.Refine.{positives}
-use Rattle.refine_lattice.proofs.Tab.{length-tab, getD-tab}
-use Rattle.refine_births.specs.Support.{none, supporters, shares, padded, rowOf, Named}
-use Rattle.complex_mates.proofs.Laws.{row-fits, part-size, put-before, put-here, put-length}
+use Rattle.lists.proofs.Tables.{length-tab, getD-tab}
+use Rattle.lists.specs.Words.{none}
+use Rattle.refine_births.specs.Support.{supporters, shares, padded, rowOf, Named}
+use Rattle.lists.proofs.Rows.{row-fits, part-size}
+use Rattle.complex_mates.proofs.Laws.{put-before, put-here, put-length}
 use Rattle.refine_births.specs.Promise.{Born, Supports, Bearing, birthVertices, birthWeights}
 use Rattle.refine_births.proofs.Visiting.{part-is-row}
 use Rattle.refine_births.proofs.Points.{supporters-high, supporters-past, row-vertex, row-weight}

@@ -8,29 +8,28 @@ use native.Mathlib.Omega.{arith}
 use lib.Dec.{eqb, ltb}
 use lib.ListN.{length, getD, take, drop, replicate, length-append, length-map, length-replicate, getD-replicate, take-append-drop}
 use lib.Seq.{ext-getD, getD-take, length-take-le}
-use Rattle.lists.specs.Rows.{cut, flat}
+use Rattle.lists.specs.Rows.{cut, flat, row}
 use Rattle.lists.proofs.Flat.{flat-append, cut-before}
 use Rattle.lists.proofs.Laws.{front-part, map-at}
-use Rattle.lists.proofs.Rows.{cut-length, cut-at}
+use Rattle.lists.proofs.Rows.{cut-length, cut-at, row-fits, row-cell-below, row-slot-below, row-is, slots-some}
 use Rattle.sorting.specs.Bucket.{cell}
 use Rattle.sorting.specs.Order.{Table}
 use Rattle.sorting.specs.Distinct.{Distinct}
-use Rattle.sorting.specs.Gather.{row}
 use Rattle.sorting.proofs.Colex.{row-cell, row-length, row-same, same-row}
 use Rattle.sorting.proofs.Firsts.{id-eq, id-row}
-use Rattle.complex_mates.proofs.Laws.{row-fits, slots-some, row-cell-below, row-slot-below, row-is}
-use Rattle.refine_lattice.specs.Lattice.{tab}
+use Rattle.lists.specs.Tables.{tab}
 use Rattle.refine_lattice.specs.Complex.{weigh}
 use Rattle.refine_lattice.specs.Children.{gather, children, pick}
 use Rattle.refine_lattice.specs.Pattern.{patternOf}
 use Rattle.refine_lattice.specs.Refine.{point, visits, positives, place, births-from, births, number, words, vertices}
-use Rattle.refine_lattice.proofs.Tab.{length-tab}
+use Rattle.lists.proofs.Tables.{length-tab}
 use Rattle.refine_lattice.proofs.Count.{length-gather}
 use Rattle.refine_lattice.proofs.Count as count
 use Rattle.refine_lattice.proofs.Enumerate.{of-gather}
 use Rattle.refine_lattice.proofs.Pattern.{added, child-corners, row-sum, row-count, gather-at, flat-row, flat-count, visits-pattern}
 use Rattle.refine_lattice.proofs.Refines.{mem-at}
-use Rattle.refine_births.specs.Support.{none, rowOf, total}
+use Rattle.lists.specs.Words.{none}
+use Rattle.refine_births.specs.Support.{rowOf, total}
 use Rattle.refine_births.specs.WorkVisits.{visitAt, Visiting, Visited}
 use Rattle.refine_births.specs.WorkNumbers.{Classing, Classed, Numbering, Told, Numbered}
 use Rattle.refine_births.specs.Promise.{Resolving, Resolved, Supports}

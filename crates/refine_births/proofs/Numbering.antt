@@ -11,12 +11,13 @@ use native.Mathlib.Numerals.{add-one}
 use lib.Dec.{T, eqb, eqb→eq, eqb-refl, ltb, ltb→lt, lt→ltb}
 use lib.ListN.{length, getD, set, take, drop, length-append, length-set, List·getD-append}
 use lib.Seq.{take-suc, take-all, getD-set-same, getD-set-other, getD-append-seam}
-use Rattle.sorting.specs.Gather.{row}
+use Rattle.lists.specs.Rows.{row}
 use Rattle.sorting.proofs.Colex.{row-cell}
 use Rattle.refine_lattice.specs.Children.{pick}
-use Rattle.refine_lattice.specs.Refine.{positives, first, equal, place, births-from, number}
+use Rattle.lists.specs.Words.{sameWord, none}
+use Rattle.refine_lattice.specs.Refine.{positives, first, place, births-from, number}
 use Rattle.refine_lattice.proofs.Refines.{yes-pick, no-pick, dec-T, equal-eq, equal-refl}
-use Rattle.refine_births.specs.Support.{none, supporters, rowOf, Starts}
+use Rattle.refine_births.specs.Support.{supporters, rowOf, Starts}
 use Rattle.refine_births.specs.WorkNumbers.{Numbering, Told, Numbered}
 use Rattle.refine_births.proofs.Points.{supporters-first, supporters-high, row-vertex}
 use Rattle.refine_births.proofs.Seek.{eqb-yes, one-first}
@@ -26,31 +27,31 @@ use Rattle.refine_births.proofs.Visiting.{part-is-row}
 pub place-found : (ms : List (List ℕ)) (l : List ℕ) → place ms l < length ms → getD ms (place ms l) [] ≡ l
 place-found [] l h = absurd (not-suc-le-zero h)
 place-found (m ∷ ms) l h =
-    elim (dec-T (equal m l)) [
-      | yes t ↦ ap (λ (i : ℕ). getD (m ∷ ms) i []) (yes-pick (equal m l) 0 (suc (place ms l)) t) ∙ equal-eq m l t
+    elim (dec-T (sameWord m l)) [
+      | yes t ↦ ap (λ (i : ℕ). getD (m ∷ ms) i []) (yes-pick (sameWord m l) 0 (suc (place ms l)) t) ∙ equal-eq m l t
       | no t ↦
-          let e : place (m ∷ ms) l ≡ suc (place ms l) = no-pick (equal m l) 0 (suc (place ms l)) t in
+          let e : place (m ∷ ms) l ≡ suc (place ms l) = no-pick (sameWord m l) 0 (suc (place ms l)) t in
           ap (λ (i : ℕ). getD (m ∷ ms) i []) e ∙ place-found ms l (omega arith)
     ]
 
 place-kept : (ms more : List (List ℕ)) (l : List ℕ) → place ms l < length ms → place (ms ++ more) l ≡ place ms l
 place-kept [] more l h = absurd (not-suc-le-zero h)
 place-kept (m ∷ ms) more l h =
-    elim (dec-T (equal m l)) [
-      | yes t ↦ yes-pick (equal m l) 0 (suc (place (ms ++ more) l)) t ∙ sym (yes-pick (equal m l) 0 (suc (place ms l)) t)
+    elim (dec-T (sameWord m l)) [
+      | yes t ↦ yes-pick (sameWord m l) 0 (suc (place (ms ++ more) l)) t ∙ sym (yes-pick (sameWord m l) 0 (suc (place ms l)) t)
       | no t ↦
-          let e : place (m ∷ ms) l ≡ suc (place ms l) = no-pick (equal m l) 0 (suc (place ms l)) t in
-          no-pick (equal m l) 0 (suc (place (ms ++ more) l)) t ∙ ap suc (place-kept ms more l (omega arith)) ∙ sym e
+          let e : place (m ∷ ms) l ≡ suc (place ms l) = no-pick (sameWord m l) 0 (suc (place ms l)) t in
+          no-pick (sameWord m l) 0 (suc (place (ms ++ more) l)) t ∙ ap suc (place-kept ms more l (omega arith)) ∙ sym e
     ]
 
 place-new : (ms : List (List ℕ)) (l : List ℕ) → length ms ≤ place ms l → place (ms ++ (l ∷ [])) l ≡ length ms
-place-new [] l h = yes-pick (equal l l) 0 1 (equal-refl l)
+place-new [] l h = yes-pick (sameWord l l) 0 1 (equal-refl l)
 place-new (m ∷ ms) l h =
-    elim (dec-T (equal m l)) [
-      | yes t ↦ absurd (omega (arith, yes-pick (equal m l) 0 (suc (place ms l)) t))
+    elim (dec-T (sameWord m l)) [
+      | yes t ↦ absurd (omega (arith, yes-pick (sameWord m l) 0 (suc (place ms l)) t))
       | no t ↦
-          let e : place (m ∷ ms) l ≡ suc (place ms l) = no-pick (equal m l) 0 (suc (place ms l)) t in
-          no-pick (equal m l) 0 (suc (place (ms ++ (l ∷ [])) l)) t ∙ ap suc (place-new ms l (omega arith))
+          let e : place (m ∷ ms) l ≡ suc (place ms l) = no-pick (sameWord m l) 0 (suc (place ms l)) t in
+          no-pick (sameWord m l) 0 (suc (place (ms ++ (l ∷ [])) l)) t ∙ ap suc (place-new ms l (omega arith))
     ]
 
 -- ---- births, one visit more

@@ -9,12 +9,14 @@ use native.Mathlib.Omega.{arith}
 use native.Mathlib.Numerals.{add-one}
 use lib.ListN.{length, getD, take, drop, length-append, length-drop, List·getD-append, List·getD-eq-default, drop-of-length-le}
 use lib.Seq.{ext-getD, drop-cons, getD-drop, getD-append-add}
-use Rattle.refine_lattice.specs.Lattice.{tab, dot}
-use Rattle.refine_lattice.specs.Complex.{same, weigh}
+use Rattle.lists.specs.Tables.{tab}
+use Rattle.refine_lattice.specs.Lattice.{dot}
+use Rattle.lists.specs.Words.{same, none}
+use Rattle.refine_lattice.specs.Complex.{weigh}
 use Rattle.refine_lattice.specs.Refine.{positives, first}
-use Rattle.refine_lattice.proofs.Tab.{length-tab, getD-tab, tab-ext}
-use Rattle.refine_lattice.proofs.Sums.{same-self, same-yes, same-no, same-eq}
-use Rattle.refine_births.specs.Support.{none, supporters, shares, padded, rowOf, total, Next, Starts}
+use Rattle.lists.proofs.Tables.{length-tab, getD-tab, tab-ext}
+use Rattle.lists.proofs.Words.{same-self, same-yes, same-no, same-eq}
+use Rattle.refine_births.specs.Support.{supporters, shares, padded, rowOf, total, Next, Starts}
 
 -- ---- the support of a list of shares
 pub supporters-long : (v : ℕ) (l : List ℕ) → length (supporters v l) ≡ positives l

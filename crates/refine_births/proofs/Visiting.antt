@@ -6,12 +6,14 @@ use Prim.Native.Nat.{ℕ, zero, suc, _+_, _*_, _-_, _/_, _%_, _≤_, _<_}
 use native.Mathlib.Nat.{suc-mul, mul-le-mul-right, eq-or-lt-of-le, add-sub-cancel-left}
 use native.Mathlib.Omega.{arith}
 use lib.ListN.{length, getD, take, drop}
-use Rattle.sorting.specs.Gather.{row}
+use Rattle.lists.specs.Rows.{row}
 use Rattle.sorting.proofs.Colex.{row-length, row-cell}
-use Rattle.complex_mates.proofs.Laws.{row-fits, slots-some, row-cell-below, row-slot-below, put-before, put-here, put-length}
-use Rattle.refine_lattice.specs.Lattice.{tab}
+use Rattle.lists.proofs.Rows.{row-fits, row-cell-below, row-slot-below, slots-some}
+use Rattle.complex_mates.proofs.Laws.{put-before, put-here, put-length}
+use Rattle.lists.specs.Tables.{tab}
 use Rattle.refine_lattice.specs.Complex.{weigh}
-use Rattle.refine_births.specs.Support.{none, rowOf, total, Weighing, Supporting}
+use Rattle.lists.specs.Words.{none}
+use Rattle.refine_births.specs.Support.{rowOf, total, Weighing, Supporting}
 use Rattle.refine_births.specs.WorkVisits.{visitAt, Visiting, Visited}
 use Rattle.refine_births.proofs.Points.{row-long}
 

@@ -3,11 +3,11 @@ use mathlib.Core.Path.{_≡_}
 use mathlib.Core.List.{List, [], map}
 use Prim.Native.Nat.{ℕ, suc, _+_, _*_, _^_, _≤_, _<_}
 use lib.ListN.{length, getD, take}
-use Rattle.lists.specs.Rows.{flat}
-use Rattle.sorting.specs.Gather.{row}
+use Rattle.lists.specs.Rows.{flat, row}
 use Rattle.refine_lattice.specs.Pattern.{patternOf}
 use Rattle.refine_lattice.specs.Refine.{births, words}
-use Rattle.refine_births.specs.Support.{none, supporters, shares, padded, rowOf, Named}
+use Rattle.lists.specs.Words.{none}
+use Rattle.refine_births.specs.Support.{supporters, shares, padded, rowOf, Named}
 
 -- the vertices of the births, one row of `size` numbers each: those of the support, rising, then none
 abbrev pub birthVertices : ℕ → List (List ℕ) → List ℕ

@@ -3,10 +3,11 @@ use mathlib.Core.Path.{_≡_}
 use mathlib.Core.List.{List, []}
 use Prim.Native.Nat.{ℕ, suc, _+_, _*_, _≤_, _<_}
 use lib.ListN.{length, getD}
-use Rattle.sorting.specs.Gather.{row}
+use Rattle.lists.specs.Rows.{row}
 use Rattle.sorting.specs.Order.{Table}
 use Rattle.refine_lattice.specs.Refine.{positives, births-from, number}
-use Rattle.refine_births.specs.Support.{none, rowOf}
+use Rattle.lists.specs.Words.{none}
+use Rattle.refine_births.specs.Support.{rowOf}
 
 -- what telling the classes of `many` rows of numbers below b asks
 pub record Classing (stride many b : ℕ) (keys rows spare counts : List ℕ) : Type 0 where

@@ -3,10 +3,11 @@ use mathlib.Core.Path.{_≡_}
 use mathlib.Core.List.{List}
 use Prim.Native.Nat.{ℕ, _+_, _*_, _/_, _%_, _≤_, _<_}
 use lib.ListN.{length, getD}
-use Rattle.sorting.specs.Gather.{row}
-use Rattle.refine_lattice.specs.Lattice.{tab}
+use Rattle.lists.specs.Rows.{row}
+use Rattle.lists.specs.Tables.{tab}
 use Rattle.refine_lattice.specs.Complex.{weigh}
-use Rattle.refine_births.specs.Support.{none, rowOf, total}
+use Rattle.lists.specs.Words.{none}
+use Rattle.refine_births.specs.Support.{rowOf, total}
 
 -- the shares of visit x, where the parents' words and the p rows of the pattern stand one after the other
 abbrev pub visitAt : ℕ → ℕ → ℕ → List ℕ → List ℕ → ℕ → List ℕ

@@ -13,7 +13,8 @@ ghost use mathlib.Core.List.{List, []};
 ghost use Prim.Native.Nat.{ℕ, suc, _+_, _*_, _≤_, _<_};
 ghost use lib.ListN.{length, getD, replicate};
 ghost use Rattle.lists.specs.Rows.{cut};
-ghost use Rattle.refine_births.specs.Support.{none, supporters, shares, padded, Starts};
+ghost use Rattle.lists.specs.Words.{none};
+ghost use Rattle.refine_births.specs.Support.{supporters, shares, padded, Starts};
 ghost use Rattle.refine_births.specs.WorkNumbers.{Classing, Classed, Numbering, Told, Numbered};
 ghost use Rattle.refine_births.specs.Promise.{birthVertices, birthWeights, Resolving, Resolved, Supports, Bearing, Born};
 

@@ -7,7 +7,8 @@ use native.Mathlib.Numerals.{add-one}
 use native.Mathlib.Omega.{arith}
 use lib.ListN.{length, getD, take, drop, length-append, length-drop, drop-of-length-le}
 use lib.Seq.{take-at, drop-at, drop-drop, length-take-le}
-use Rattle.sorting.specs.Gather.{row}
+use Rattle.lists.proofs.Rows.{part-row}
+use Rattle.lists.specs.Rows.{row}
 use Rattle.sorting.specs.Order.{Table}
 use Rattle.multiindex.specs.Sort.{sortWords}
 use Rattle.complex_cells.proofs.Making.{key-table}
@@ -48,39 +49,35 @@ module _ {A : Type 0} where
 
 -- ---- the parts that a child's lists are
 -- row r of k numbers, as it is lent
-abbrev pub part : ℕ → ℕ → List ℕ → List ℕ
-part k r l = take (r * k + k - r * k) (drop (r * k) l)
+abbrev pub lent : ℕ → ℕ → List ℕ → List ℕ
+lent k r l = take (r * k + k - r * k) (drop (r * k) l)
 
-pub part-row : (k k′ r : ℕ) (l : List ℕ) → k ≡ k′ → part k r l ≡ row l k′ r
-part-row k k′ r l e = ap (λ (n : ℕ). take n (drop (r * k) l)) (add-sub-cancel-left (r * k) k) ∙ ap (λ (n : ℕ). row l n r) e
+lent-row : (k k′ r : ℕ) (l : List ℕ) → k ≡ k′ → lent k r l ≡ row l k′ r
+lent-row k k′ r l e = part-row l k r ∙ ap (λ (n : ℕ). row l n r) e
 
 module _ {ℓ} {A : Type ℓ} (d size x : ℕ) (pattern words sorted along cells : List ℕ) (F : List ℕ → List ℕ → List ℕ → List ℕ → List ℕ → A) where
-  pub at-parts : F (part ((d + 1) * (d + 1)) (x % size) pattern) (part (d + 1) x words) (part (d + 1) (x / size) along) (part (d + 1) (x / size) cells) (part (d + 1) x sorted)
+  pub at-parts : F (lent ((d + 1) * (d + 1)) (x % size) pattern) (lent (d + 1) x words) (lent (d + 1) (x / size) along) (lent (d + 1) (x / size) cells) (lent (d + 1) x sorted)
       ≡ F (row pattern (suc d * suc d) (x % size)) (row words (suc d) x) (row along (suc d) (x / size)) (row cells (suc d) (x / size)) (row sorted (suc d) x)
   at-parts =
       let e : d + 1 ≡ suc d = add-one d in
       let q : (d + 1) * (d + 1) ≡ suc d * suc d = ap (λ (n : ℕ). n * n) e in
-      let a = part-row ((d + 1) * (d + 1)) (suc d * suc d) (x % size) pattern q in
-      let b = part-row (d + 1) (suc d) x words e in
-      let c = part-row (d + 1) (suc d) (x / size) along e in
-      let h = part-row (d + 1) (suc d) (x / size) cells e in
-      let s = part-row (d + 1) (suc d) x sorted e in
-      ap (λ (l : List ℕ). F l (part (d + 1) x words) (part (d + 1) (x / size) along) (part (d + 1) (x / size) cells) (part (d + 1) x sorted)) a
-      ∙ ap (λ (l : List ℕ). F (row pattern (suc d * suc d) (x % size)) l (part (d + 1) (x / size) along) (part (d + 1) (x / size) cells) (part (d + 1) x sorted)) b
-      ∙ ap (λ (l : List ℕ). F (row pattern (suc d * suc d) (x % size)) (row words (suc d) x) l (part (d + 1) (x / size) cells) (part (d + 1) x sorted)) c
-      ∙ ap (λ (l : List ℕ). F (row pattern (suc d * suc d) (x % size)) (row words (suc d) x) (row along (suc d) (x / size)) l (part (d + 1) x sorted)) h
+      let a = lent-row ((d + 1) * (d + 1)) (suc d * suc d) (x % size) pattern q in
+      let b = lent-row (d + 1) (suc d) x words e in
+      let c = lent-row (d + 1) (suc d) (x / size) along e in
+      let h = lent-row (d + 1) (suc d) (x / size) cells e in
+      let s = lent-row (d + 1) (suc d) x sorted e in
+      ap (λ (l : List ℕ). F l (lent (d + 1) x words) (lent (d + 1) (x / size) along) (lent (d + 1) (x / size) cells) (lent (d + 1) x sorted)) a
+      ∙ ap (λ (l : List ℕ). F (row pattern (suc d * suc d) (x % size)) l (lent (d + 1) (x / size) along) (lent (d + 1) (x / size) cells) (lent (d + 1) x sorted)) b
+      ∙ ap (λ (l : List ℕ). F (row pattern (suc d * suc d) (x % size)) (row words (suc d) x) l (lent (d + 1) (x / size) cells) (lent (d + 1) x sorted)) c
+      ∙ ap (λ (l : List ℕ). F (row pattern (suc d * suc d) (x % size)) (row words (suc d) x) (row along (suc d) (x / size)) l (lent (d + 1) x sorted)) h
       ∙ ap (λ (l : List ℕ). F (row pattern (suc d * suc d) (x % size)) (row words (suc d) x) (row along (suc d) (x / size)) (row cells (suc d) (x / size)) l) s
 
 module _ (d size x : ℕ) (pattern words sorted along cells : List ℕ) where
   pub parts-seated : Family d size pattern words sorted along cells x
-      → Seated d (part ((d + 1) * (d + 1)) (x % size) pattern) (part (d + 1) x words) (part (d + 1) (x / size) along) (part (d + 1) (x / size) cells) (part (d + 1) x sorted)
+      → Seated d (lent ((d + 1) * (d + 1)) (x % size) pattern) (lent (d + 1) x words) (lent (d + 1) (x / size) along) (lent (d + 1) (x / size) cells) (lent (d + 1) x sorted)
   parts-seated f = subst (λ (T : Type 0). T) (sym (at-parts d size x pattern words sorted along cells (λ p w k c s. Seated d p w k c s))) (f .seated)
 
 -- ---- the words sorted are a table of rows below b
 pub sorted-table : (n count b : ℕ) (words : List ℕ) → 0 < n → count * n ≡ length words → ((i : ℕ) → i < length words → getD words i 0 < b) → count < 2 ^ 32 → Table (sortWords n count words) n count b
 sorted-table n count b words some whole low few =
     subst (λ (l : List ℕ). Table (sortWords n count l) n count b) (append-nil words) (key-table n count words [] whole some b low few)
-
--- a part has its k numbers
-pub part-length : {A : Type 0} (k i : ℕ) (l : List A) → i * k + k ≤ length l → length (take (i * k + k - i * k) (drop (i * k) l)) ≡ k
-part-length k i l h = ap (λ (n : ℕ). length (take n (drop (i * k) l))) (add-sub-cancel-left (i * k) k) ∙ length-take-le k (drop (i * k) l) (rw length-drop (omega arith))

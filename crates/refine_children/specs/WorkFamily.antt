@@ -6,7 +6,7 @@ use lib.IntN.{ℤ}
 use lib.Ieee.{Float}
 use lib.ListN.{length, getD, take, drop}
 use Rattle.refusal.specs.Limits.{mostDimension}
-use Rattle.sorting.specs.Gather.{row}
+use Rattle.lists.specs.Rows.{row}
 use Rattle.refine_jacobian.specs.Entries.{wholeOf, floatOf}
 use Rattle.refine_jacobian.specs.WorkWeights.{weightOf, Seated}
 

@@ -5,7 +5,7 @@
 ghost use mathlib.Core.Path.{_≡_};
 ghost use Prim.Native.Nat.{ℕ, suc, _*_, _/_, _≤_, _<_};
 ghost use lib.ListN.{length, getD};
-ghost use Rattle.multiindex.specs.Permutation.{tab};
+ghost use Rattle.lists.specs.Tables.{tab};
 ghost use Rattle.refine_children.specs.WorkColex.{Arranging, Arranged};
 ghost use Rattle.refine_children.specs.WorkFamily.{joined, wholeAt, floatAt, Family, Families};
 

@@ -16,8 +16,8 @@ use lib.ListN.{length, getD, take, drop, set, drop-of-length-le}
 use lib.Seq.{drop-cons, set-at, append-snoc}
 use borrow.Author.Tests.{eq-eqb, ne-eqb, le-ltb, lt-ltb}
 use Rattle.lists.specs.Words.{foundAt}
-use Rattle.multiindex.specs.Permutation.{tab}
-use Rattle.refine_lattice.proofs.Tab.{length-tab}
+use Rattle.lists.specs.Tables.{tab}
+use Rattle.lists.proofs.Tables.{length-tab}
 use Rattle.refine_jacobian.specs.WorkWeights.{placeOf, weightOf, Seated}
 
 module _ {A : Type 0} where

@@ -6,7 +6,7 @@ use lib.Dec.{ltb}
 use lib.IntN.{ℤ, pos}
 use lib.ListN.{getD}
 use lib.Ieee.{Float, fin, binary64, sub, mul, div, ofInt}
-use Rattle.multiindex.specs.Permutation.{tab}
+use Rattle.lists.specs.Tables.{tab}
 use Rattle.refine_lattice.specs.Jacobian.{jacobian}
 
 -- 1 and 0 as floats

@@ -7,10 +7,13 @@ use native.Mathlib.Nat.{not-suc-le-zero, le-of-suc-le-suc, suc-inj}
 use native.Mathlib.Decide.{decLt, ℕ-discrete}
 use native.Mathlib.Omega.{arith}
 use lib.ListN.{length, getD}
-use Rattle.refine_lattice.specs.Lattice.{tab, Falls, dot, weights}
-use Rattle.refine_lattice.specs.Complex.{same, sum, occurrences, keep, common, weigh}
-use Rattle.refine_lattice.proofs.Tab.{tab-ext}
-use Rattle.refine_lattice.proofs.Sums.{same-self, same-yes, same-no, same-eq, sum-ext, sum-add, sum-zero, sum-pick}
+use Rattle.lists.specs.Tables.{tab, sum}
+use Rattle.refine_lattice.specs.Lattice.{Falls, dot, weights}
+use Rattle.lists.specs.Words.{same}
+use Rattle.refine_lattice.specs.Complex.{occurrences, keep, common, weigh}
+use Rattle.lists.proofs.Tables.{tab-ext}
+use Rattle.lists.proofs.Words.{same-self, same-yes, same-no, same-eq}
+use Rattle.lists.proofs.Sums.{sum-ext, sum-add, sum-zero, sum-pick}
 use Rattle.refine_lattice.proofs.Shares.{pull, map-is}
 use Rattle.refine_lattice.proofs.Weights.{dot-const}
 

@@ -8,14 +8,19 @@ use native.Mathlib.Nat.{not-suc-le-zero, le-of-suc-le-suc, suc-inj}
 use native.Mathlib.Decide.{ℕ-discrete, decLt}
 use native.Mathlib.Omega.{arith}
 use lib.ListN.{length, getD}
-use Rattle.refine_lattice.specs.Complex.{Words, same, sum, occurrences, common, Names, Complex, Refined, WordsAgreeOnFacets}
+use Rattle.lists.specs.Tables.{sum}
+use Rattle.lists.specs.Words.{same}
+use Rattle.refine_lattice.specs.Complex.{Words, occurrences, common, Names, Complex, Refined, WordsAgreeOnFacets}
 use Rattle.refine_lattice.specs.Conform.{rest, Meet, Distinct}
-use Rattle.refine_lattice.specs.Signs.{Even, Odd, Signs, CoherentByPlace, CoherentByRank, less, inversions, rank, Handed, Directed}
+use Rattle.multiindex.specs.Sort.{inversions}
+use Rattle.refine_lattice.specs.Signs.{Even, Odd, Signs, CoherentByPlace, CoherentByRank, less, rank, Handed, Directed}
 use Rattle.refine_lattice.proofs.Tab.{step}
-use Rattle.refine_lattice.proofs.Sums.{same-self, same-yes, same-no, same-eq, sum-ext}
+use Rattle.lists.proofs.Words.{same-self, same-yes, same-no, same-eq}
+use Rattle.lists.proofs.Sums.{sum-ext}
 use Rattle.refine_lattice.proofs.Enumerate.{times-at, place-of}
 use Rattle.refine_lattice.proofs.Conform.{apart-at, Row, closes, meet-sym, plain-refined, long-refined, distinct-refined}
 use Rattle.refine_lattice.proofs.Inherit.{all-but-one, facets-refined}
+use Rattle.refine_lattice.proofs.Inversions.{inversions-sum}
 use Rattle.refine_lattice.proofs.Parity.{less-step, inverse, falling, sum-2, skip, lower, beneath, minor}
 use Rattle.refine_lattice.proofs.Direct.{common-skip, coherent-refined}
 
@@ -30,6 +35,7 @@ dropped d k h p i b =
       omega (
         arith,
         minor d t one i b,
+        inversions-sum k,
         ap (λ (n : ℕ). sum n (λ a. sum n (λ b. less a b * less (t b) (t a)))) h,
         sum-2 (suc d) (suc d) (λ a b. less a b * less (t b) (t a)) (falling t) (λ a b f g. cc (less-step a b, less-step (t b) (t a))),
         ap (λ (n : ℕ). sum n (λ a. less (t a) (t i))) h,

@@ -9,8 +9,10 @@ use native.Mathlib.Decide.{ℕ-discrete, decLt}
 use native.Mathlib.Omega.{arith}
 use lib.ListN.{length, getD, set, length-set}
 use lib.Seq.{getD-set-same, getD-set-other}
-use Rattle.refine_lattice.specs.Lattice.{tab, Falls, weights, bump, chain, Perm, Order, Child}
-use Rattle.refine_lattice.proofs.Tab.{step, step-le, step-yes, step-no, step-one, length-tab, getD-tab, tab-ext, tab-getD, list-tab}
+use Rattle.lists.specs.Tables.{tab}
+use Rattle.refine_lattice.specs.Lattice.{Falls, weights, bump, chain, Perm, Order, Child}
+use Rattle.lists.proofs.Tables.{length-tab, getD-tab, tab-ext, tab-getD, list-tab}
+use Rattle.refine_lattice.proofs.Tab.{step, step-le, step-yes, step-no, step-one}
 use Rattle.refine_lattice.proofs.Perms.{Undoes, back, undoes, one-place, step-mono}
 
 -- what it is to qualify, place by place

@@ -8,7 +8,7 @@ use native.Mathlib.Decide.{ℕ-discrete, decLt}
 use native.Mathlib.Omega.{arith}
 use lib.IntN.{ℤ, pos, negsuc, negℤ, _+ℤ_, _-ℤ_, negℤ-negℤ, negℤ-+ℤ, +ℤ-assoc, +ℤ-comm, +ℤ-idr, -ℤ-+ℤ-cancel, +ℤ-negℤ-cancel}
 use Rattle.refine_lattice.specs.Lattice.{Perm}
-use Rattle.refine_lattice.specs.Complex.{sum}
+use Rattle.lists.specs.Tables.{sum}
 use Rattle.refine_lattice.specs.Jacobian.{Matrix, put, Determinant, flips}
 use Rattle.refine_lattice.proofs.Tab.{step, step-yes, step-no}
 use Rattle.refine_lattice.proofs.Perms.{one-place, onto}

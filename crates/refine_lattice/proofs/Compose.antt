@@ -6,8 +6,9 @@ use Prim.Native.Nat.{ℕ, zero, suc, _+_, _*_, _-_, _/_, _%_, _≤_, _<_, suc-le
 use native.Mathlib.Nat.{mul-le-mul-left, mul-le-mul-right, div-add-mod, mod-lt, div-lt-iff-lt-mul}
 use native.Mathlib.Decide.{decLt}
 use native.Mathlib.Omega.{arith}
-use Rattle.refine_lattice.specs.Lattice.{tab, weights, blend, Perm, Child, Once, Twice}
-use Rattle.refine_lattice.proofs.Tab.{tab-ext}
+use Rattle.lists.specs.Tables.{tab}
+use Rattle.refine_lattice.specs.Lattice.{weights, blend, Perm, Child, Once, Twice}
+use Rattle.lists.proofs.Tables.{tab-ext}
 use Rattle.refine_lattice.proofs.Perms.{Undoes, back, undoes, one-place, rank, rank-lt, rank-le, rank-perm}
 use Rattle.refine_lattice.proofs.Codes.{Code, corner, corners, corner-ext, of-child, to-child}
 use Rattle.refine_lattice.proofs.Weights.{Base, Time, blend-word}

@@ -7,11 +7,14 @@ use native.Mathlib.Nat.{not-suc-le-zero, le-of-suc-le-suc, suc-inj}
 use native.Mathlib.Decide.{ℕ-discrete, decLt}
 use native.Mathlib.Omega.{arith}
 use lib.ListN.{length, getD}
-use Rattle.refine_lattice.specs.Lattice.{tab, weights, Perm}
-use Rattle.refine_lattice.specs.Complex.{Words, same, occurrences, weigh, Complex, Apart, Refined}
+use Rattle.lists.specs.Tables.{tab}
+use Rattle.refine_lattice.specs.Lattice.{weights, Perm}
+use Rattle.lists.specs.Words.{same}
+use Rattle.refine_lattice.specs.Complex.{Words, occurrences, weigh, Complex, Apart, Refined}
 use Rattle.refine_lattice.specs.Conform.{rest, Meet, Distinct, Thin}
-use Rattle.refine_lattice.proofs.Tab.{step, tab-ext}
-use Rattle.refine_lattice.proofs.Sums.{same-self, same-yes, same-no, same-eq}
+use Rattle.lists.proofs.Tables.{tab-ext}
+use Rattle.refine_lattice.proofs.Tab.{step}
+use Rattle.lists.proofs.Words.{same-self, same-yes, same-no, same-eq}
 use Rattle.refine_lattice.proofs.Codes.{Code, corner}
 use Rattle.refine_lattice.proofs.Enumerate.{times-at, times-two, place-of}
 use Rattle.refine_lattice.proofs.Span.{low, high, load, low-in, low-out, load-is, Flat, tip, one-flat}

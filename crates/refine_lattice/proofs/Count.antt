@@ -9,10 +9,12 @@ use native.Mathlib.Decide.{decLt, ℕ-discrete}
 use native.Mathlib.Omega.{arith}
 use lib.ListN.{length, getD, length-append, length-map, length-set}
 use lib.Seq.{getD-set-same, getD-set-other, ext-getD}
-use Rattle.refine_lattice.specs.Lattice.{tab, bump, chain, Perm}
-use Rattle.refine_lattice.specs.Complex.{same}
-use Rattle.refine_lattice.specs.Children.{upto, gather, digits, bases, skip, without, arrange, orders, qualifies, every, pick, select, chains, children}
-use Rattle.refine_lattice.proofs.Tab.{step, length-tab, getD-tab}
+use Rattle.lists.specs.Tables.{tab, upto}
+use Rattle.refine_lattice.specs.Lattice.{bump, chain, Perm}
+use Rattle.lists.specs.Words.{same, skip, without}
+use Rattle.refine_lattice.specs.Children.{gather, digits, bases, arrange, orders, qualifies, every, pick, select, chains, children}
+use Rattle.lists.proofs.Tables.{length-tab, getD-tab}
+use Rattle.refine_lattice.proofs.Tab.{step}
 use Rattle.refine_lattice.proofs.Tab.{step-yes, step-no}
 use Rattle.refine_lattice.proofs.Perms.{Undoes, back, undoes, rank, rank-le, rank-perm}
 use Rattle.refine_lattice.proofs.Codes.{Code, corner, corners, corners-ext, of-child, to-child}

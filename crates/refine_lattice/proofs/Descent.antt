@@ -10,11 +10,13 @@ use native.Mathlib.Omega.{arith}
 use lib.ListN.{length, getD}
 use lib.IntN.{ℤ, pos, negsuc, negℤ, _*ℤ_, pos-ne-negsuc, *ℤ-one}
 use Rattle.refine_lattice.specs.Lattice.{Child}
-use Rattle.refine_lattice.specs.Complex.{Words, same, occurrences, Names, Complex, Refined, WordsAgreeOnFacets, Rises}
+use Rattle.lists.specs.Words.{same}
+use Rattle.refine_lattice.specs.Complex.{Words, occurrences, Names, Complex, Refined, WordsAgreeOnFacets, Rises}
 use Rattle.refine_lattice.specs.Conform.{Meet, Distinct}
-use Rattle.refine_lattice.specs.Signs.{Even, Odd, Signs, CoherentByRank, inversions, rank, Directed}
+use Rattle.multiindex.specs.Sort.{inversions}
+use Rattle.refine_lattice.specs.Signs.{Even, Odd, Signs, CoherentByRank, rank, Directed}
 use Rattle.refine_lattice.specs.Jacobian.{Matrix, Determinant, flips, Sorted, jacobian, laplace, Descends}
-use Rattle.refine_lattice.proofs.Sums.{same-self, same-yes, same-no}
+use Rattle.lists.proofs.Words.{same-self, same-yes, same-no}
 use Rattle.refine_lattice.proofs.Columns.{flips-add, flips-even}
 use Rattle.refine_lattice.proofs.Jacobian.{determinant}
 use Rattle.refine_lattice.proofs.Laplace.{is-determinant}

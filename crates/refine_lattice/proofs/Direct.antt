@@ -8,13 +8,17 @@ use native.Mathlib.Nat.{not-suc-le-zero, le-of-suc-le-suc, suc-inj}
 use native.Mathlib.Decide.{ℕ-discrete, decLt}
 use native.Mathlib.Omega.{arith}
 use lib.ListN.{length, getD}
-use Rattle.refine_lattice.specs.Lattice.{tab, weights, Perm, Child}
-use Rattle.refine_lattice.specs.Complex.{Words, same, sum, occurrences, keep, common, weigh, Names, Complex, Refined, WordsAgreeOnFacets}
+use Rattle.lists.specs.Tables.{tab, sum}
+use Rattle.refine_lattice.specs.Lattice.{weights, Perm, Child}
+use Rattle.lists.specs.Words.{same}
+use Rattle.refine_lattice.specs.Complex.{Words, occurrences, keep, common, weigh, Names, Complex, Refined, WordsAgreeOnFacets}
 use Rattle.refine_lattice.specs.Conform.{rest, Meet, Distinct}
-use Rattle.refine_lattice.specs.Signs.{Even, Odd, Signs, CoherentByPlace, less, inversions, Handed}
+use Rattle.multiindex.specs.Sort.{inversions}
+use Rattle.refine_lattice.specs.Signs.{Even, Odd, Signs, CoherentByPlace, less, Handed}
 use Rattle.refine_lattice.proofs.Tab.{step, step-le, step-yes, step-no, step-one}
 use Rattle.refine_lattice.proofs.Perms.{Undoes, one-place}
-use Rattle.refine_lattice.proofs.Sums.{same-self, same-yes, same-no, same-eq, sum-ext}
+use Rattle.lists.proofs.Words.{same-self, same-yes, same-no, same-eq}
+use Rattle.lists.proofs.Sums.{sum-ext}
 use Rattle.refine_lattice.proofs.Codes.{Code, corner}
 use Rattle.refine_lattice.proofs.After.{keep-yes, keep-no, later}
 use Rattle.refine_lattice.proofs.Enumerate.{times-at, place-of}
@@ -23,6 +27,7 @@ use Rattle.refine_lattice.proofs.Mirror.{Spot, Facing}
 use Rattle.refine_lattice.proofs.Seats.{one-word, Sits, sits, sits-order, spot-of}
 use Rattle.refine_lattice.proofs.Conform.{counts, inside, apart-at, Row, across, meet-sym, Seat, Blank, flat-of, facing, twin, one-blank, blank-across, differ, shared, cells-meet, plain-refined, long-refined}
 use Rattle.refine_lattice.proofs.Inherit.{all-but-one, seen, level}
+use Rattle.refine_lattice.proofs.Inversions.{inversions-sum}
 use Rattle.refine_lattice.proofs.Parity.{less-step, inverse, falling, sum-2, undone, skip, skip-not, skip-below, skip-low, compare}
 use Rattle.refine_lattice.proofs.Turn.{step-zero, turn}
 
@@ -30,7 +35,8 @@ use Rattle.refine_lattice.proofs.Turn.{step-zero, turn}
 pub inversions-are : (d : ℕ) (p : List ℕ) (t : ℕ → ℕ) → length p ≡ d → Perm d (λ i. getD p i 0) → Undoes d (λ i. getD p i 0) t
     → inversions p ≡ inverse d t
 inversions-are d p t e g u =
-    ap (λ (n : ℕ). sum n (λ a. sum n (λ b. less a b * less (getD p b 0) (getD p a 0)))) e
+    inversions-sum p
+    ∙ ap (λ (n : ℕ). sum n (λ a. sum n (λ b. less a b * less (getD p b 0) (getD p a 0)))) e
     ∙ sum-2 d d (λ a b. less a b * less (getD p b 0) (getD p a 0)) (falling (λ i. getD p i 0))
     (λ a b h k. cc (less-step a b, less-step (getD p b 0) (getD p a 0)))
     ∙ undone d t (λ i. getD p i 0) g (u .left)

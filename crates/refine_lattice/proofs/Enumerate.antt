@@ -9,10 +9,12 @@ use native.Mathlib.Decide.{decLt, ℕ-discrete}
 use native.Mathlib.Omega.{arith}
 use lib.Dec.{T, leb, leb→le, le→leb}
 use lib.ListN.{length, getD, length-reverse}
-use Rattle.refine_lattice.specs.Lattice.{tab, Falls, chain, Order, Child}
-use Rattle.refine_lattice.specs.Complex.{same, occurrences}
-use Rattle.refine_lattice.specs.Children.{upto, gather, digits, bases, skip, without, arrange, orders, qualifies, every, pick, select, chains, children}
-use Rattle.refine_lattice.proofs.Sums.{same-self, same-yes, same-no, same-eq}
+use Rattle.lists.specs.Tables.{tab, upto}
+use Rattle.refine_lattice.specs.Lattice.{Falls, chain, Order, Child}
+use Rattle.lists.specs.Words.{same, skip, without}
+use Rattle.refine_lattice.specs.Complex.{occurrences}
+use Rattle.refine_lattice.specs.Children.{gather, digits, bases, arrange, orders, qualifies, every, pick, select, chains, children}
+use Rattle.lists.proofs.Words.{same-self, same-yes, same-no, same-eq}
 
 module _ {A B : Type 0} where
   pub to-gather : (f : A → List B) (l : List A) {x : A} {y : B} → List·Memᴰ x l → List·Memᴰ y (f x) → List·Memᴰ y (gather f l)

@@ -6,8 +6,9 @@ use Prim.Native.Nat.{ℕ, zero, suc, _+_, _*_, _≤_, _<_}
 use native.Mathlib.Decide.{decLt, ℕ-discrete}
 use native.Mathlib.Omega.{arith}
 use lib.ListN.{length}
-use Rattle.refine_lattice.specs.Complex.{Words, same, occurrences, keep, common, through, Complex, Refined, Alike, Agree, AgreeOnFaces, WordsAgreeOnFacets, Rises}
-use Rattle.refine_lattice.proofs.Sums.{same-self, same-yes, same-no}
+use Rattle.lists.specs.Words.{same}
+use Rattle.refine_lattice.specs.Complex.{Words, occurrences, keep, common, through, Complex, Refined, Alike, Agree, AgreeOnFaces, WordsAgreeOnFacets, Rises}
+use Rattle.lists.proofs.Words.{same-self, same-yes, same-no}
 use Rattle.refine_lattice.proofs.After.{keep-yes, keep-no, times-common}
 use Rattle.refine_lattice.proofs.Tower.{alike}
 

@@ -9,12 +9,14 @@ use native.Mathlib.Omega.{arith}
 use lib.ListN.{length, getD}
 use lib.IntN.{ℤ, pos, negsuc, _*ℤ_}
 use Rattle.refine_lattice.specs.Lattice.{Child}
-use Rattle.refine_lattice.specs.Complex.{Words, same, occurrences, Names, Complex, Refined, WordsAgreeOnFacets, AgreeOnFaces, Rises}
+use Rattle.lists.specs.Words.{same}
+use Rattle.refine_lattice.specs.Complex.{Words, occurrences, Names, Complex, Refined, WordsAgreeOnFacets, AgreeOnFaces, Rises}
 use Rattle.refine_lattice.specs.Refine.{words, vertices, share, In, WordsCompose}
 use Rattle.refine_lattice.specs.Conform.{Distinct, Thin, Used, Sound, Facewise}
-use Rattle.refine_lattice.specs.Signs.{Even, Odd, Signs, CoherentByRank, inversions}
+use Rattle.multiindex.specs.Sort.{inversions}
+use Rattle.refine_lattice.specs.Signs.{Even, Odd, Signs, CoherentByRank}
 use Rattle.refine_lattice.specs.Jacobian.{flips, Sorted, jacobian, laplace, Descends}
-use Rattle.refine_lattice.proofs.Sums.{same-self, same-yes, same-no}
+use Rattle.lists.proofs.Words.{same-self, same-yes, same-no}
 use Rattle.refine_lattice.proofs.Conform.{plain-refined}
 use Rattle.refine_lattice.proofs.Refines.{refined}
 use Rattle.refine_lattice.proofs.Whole.{complex-words, sound-words}

@@ -7,15 +7,16 @@ use native.Mathlib.Nat.{not-suc-le-zero, le-of-suc-le-suc, suc-inj, mul-le-mul-l
 use native.Mathlib.Decide.{ℕ-discrete, decLt}
 use native.Mathlib.Omega.{arith}
 use lib.ListN.{length, getD, length-map}
-use Rattle.refine_lattice.specs.Lattice.{tab}
-use Rattle.refine_lattice.specs.Complex.{Words, same, occurrences, through, Complex, Apart, Within, Alike, Agree, AgreeOnFaces, WordsAgreeOnFacets}
-use Rattle.refine_lattice.specs.Children.{upto, gather, children}
+use Rattle.lists.specs.Tables.{tab, upto}
+use Rattle.lists.specs.Words.{same}
+use Rattle.refine_lattice.specs.Complex.{Words, occurrences, through, Complex, Apart, Within, Alike, Agree, AgreeOnFaces, WordsAgreeOnFacets}
+use Rattle.refine_lattice.specs.Children.{gather, children}
 use Rattle.refine_lattice.specs.Refine.{births, number, point, words, vertices, share, In, WordsCompose}
 use Rattle.refine_lattice.specs.Conform.{rest, Used, Sound, Facewise, omit}
-use Rattle.refine_lattice.proofs.Tab.{length-tab}
+use Rattle.lists.proofs.Tables.{length-tab}
 use Rattle.refine_lattice.proofs.Enumerate.{of-tab, to-tab, times-at, place-of}
 use Rattle.refine_lattice.proofs.Count.{Nodup, nodup-upto, no-longer, length-gather, count}
-use Rattle.refine_lattice.proofs.Sums.{same-yes, same-no}
+use Rattle.lists.proofs.Words.{same-yes, same-no}
 use Rattle.refine_lattice.proofs.Refines.{composes-by-facets, composes-by-faces}
 use Rattle.refine_lattice.proofs.Whole.{sound-words, facets-words, faces-words, nodup-words}
 

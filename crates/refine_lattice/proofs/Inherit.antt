@@ -7,10 +7,14 @@ use native.Mathlib.Nat.{not-suc-le-zero, le-of-suc-le-suc, suc-inj}
 use native.Mathlib.Decide.{ℕ-discrete, decLt}
 use native.Mathlib.Omega.{arith}
 use lib.ListN.{length, getD}
-use Rattle.refine_lattice.specs.Lattice.{tab, Falls, dot, weights, Perm}
-use Rattle.refine_lattice.specs.Complex.{Words, same, sum, occurrences, keep, common, weigh, Complex, Refined, AgreeOnFaces, WordsAgreeOnFacets}
-use Rattle.refine_lattice.proofs.Tab.{step, step-le, step-yes, step-no, step-one, length-tab}
-use Rattle.refine_lattice.proofs.Sums.{same-self, same-yes, same-no, same-eq, sum-ext}
+use Rattle.lists.specs.Tables.{tab, sum}
+use Rattle.refine_lattice.specs.Lattice.{Falls, dot, weights, Perm}
+use Rattle.lists.specs.Words.{same}
+use Rattle.refine_lattice.specs.Complex.{Words, occurrences, keep, common, weigh, Complex, Refined, AgreeOnFaces, WordsAgreeOnFacets}
+use Rattle.lists.proofs.Tables.{length-tab}
+use Rattle.refine_lattice.proofs.Tab.{step, step-le, step-yes, step-no, step-one}
+use Rattle.lists.proofs.Words.{same-self, same-yes, same-no, same-eq}
+use Rattle.lists.proofs.Sums.{sum-ext}
 use Rattle.refine_lattice.proofs.Codes.{Code, corner, falls-corner}
 use Rattle.refine_lattice.proofs.Weights.{dot-const}
 use Rattle.refine_lattice.proofs.Shares.{map-is}

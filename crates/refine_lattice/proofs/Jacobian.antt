@@ -9,17 +9,21 @@ use native.Mathlib.Omega.{arith}
 use lib.ListN.{length, getD}
 use lib.IntN.{ℤ, pos, negsuc, negℤ, _+ℤ_, _-ℤ_, negℤ-negℤ, +ℤ-assoc, +ℤ-comm, +ℤ-idr, -ℤ-+ℤ-cancel, +ℤ-negℤ-cancel}
 use Rattle.refine_lattice.specs.Lattice.{Perm, Child}
-use Rattle.refine_lattice.specs.Complex.{Words, same, sum, occurrences, Names, Rises}
-use Rattle.refine_lattice.specs.Signs.{less, inversions}
+use Rattle.lists.specs.Tables.{sum}
+use Rattle.lists.specs.Words.{same}
+use Rattle.refine_lattice.specs.Complex.{Words, occurrences, Names, Rises}
+use Rattle.multiindex.specs.Sort.{inversions}
+use Rattle.refine_lattice.specs.Signs.{less}
 use Rattle.refine_lattice.specs.Jacobian.{Matrix, Determinant, flips, Sorted, jacobian}
 use Rattle.refine_lattice.proofs.Tab.{step, step-yes, step-no}
 use Rattle.refine_lattice.proofs.Perms.{Undoes, back, undoes, one-place}
-use Rattle.refine_lattice.proofs.Sums.{same-self, same-yes, same-no, same-eq}
+use Rattle.lists.proofs.Words.{same-self, same-yes, same-no, same-eq}
 use Rattle.refine_lattice.proofs.Codes.{Code}
 use Rattle.refine_lattice.proofs.Enumerate.{times-at, place-of}
 use Rattle.refine_lattice.proofs.Span.{low, high, load, low-in, low-out, load-is, step-next}
 use Rattle.refine_lattice.proofs.Seats.{Sits, sits, sits-order, share-at, plain-word}
 use Rattle.refine_lattice.proofs.Conform.{apart-at}
+use Rattle.refine_lattice.proofs.Inversions.{inversions-sum}
 use Rattle.refine_lattice.proofs.Parity.{less-step, inverse, falling, sum-2, undone, same-inverse}
 use Rattle.refine_lattice.proofs.Direct.{inversions-are}
 use Rattle.refine_lattice.proofs.Columns.{Point, flips-add, permuted, chained, fanned, chained-alternates, fanned-chained, columns-alternate}
@@ -51,7 +55,8 @@ rises-at (x ∷ l) h (suc i) (suc j) a b = rises-at l (h .1) i j (le-of-suc-le-s
 inversions-of : (d : ℕ) (k : List ℕ) → length k ≡ d → inversions k ≡ inverse d (λ a. getD k a 0)
 inversions-of d k h =
     let t : ℕ → ℕ = λ a. getD k a 0 in
-    ap (λ (n : ℕ). sum n (λ a. sum n (λ b. less a b * less (t b) (t a)))) h
+    inversions-sum k
+    ∙ ap (λ (n : ℕ). sum n (λ a. sum n (λ b. less a b * less (t b) (t a)))) h
     ∙ sum-2 d d (λ a b. less a b * less (t b) (t a)) (falling t) (λ a b f g. cc (less-step a b, less-step (t b) (t a)))
 
 -- a word and its vertices sorted

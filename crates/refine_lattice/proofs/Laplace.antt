@@ -6,9 +6,9 @@ use native.Mathlib.Nat.{not-suc-le-zero, le-of-suc-le-suc, suc-inj}
 use native.Mathlib.Decide.{ℕ-discrete, decLt}
 use native.Mathlib.Omega.{arith}
 use lib.IntN.{ℤ, pos, negsuc, negℤ, _+ℤ_, _-ℤ_, _*ℤ_, negℤ-negℤ, negℤ-+ℤ, +ℤ-assoc, +ℤ-comm, +ℤ-idl, +ℤ-idr, +ℤ-invr, +ℤ-invl, -ℤ-+ℤ-cancel, +ℤ-negℤ-cancel, *ℤ-one, zero-*ℤ, *ℤ-zero, sucℤ, predℤ, sucℤ-*ℤ, predℤ-*ℤ, +ℤ-one, -ℤ-one, *ℤ-comm, ℤ-ind}
-use Rattle.refine_lattice.specs.Complex.{same}
+use Rattle.lists.specs.Words.{same}
 use Rattle.refine_lattice.specs.Jacobian.{Matrix, put, Determinant, flips, beside, total, laplace}
-use Rattle.refine_lattice.proofs.Sums.{same-self, same-yes, same-no}
+use Rattle.lists.proofs.Words.{same-self, same-yes, same-no}
 use Rattle.refine_lattice.proofs.Parity.{skip-not, skip-below, skip-apart}
 use Rattle.refine_lattice.proofs.Columns.{put-at, put-off}
 

@@ -7,10 +7,11 @@ use native.Mathlib.Nat.{not-suc-le-zero, le-of-suc-le-suc, div-eq-of-lt-le, mul-
 use native.Mathlib.Decide.{decLt}
 use native.Mathlib.Omega.{arith}
 use lib.ListN.{length, getD}
-use Rattle.refine_lattice.specs.Lattice.{tab, Falls, dot, weights}
-use Rattle.refine_lattice.specs.Complex.{sum}
-use Rattle.refine_lattice.proofs.Tab.{step, step-le, step-yes, step-no, length-tab, getD-tab, tab-ext, map-tab}
-use Rattle.refine_lattice.proofs.Sums.{sum-ext, sum-const, sum-split}
+use Rattle.lists.specs.Tables.{tab, sum}
+use Rattle.refine_lattice.specs.Lattice.{Falls, dot, weights}
+use Rattle.lists.proofs.Tables.{length-tab, getD-tab, tab-ext, map-tab}
+use Rattle.refine_lattice.proofs.Tab.{step, step-le, step-yes, step-no}
+use Rattle.lists.proofs.Sums.{sum-ext, sum-const, sum-split}
 use Rattle.refine_lattice.proofs.Codes.{Code, corner, falls-top, falls-corner}
 use Rattle.refine_lattice.proofs.Weights.{Base, Time}
 

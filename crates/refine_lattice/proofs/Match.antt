@@ -8,9 +8,12 @@ use native.Mathlib.Nat.{mul-le-mul-right, div-add-mod, mod-lt, div-eq-of-lt-le}
 use native.Mathlib.Decide.{decLt, ℕ-discrete}
 use native.Mathlib.Omega.{arith}
 use lib.ListN.{length, getD}
-use Rattle.refine_lattice.specs.Lattice.{tab, Falls, dot, weights}
-use Rattle.refine_lattice.specs.Complex.{same, sum, occurrences, common, weigh, Agree}
-use Rattle.refine_lattice.proofs.Sums.{same-self, same-yes, same-no, sum-ext, sum-add, sum-pick, sum-reverse}
+use Rattle.lists.specs.Tables.{tab, sum}
+use Rattle.refine_lattice.specs.Lattice.{Falls, dot, weights}
+use Rattle.lists.specs.Words.{same}
+use Rattle.refine_lattice.specs.Complex.{occurrences, common, weigh, Agree}
+use Rattle.lists.proofs.Words.{same-self, same-yes, same-no}
+use Rattle.lists.proofs.Sums.{sum-ext, sum-add, sum-pick, sum-reverse}
 use Rattle.refine_lattice.proofs.Shares.{pull, map-is}
 use Rattle.refine_lattice.proofs.Levels.{shift}
 use Rattle.refine_lattice.proofs.Weights.{dot-const}

@@ -7,10 +7,10 @@ use native.Mathlib.Nat.{not-suc-le-zero, le-of-suc-le-suc, suc-inj}
 use native.Mathlib.Decide.{ℕ-discrete, decLt}
 use native.Mathlib.Omega.{arith}
 use Rattle.refine_lattice.specs.Lattice.{Perm}
-use Rattle.refine_lattice.specs.Complex.{sum}
+use Rattle.lists.specs.Tables.{sum}
 use Rattle.refine_lattice.proofs.Tab.{step, step-le, step-yes, step-no, step-one}
 use Rattle.refine_lattice.proofs.Perms.{one-place, onto}
-use Rattle.refine_lattice.proofs.Sums.{sum-ext}
+use Rattle.lists.proofs.Sums.{sum-ext}
 use Rattle.refine_lattice.proofs.Span.{level-of}
 
 -- corner x of the one and corner y of the other are one point

@@ -8,12 +8,14 @@ use native.Mathlib.Nat.{not-suc-le-zero, le-of-suc-le-suc, suc-inj}
 use native.Mathlib.Decide.{ℕ-discrete, decLt}
 use native.Mathlib.Omega.{arith}
 use Rattle.refine_lattice.specs.Lattice.{Perm}
-use Rattle.refine_lattice.specs.Complex.{same, sum}
+use Rattle.lists.specs.Tables.{sum}
+use Rattle.lists.specs.Words.{same}
 use Rattle.refine_lattice.specs.Signs.{less}
 use Rattle.refine_lattice.specs.Jacobian.{beside}
 use Rattle.refine_lattice.proofs.Tab.{step, step-le, step-yes, step-no, step-one}
 use Rattle.refine_lattice.proofs.Perms.{Undoes, one-place}
-use Rattle.refine_lattice.proofs.Sums.{same-self, same-yes, same-no, sum-ext, sum-add, sum-swap, sum-pick, sum-front, sum-scale}
+use Rattle.lists.proofs.Words.{same-self, same-yes, same-no}
+use Rattle.lists.proofs.Sums.{sum-ext, sum-add, sum-scale, sum-swap, sum-pick, sum-front}
 use Rattle.refine_lattice.proofs.Span.{once, gone}
 
 pub less-step : (m n : ℕ) → less m n ≡ step m n

@@ -9,12 +9,15 @@ use native.Mathlib.Omega.{arith}
 use lib.ListN.{length, getD, take, drop, length-append, length-map}
 use Rattle.lists.specs.Rows.{flat}
 use Rattle.lists.proofs.Flat.{flat-length, flat-at}
-use Rattle.refine_lattice.specs.Lattice.{tab, Falls, weights}
-use Rattle.refine_lattice.specs.Complex.{same, weigh}
+use Rattle.lists.specs.Tables.{tab}
+use Rattle.refine_lattice.specs.Lattice.{Falls, weights}
+use Rattle.lists.specs.Words.{same}
+use Rattle.refine_lattice.specs.Complex.{weigh}
 use Rattle.refine_lattice.specs.Children.{gather, children}
 use Rattle.refine_lattice.specs.Pattern.{patternOf}
 use Rattle.refine_lattice.specs.Refine.{point, visits}
-use Rattle.refine_lattice.proofs.Tab.{step, step-yes, step-no, length-tab, getD-tab, tab-ext, map-tab}
+use Rattle.lists.proofs.Tables.{length-tab, getD-tab, tab-ext, map-tab}
+use Rattle.refine_lattice.proofs.Tab.{step, step-yes, step-no}
 use Rattle.refine_lattice.proofs.Perms.{Undoes, back, undoes}
 use Rattle.refine_lattice.proofs.Codes.{Code, corner, corners, of-child, to-child, length-chain}
 use Rattle.refine_lattice.proofs.Weights.{length-weights}

@@ -7,7 +7,7 @@ use native.Mathlib.Nat.{not-suc-le-zero, le-of-suc-le-suc}
 use native.Mathlib.Decide.{ℕ-discrete, decLt}
 use native.Mathlib.Omega.{arith}
 use Rattle.refine_lattice.specs.Lattice.{Perm}
-use Rattle.refine_lattice.specs.Complex.{sum}
+use Rattle.lists.specs.Tables.{sum}
 use Rattle.refine_lattice.proofs.Tab.{step, step-le, step-yes, step-no}
 
 -- `r` is `x`, but `v` where `x` is `d`

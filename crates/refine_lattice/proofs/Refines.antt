@@ -11,17 +11,20 @@ use lib.Dec.{T, eqb, eqb→eq, eqb-refl, ltb, ltb→lt, lt→ltb}
 use lib.ListN.{length, getD, length-map}
 use lib.Seq.{ext-getD}
 use Rattle.lists.proofs.Laws.{map-at}
-use Rattle.refine_lattice.specs.Lattice.{tab, weights, Child}
-use Rattle.refine_lattice.specs.Complex.{Words, same, sum, occurrences, weigh, through, Names, Complex, Apart, Refined, Alike, Agree, AgreeOnFaces, WordsAgreeOnFacets, Rises}
+use Rattle.lists.specs.Tables.{tab, sum}
+use Rattle.refine_lattice.specs.Lattice.{weights, Child}
+use Rattle.lists.specs.Words.{same, sameWord}
+use Rattle.refine_lattice.specs.Complex.{Words, occurrences, weigh, through, Names, Complex, Apart, Refined, Alike, Agree, AgreeOnFaces, WordsAgreeOnFacets, Rises}
 use Rattle.refine_lattice.specs.Children.{gather, children, pick}
-use Rattle.refine_lattice.specs.Refine.{point, visits, positives, first, equal, place, births-from, births, number, words, vertices, share, In, WordsCompose}
-use Rattle.refine_lattice.proofs.Tab.{step, length-tab, getD-tab}
+use Rattle.refine_lattice.specs.Refine.{point, visits, positives, first, place, births-from, births, number, words, vertices, share, In, WordsCompose}
+use Rattle.lists.proofs.Tables.{length-tab, getD-tab}
+use Rattle.refine_lattice.proofs.Tab.{step}
 use Rattle.refine_lattice.proofs.Codes.{corner, of-child}
 use Rattle.refine_lattice.proofs.Weights.{past}
 use Rattle.refine_lattice.proofs.After.{weigh-absent, total-weight}
 use Rattle.refine_lattice.proofs.Faces.{facets-do, faces-do, edges-do, rising}
 use Rattle.refine_lattice.proofs.Tower.{alike}
-use Rattle.refine_lattice.proofs.Sums.{sum-ext, sum-zero, sum-front}
+use Rattle.lists.proofs.Sums.{sum-ext, sum-zero, sum-front}
 use Rattle.refine_lattice.proofs.Enumerate.{to-gather, of-gather, child-of-mem, mem-of-child, place-of, both, and}
 
 -- tests
@@ -37,39 +40,39 @@ pub dec-T : (b : Bool) → Dec (T b)
 dec-T true = yes tt
 dec-T false = no (λ h. h)
 
-pub equal-eq : (l m : List ℕ) → T (equal l m) → l ≡ m
+pub equal-eq : (l m : List ℕ) → T (sameWord l m) → l ≡ m
 equal-eq [] [] h = refl
 equal-eq [] (y ∷ m) h = absurd h
 equal-eq (x ∷ l) [] h = absurd h
-equal-eq (x ∷ l) (y ∷ m) h = cc (eqb→eq x y (both (eqb x y) (equal l m) h .0), equal-eq l m (both (eqb x y) (equal l m) h .1))
+equal-eq (x ∷ l) (y ∷ m) h = cc (eqb→eq x y (both (eqb x y) (sameWord l m) h .0), equal-eq l m (both (eqb x y) (sameWord l m) h .1))
 
-pub equal-refl : (l : List ℕ) → T (equal l l)
+pub equal-refl : (l : List ℕ) → T (sameWord l l)
 equal-refl [] = tt
-equal-refl (x ∷ l) = and (eqb x x) (equal l l) (eqb-refl x) (equal-refl l)
+equal-refl (x ∷ l) = and (eqb x x) (sameWord l l) (eqb-refl x) (equal-refl l)
 
 -- the place of an entry
 pub place-lt : (ms : List (List ℕ)) (l : List ℕ) → List·Memᴰ l ms → place ms l < length ms
 place-lt [] l m = absurd (List·Memᴰ·not-nil m)
 place-lt (x ∷ ms) l m =
-    elim (dec-T (equal x l)) [
-      | yes t ↦ omega (arith, yes-pick (equal x l) 0 (suc (place ms l)) t)
+    elim (dec-T (sameWord x l)) [
+      | yes t ↦ omega (arith, yes-pick (sameWord x l) 0 (suc (place ms l)) t)
       | no t ↦
           omega (
             arith,
-            no-pick (equal x l) 0 (suc (place ms l)) t,
+            no-pick (sameWord x l) 0 (suc (place ms l)) t,
             place-lt ms l
-                (⊎-elim (λ e. absurd (t (subst (λ (y : List ℕ). T (equal x y)) (sym e) (equal-refl x)))) (λ r. r) (List·Memᴰ·cases-cons m)),
+                (⊎-elim (λ e. absurd (t (subst (λ (y : List ℕ). T (sameWord x y)) (sym e) (equal-refl x)))) (λ r. r) (List·Memᴰ·cases-cons m)),
           )
     ]
 
 place-at : (ms : List (List ℕ)) (l : List ℕ) → place ms l < length ms → getD ms (place ms l) [] ≡ l
 place-at [] l h = absurd (not-suc-le-zero h)
 place-at (x ∷ ms) l h =
-    elim (dec-T (equal x l)) [
-      | yes t ↦ ap (λ (i : ℕ). getD (x ∷ ms) i []) (yes-pick (equal x l) 0 (suc (place ms l)) t) ∙ equal-eq x l t
+    elim (dec-T (sameWord x l)) [
+      | yes t ↦ ap (λ (i : ℕ). getD (x ∷ ms) i []) (yes-pick (sameWord x l) 0 (suc (place ms l)) t) ∙ equal-eq x l t
       | no t ↦
-          ap (λ (i : ℕ). getD (x ∷ ms) i []) (no-pick (equal x l) 0 (suc (place ms l)) t)
-          ∙ place-at ms l (omega (arith, no-pick (equal x l) 0 (suc (place ms l)) t))
+          ap (λ (i : ℕ). getD (x ∷ ms) i []) (no-pick (sameWord x l) 0 (suc (place ms l)) t)
+          ∙ place-at ms l (omega (arith, no-pick (sameWord x l) 0 (suc (place ms l)) t))
     ]
 
 pub mem-at : (ms : List (List ℕ)) (i : ℕ) → i < length ms → List·Memᴰ (getD ms i []) ms

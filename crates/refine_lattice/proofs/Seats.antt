@@ -8,11 +8,15 @@ use native.Mathlib.Decide.{ℕ-discrete, decLt}
 use native.Mathlib.Omega.{arith}
 use lib.ListN.{length, getD}
 use lib.Seq.{ext-getD}
-use Rattle.refine_lattice.specs.Lattice.{tab, Falls, weights, dot, Perm, Child}
-use Rattle.refine_lattice.specs.Complex.{Words, same, sum, occurrences, weigh, Names, Complex, Refined}
-use Rattle.refine_lattice.proofs.Tab.{step, length-tab, getD-tab}
+use Rattle.lists.specs.Tables.{tab, sum}
+use Rattle.refine_lattice.specs.Lattice.{Falls, weights, dot, Perm, Child}
+use Rattle.lists.specs.Words.{same}
+use Rattle.refine_lattice.specs.Complex.{Words, occurrences, weigh, Names, Complex, Refined}
+use Rattle.lists.proofs.Tables.{length-tab, getD-tab}
+use Rattle.refine_lattice.proofs.Tab.{step}
 use Rattle.refine_lattice.proofs.Perms.{sum-le, sum-lt, Undoes}
-use Rattle.refine_lattice.proofs.Sums.{same-self, same-yes, same-no, same-eq, sum-ext, sum-add, sum-zero, sum-pick}
+use Rattle.lists.proofs.Words.{same-self, same-yes, same-no, same-eq}
+use Rattle.lists.proofs.Sums.{sum-ext, sum-add, sum-zero, sum-pick}
 use Rattle.refine_lattice.proofs.Codes.{Code, corner, corners, falls-corner, of-child, of-order}
 use Rattle.refine_lattice.proofs.Weights.{length-weights}
 use Rattle.refine_lattice.proofs.After.{weigh-absent}

@@ -8,10 +8,15 @@ use native.Mathlib.Decide.{decLt}
 use native.Mathlib.Omega.{arith}
 use lib.ListN.{length, getD, length-map}
 use Rattle.lists.proofs.Laws.{map-at}
-use Rattle.refine_lattice.specs.Lattice.{tab, dot, weights, blend}
-use Rattle.refine_lattice.specs.Complex.{same, sum, occurrences, weigh, through}
-use Rattle.refine_lattice.proofs.Tab.{step, length-tab, getD-tab, tab-ext, map-tab, list-tab}
-use Rattle.refine_lattice.proofs.Sums.{same-self, sum-ext, sum-add, sum-scale, sum-zero, sum-swap, sum-pick, dot-sum}
+use Rattle.lists.specs.Tables.{tab, sum}
+use Rattle.refine_lattice.specs.Lattice.{dot, weights, blend}
+use Rattle.lists.specs.Words.{same}
+use Rattle.refine_lattice.specs.Complex.{occurrences, weigh, through}
+use Rattle.lists.proofs.Tables.{length-tab, getD-tab, tab-ext, map-tab, list-tab}
+use Rattle.refine_lattice.proofs.Tab.{step}
+use Rattle.lists.proofs.Words.{same-self}
+use Rattle.lists.proofs.Sums.{sum-ext, sum-add, sum-scale, sum-zero, sum-swap, sum-pick}
+use Rattle.refine_lattice.proofs.Sums.{dot-sum}
 use Rattle.refine_lattice.proofs.Codes.{Code, corner, corners}
 use Rattle.refine_lattice.proofs.Weights.{Base, Time, length-weights, rows}
 

@@ -8,11 +8,14 @@ use native.Mathlib.Nat.{not-suc-le-zero, le-of-suc-le-suc, suc-inj}
 use native.Mathlib.Decide.{ℕ-discrete, decLt}
 use native.Mathlib.Omega.{arith}
 use lib.ListN.{length, getD}
-use Rattle.refine_lattice.specs.Lattice.{tab, Falls, weights, Perm}
-use Rattle.refine_lattice.specs.Complex.{same, sum}
-use Rattle.refine_lattice.proofs.Tab.{step, step-le, step-yes, step-no, step-one, length-tab, getD-tab}
+use Rattle.lists.specs.Tables.{tab, sum}
+use Rattle.refine_lattice.specs.Lattice.{Falls, weights, Perm}
+use Rattle.lists.specs.Words.{same}
+use Rattle.lists.proofs.Tables.{length-tab, getD-tab}
+use Rattle.refine_lattice.proofs.Tab.{step, step-le, step-yes, step-no, step-one}
 use Rattle.refine_lattice.proofs.Perms.{Undoes, back, undoes, one-place, onto}
-use Rattle.refine_lattice.proofs.Sums.{same-self, same-yes, same-no, same-eq, sum-ext, sum-add, sum-pick, sum-zero}
+use Rattle.lists.proofs.Words.{same-self, same-yes, same-no, same-eq}
+use Rattle.lists.proofs.Sums.{sum-ext, sum-add, sum-zero, sum-pick}
 use Rattle.refine_lattice.proofs.Codes.{Code, corner, corners, falls-corner}
 use Rattle.refine_lattice.proofs.Weights.{weights-at, falls-next, past}
 

@@ -6,10 +6,13 @@ use Prim.Native.Nat.{ℕ, zero, suc, _+_, _*_, _-_, _≤_, _<_, suc-le-suc}
 use native.Mathlib.Decide.{decLt, ℕ-discrete}
 use native.Mathlib.Omega.{arith}
 use lib.ListN.{length, getD}
-use Rattle.refine_lattice.specs.Lattice.{tab, Falls, dot, weights, Child}
-use Rattle.refine_lattice.specs.Complex.{Words, same, sum, occurrences, common, weigh, through, Names, Complex, Apart, Refined, Within, Alike, Agree}
-use Rattle.refine_lattice.proofs.Tab.{step, length-tab, getD-tab, tab-ext}
-use Rattle.refine_lattice.proofs.Sums.{sum-ext}
+use Rattle.lists.specs.Tables.{tab, sum}
+use Rattle.refine_lattice.specs.Lattice.{Falls, dot, weights, Child}
+use Rattle.lists.specs.Words.{same}
+use Rattle.refine_lattice.specs.Complex.{Words, occurrences, common, weigh, through, Names, Complex, Apart, Refined, Within, Alike, Agree}
+use Rattle.lists.proofs.Tables.{length-tab, getD-tab, tab-ext}
+use Rattle.refine_lattice.proofs.Tab.{step}
+use Rattle.lists.proofs.Sums.{sum-ext}
 use Rattle.refine_lattice.proofs.Codes.{Code, corner, corners, falls-corner, of-child, to-child}
 use Rattle.refine_lattice.proofs.Compose.{B, T, composed, Split, split-code}
 use Rattle.refine_lattice.proofs.Shares.{map-is, through-is}

@@ -7,8 +7,10 @@ use native.Mathlib.Nat.{not-suc-le-zero, le-of-suc-le-suc}
 use native.Mathlib.Decide.{decLt}
 use native.Mathlib.Omega.{arith}
 use lib.ListN.{length, getD, List·getD-eq-default}
-use Rattle.refine_lattice.specs.Lattice.{tab, Falls, weights, dot, blend}
-use Rattle.refine_lattice.proofs.Tab.{step, length-tab, getD-tab, tab-ext, map-tab, list-tab}
+use Rattle.lists.specs.Tables.{tab}
+use Rattle.refine_lattice.specs.Lattice.{Falls, weights, dot, blend}
+use Rattle.lists.proofs.Tables.{length-tab, getD-tab, tab-ext, map-tab, list-tab}
+use Rattle.refine_lattice.proofs.Tab.{step}
 use Rattle.refine_lattice.proofs.Codes.{Code, corner, corners, falls-corner}
 
 pub weights-at : (R : ℕ) (s : List ℕ) (j : ℕ) → getD (weights R s) j 0 ≡ getD (R ∷ s) j 0 - getD s j 0

@@ -9,13 +9,16 @@ use native.Mathlib.Decide.{ℕ-discrete, decLt}
 use native.Mathlib.Omega.{arith}
 use lib.Dec.{T, eqb, eqb→eq, eqb-refl, ltb, ltb→lt, lt→ltb}
 use lib.ListN.{length, getD}
-use Rattle.refine_lattice.specs.Lattice.{tab, weights, Child}
-use Rattle.refine_lattice.specs.Complex.{Words, same, occurrences, weigh, Names, Complex, Refined, AgreeOnFaces, WordsAgreeOnFacets}
+use Rattle.lists.specs.Tables.{tab}
+use Rattle.refine_lattice.specs.Lattice.{weights, Child}
+use Rattle.lists.specs.Words.{same, sameWord}
+use Rattle.refine_lattice.specs.Complex.{Words, occurrences, weigh, Names, Complex, Refined, AgreeOnFaces, WordsAgreeOnFacets}
 use Rattle.refine_lattice.specs.Children.{gather, children, pick}
-use Rattle.refine_lattice.specs.Refine.{point, visits, positives, first, equal, place, births-from, births, number, words, vertices, share, In}
+use Rattle.refine_lattice.specs.Refine.{point, visits, positives, first, place, births-from, births, number, words, vertices, share, In}
 use Rattle.refine_lattice.specs.Conform.{Distinct, Thin, Used, Sound}
-use Rattle.refine_lattice.proofs.Tab.{step, step-le, step-yes, step-no, length-tab, getD-tab, tab-ext}
-use Rattle.refine_lattice.proofs.Sums.{same-self, same-yes, same-no, same-eq}
+use Rattle.lists.proofs.Tables.{length-tab, getD-tab, tab-ext}
+use Rattle.refine_lattice.proofs.Tab.{step, step-le, step-yes, step-no}
+use Rattle.lists.proofs.Words.{same-self, same-yes, same-no, same-eq}
 use Rattle.refine_lattice.proofs.Codes.{Code, corner, corners, of-child, to-child}
 use Rattle.refine_lattice.proofs.Weights.{weights-at, length-weights, past}
 use Rattle.refine_lattice.proofs.After.{weigh-absent}
@@ -76,10 +79,10 @@ births-of (x ∷ ls) seen l h =
 -- the place of an entry where none stands twice
 nodup-place : (ms : List (List ℕ)) → Nodup ms → (p : ℕ) → p < length ms → place ms (getD ms p []) ≡ p
 nodup-place [] h p b = absurd (not-suc-le-zero b)
-nodup-place (x ∷ ms) h zero b = yes-pick (equal x x) 0 (suc (place ms x)) (equal-refl x)
+nodup-place (x ∷ ms) h zero b = yes-pick (sameWord x x) 0 (suc (place ms x)) (equal-refl x)
 nodup-place (x ∷ ms) h (suc p) b =
     let l : List ℕ = getD ms p [] in
-    no-pick (equal x l) 0 (suc (place ms l)) (λ t. h .0 (Memᴰ·cast (equal-eq x l t) (mem-at ms p (le-of-suc-le-suc b))))
+    no-pick (sameWord x l) 0 (suc (place ms l)) (λ t. h .0 (Memᴰ·cast (equal-eq x l t) (mem-at ms p (le-of-suc-le-suc b))))
     ∙ ap suc (nodup-place ms (h .1) p (le-of-suc-le-suc b))
 
 -- a list with one positive entry

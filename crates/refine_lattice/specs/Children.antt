@@ -5,7 +5,7 @@ use mathlib.Core.Bool.{Bool, true, false, _&&_}
 use mathlib.Core.List.{List, [], _∷_, map}
 use Prim.Native.Nat.{ℕ, suc}
 use lib.Dec.{leb}
-pub use Rattle.multiindex.specs.Permutation.{upto, gather, skip, without, arrange, orders}
+pub use Rattle.multiindex.specs.Permutation.{gather, arrange, orders}
 pub use Rattle.multiindex.specs.Cartesian.{digits}
 use Rattle.refine_lattice.specs.Lattice.{chain}
 

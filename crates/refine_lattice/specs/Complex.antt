@@ -5,17 +5,13 @@ use mathlib.Core.Logic.{_⊎_}
 use mathlib.Core.List.{List, [], _∷_, map}
 use Prim.Native.Nat.{ℕ, zero, suc, _+_, _*_, _≤_, _<_}
 use lib.ListN.{length, getD}
-pub use Rattle.multiindex.specs.Permutation.{same}
+use Rattle.lists.specs.Words.{same}
+use Rattle.lists.specs.Tables.{sum}
 use Rattle.refine_lattice.specs.Lattice.{weights, dot, Child}
 
 -- a set of words
 abbrev pub Words : Type 1
 Words = List ℕ → Type 0
-
--- `f 0 + f 1 + .. + f (n - 1)`
-abbrev pub sum : ℕ → (ℕ → ℕ) → ℕ
-sum zero f = 0
-sum (suc n) f = sum n f + f n
 
 -- how often `v` stands in `k`
 abbrev pub occurrences : List ℕ → ℕ → ℕ

@@ -3,7 +3,8 @@ use mathlib.Core.Path.{_≡_}
 use mathlib.Core.Logic.{_⊎_}
 use mathlib.Core.List.{List, [], _∷_}
 use Prim.Native.Nat.{ℕ, zero, suc, _-_, _≤_, _<_}
-use Rattle.refine_lattice.specs.Complex.{Words, same, occurrences, Complex, AgreeOnFaces, WordsAgreeOnFacets}
+use Rattle.lists.specs.Words.{same}
+use Rattle.refine_lattice.specs.Complex.{Words, occurrences, Complex, AgreeOnFaces, WordsAgreeOnFacets}
 
 -- how often `v` stands in `k` where one `x` is left out: the vertices of the facet of `k` against `x`
 abbrev pub rest : List ℕ → ℕ → ℕ → ℕ

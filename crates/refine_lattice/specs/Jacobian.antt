@@ -5,7 +5,8 @@ use Prim.Native.Nat.{ℕ, zero, suc, _+_, _*_, _-_, _<_}
 use lib.ListN.{length, getD}
 use lib.IntN.{ℤ, pos, negℤ, _+ℤ_, _-ℤ_, _*ℤ_}
 use Rattle.refine_lattice.specs.Lattice.{Child}
-use Rattle.refine_lattice.specs.Complex.{Words, same, occurrences, Names, Rises}
+use Rattle.lists.specs.Words.{same}
+use Rattle.refine_lattice.specs.Complex.{Words, occurrences, Names, Rises}
 use Rattle.refine_lattice.specs.Signs.{Signs}
 
 -- column c, row r

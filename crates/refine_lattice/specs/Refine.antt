@@ -4,8 +4,10 @@ use mathlib.Core.List.{List, [], _∷_, _++_, map, List·Memᴰ}
 use Prim.Native.Nat.{ℕ, zero, suc, _+_, _*_, _-_}
 use lib.Dec.{eqb, ltb}
 use lib.ListN.{length, getD}
-use Rattle.refine_lattice.specs.Lattice.{tab, weights}
-use Rattle.refine_lattice.specs.Complex.{Words, same, weigh, through, Alike}
+use Rattle.lists.specs.Tables.{tab}
+use Rattle.refine_lattice.specs.Lattice.{weights}
+use Rattle.lists.specs.Words.{same, sameWord}
+use Rattle.refine_lattice.specs.Complex.{Words, weigh, through, Alike}
 use Rattle.refine_lattice.specs.Children.{gather, children, pick}
 
 -- the shares of the point `s` of the cell with word `k`: its weight at each of n vertices
@@ -28,17 +30,10 @@ first [] = 0
 first (zero ∷ l) = suc (first l)
 first (suc w ∷ l) = 0
 
--- one list of numbers is the other
-abbrev pub equal : List ℕ → List ℕ → Bool
-equal [] [] = true
-equal [] (y ∷ m) = false
-equal (x ∷ l) [] = false
-equal (x ∷ l) (y ∷ m) = eqb x y && equal l m
-
 -- the place of `l`; past the end where it is not there
 abbrev pub place : List (List ℕ) → List ℕ → ℕ
 place [] l = 0
-place (m ∷ ms) l = pick (equal m l) 0 (suc (place ms l))
+place (m ∷ ms) l = pick (sameWord m l) 0 (suc (place ms l))
 
 -- the births: each point that has not one positive share, where it is visited first
 abbrev pub births-from : List (List ℕ) → List (List ℕ) → List (List ℕ)

@@ -5,8 +5,10 @@ use mathlib.Core.Logic.{_≢_}
 use mathlib.Core.List.{List}
 use Prim.Native.Nat.{ℕ, zero, suc, _+_, _*_, _-_, _<_}
 use lib.ListN.{length, getD}
+use Rattle.multiindex.specs.Sort.{inversions}
 use Rattle.refine_lattice.specs.Lattice.{Child}
-use Rattle.refine_lattice.specs.Complex.{Words, sum, Names}
+use Rattle.lists.specs.Tables.{sum}
+use Rattle.refine_lattice.specs.Complex.{Words, Names}
 use Rattle.refine_lattice.specs.Conform.{Meet}
 
 unfoldable pub Even : ℕ → Type 0
@@ -32,11 +34,7 @@ less m zero = 0
 less zero (suc n) = 1
 less (suc m) (suc n) = less m n
 
--- how many pairs of entries stand in falling sequence: the sign of an order of the axes is + where this is even
-abbrev pub inversions : List ℕ → ℕ
-inversions p = sum (length p) (λ a. sum (length p) (λ b. less a b * less (getD p b 0) (getD p a 0)))
-
--- the sign that a child's word has from its parent: the parent's, times that of the order in which the child's axes are stepped
+-- the sign that a child's word has from its parent: the parent's, times that of the order in which the child's axes are stepped (+ where its pairs out of order are even)
 pub record Handed (d R : ℕ) (K M : Words) (share : ℕ → ℕ → ℕ) (S : Signs) (m : List ℕ) (s : ℕ) : Type 0 where
   pub k : List ℕ
   pub c : List (List ℕ)

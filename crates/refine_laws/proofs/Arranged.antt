@@ -13,8 +13,10 @@ use Rattle.multiindex.specs.Sort.{sortWord}
 use Rattle.multiindex.proofs.SortLaws.{sort-length}
 use Rattle.complex.specs.Cells.{inOrder}
 use Rattle.complex.specs.Facets.{cellAt}
-use Rattle.ordering.specs.Order.{sameWord, wordIf, wordOf, byCell}
-use Rattle.ordering.proofs.Orders.{same-true, true-same, by-cell-at, by-cell-length}
+use Rattle.lists.specs.Words.{sameWord}
+use Rattle.ordering.specs.Order.{wordIf, wordOf, byCell}
+use Rattle.lists.proofs.Words.{same-word, word-true}
+use Rattle.ordering.proofs.Orders.{by-cell-at, by-cell-length}
 use Rattle.complex_cells.proofs.Words.{Word, Each, Rising, each-in, each-of, in-at, at-in}
 use Rattle.complex_cells.proofs.Order.{Colex, colex-irr, order-rising, order-from, order-has}
 use Rattle.refine_lattice.specs.Complex.{occurrences, Complex, Rises}
@@ -36,9 +38,9 @@ word-found (x ∷ ows) cell w m e =
     go : (t : Bool) → sameWord (sortWord x) cell ≡ t → (w ≡ x) ⊎ List·Memᴰ w ows
         → (List·Memᴰ w ows → List·Memᴰ (wordOf ows cell) ows × (sortWord (wordOf ows cell) ≡ cell))
         → List·Memᴰ (wordIf t x (wordOf ows cell)) (x ∷ ows) × (sortWord (wordIf t x (wordOf ows cell)) ≡ cell)
-    go true p q r = (List·Memᴰ·head refl, same-true (sortWord x) cell p)
+    go true p q r = (List·Memᴰ·head refl, same-word (sortWord x) cell p)
     go false p (inl q) r =
-        let s : sameWord (sortWord x) cell ≡ true = true-same (sortWord x) cell (ap sortWord (sym q) ∙ e) in
+        let s : sameWord (sortWord x) cell ≡ true = word-true (sortWord x) cell (ap sortWord (sym q) ∙ e) in
         let z : _≡_ {A = ℕ} 0 1 = cc in absurd (omega arith)
     go false p (inr q) r = let (a, b) = r q in (List·Memᴰ·tail a, b)
 

@@ -15,7 +15,7 @@ use Rattle.complex.proofs.Fine.{fine-passed}
 use Rattle.ordering.specs.Order.{Orders, AgreeOnFacets}
 use Rattle.refine_lattice.specs.Complex.{through}
 use Rattle.refine_lattice.specs.Refine.{vertices, share, In}
-use Rattle.refine_lattice.proofs.Sums.{sum-ext}
+use Rattle.lists.proofs.Sums.{sum-ext}
 use Rattle.refine_lattice.proofs.Fits.{Stage}
 use Rattle.refine_results.specs.declared.Refinement.{Refinement}
 use Rattle.refine_results.specs.declared.Refinement.the-variants.{Made, Refused}

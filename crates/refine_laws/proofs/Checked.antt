@@ -9,9 +9,9 @@ use native.Mathlib.Decide.{decLt}
 use native.Mathlib.Omega.{arith}
 use lib.ListN.{length, take, drop, length-drop, take-append-drop}
 use Rattle.lists.specs.Rows.{cut, rows}
-use Rattle.lists.specs.Words.{largestOf}
+use Rattle.lists.specs.Words.{largestOf, same}
 use Rattle.lists.proofs.Rows.{cut-length, cut-at}
-use Rattle.lists.proofs.Words.{below-largest, word-within}
+use Rattle.lists.proofs.Words.{below-largest, word-within, same-self}
 use Rattle.multiindex.specs.Sort.{sortWord}
 use Rattle.sorting.proofs.Colex.{row-length}
 use Rattle.complex.specs.Cells.{inOrder, cellsOf}
@@ -21,10 +21,9 @@ use Rattle.complex_cells.proofs.Words.{at-in}
 use Rattle.complex_cells.proofs.Making.{whole-words}
 use Rattle.ordering.specs.Order.{Orders}
 use Rattle.ordering.specs.Order as order
-use Rattle.refine_lattice.specs.Complex.{same, occurrences, Complex, AgreeOnFaces, Rises}
+use Rattle.refine_lattice.specs.Complex.{occurrences, Complex, AgreeOnFaces, Rises}
 use Rattle.refine_lattice.specs.Refine.{In}
 use Rattle.refine_lattice.specs.Conform.{Used, Sound, Facewise}
-use Rattle.refine_lattice.proofs.Sums.{same-self}
 use Rattle.refine_lattice.proofs.Enumerate.{place-of}
 use Rattle.refine_lattice.proofs.Faces.{rising}
 use Rattle.refine_lattice.proofs.Fits.{Stage}

@@ -16,10 +16,12 @@ use Rattle.complex.proofs.Fine.{fine-passed, passed-fine}
 use Rattle.complex_cells.proofs.Order.{order-rising}
 use Rattle.ordering.specs.Order.{Orders}
 use Rattle.ordering.specs.Order as order
-use Rattle.refine_lattice.specs.Complex.{same, through, Alike, WordsAgreeOnFacets}
+use Rattle.lists.specs.Words.{same}
+use Rattle.refine_lattice.specs.Complex.{through, Alike, WordsAgreeOnFacets}
 use Rattle.refine_lattice.specs.Refine.{words, vertices, share, In}
 use Rattle.refine_lattice.specs.Conform.{Used, Facewise}
-use Rattle.refine_lattice.proofs.Sums.{same-yes, same-no, sum-ext, sum-scale, sum-pick}
+use Rattle.lists.proofs.Words.{same-yes, same-no}
+use Rattle.lists.proofs.Sums.{sum-ext, sum-scale, sum-pick}
 use Rattle.refine_lattice.proofs.Faces.{by-facets, by-faces}
 use Rattle.refine_lattice.proofs.Fits.{Stage, fits, length-words, tower-words}
 use Rattle.refine_results.specs.Refined.{coarse, orderWords, refinedCells, refinedWords}

@@ -9,12 +9,12 @@ use native.Mathlib.Omega.{arith}
 use lib.ListN.{length, getD}
 use Rattle.complex_cells.proofs.Words.{at-in}
 use Rattle.complex.specs.Facets.{cellAt, Mates, Crowded}
-use Rattle.ordering.specs.Order.{without}
+use Rattle.lists.specs.Words.{without}
 use Rattle.ordering.specs.Order as order
 use Rattle.refine_lattice.specs.Complex.{occurrences, common, Complex, WordsAgreeOnFacets}
 use Rattle.refine_lattice.specs.Refine.{In}
 use Rattle.refine_lattice.specs.Conform.{Meet, Thin}
-use Rattle.refine_lattice.proofs.Sums.{same-self, same-no}
+use Rattle.lists.proofs.Words.{same-self, same-no}
 use Rattle.refine_lattice.proofs.After.{keep-no}
 use Rattle.refine_lattice.proofs.Enumerate.{times-at}
 use Rattle.refine_lattice.proofs.Count.{Nodup}

@@ -5,13 +5,13 @@ use mathlib.Core.List.{List, [], _∷_, map}
 use Prim.Native.Nat.{ℕ, _*_, _<_, _≤_}
 use native.Mathlib.Omega.{arith}
 use lib.ListN.{getD}
-use Rattle.lists.specs.Words.{either, among, hasRepeat, largestOf, foundAt, firstWhere}
+use Rattle.lists.specs.Words.{among, hasRepeat, largestOf, foundAt, firstWhere, sameWord}
 use Rattle.lists.specs.Rows.{cut, flat}
 use Rattle.multiindex.specs.Sort.{insertBy, insert, sortWord}
 use Rattle.complex.specs.Cells.{decides, comesBefore, placed, place, inOrder, cellsOf}
 use Rattle.complex.specs.Check.{answerOf}
 use Rattle.complex.specs.Facets.{Crowded}
-use Rattle.ordering.specs.Order.{sameWord, wordIf, wordOf, byCell}
+use Rattle.ordering.specs.Order.{wordIf, wordOf, byCell}
 use Rattle.refine_lattice.specs.Refine.{vertices}
 use Rattle.refine_results.specs.Refined.{refinedCells, refinedWords}
 use Rattle.refine_results.specs.Results.{Refines}
@@ -26,7 +26,7 @@ unfolding cellsOf cut inOrder place placed comesBefore decides sortWord insert i
 one-cell = refl
 
 accepted : Accepted 2 (0 ∷ 1 ∷ 2 ∷ [])
-unfolding answerOf either among hasRepeat largestOf foundAt firstWhere
+unfolding answerOf among hasRepeat largestOf foundAt firstWhere
 accepted = record { fine = refl; uncrowded = subst (λ (cs : List (List ℕ)). Crowded 2 cs → ⊥) (sym one-cell) lonely }
   where
     lonely : Crowded 2 triangle → ⊥
@@ -59,5 +59,5 @@ abbrev in-colex : List (List ℕ) → List (List ℕ)
 in-colex ws = byCell ws (inOrder 3 ws)
 
 pub triangle-renamed : in-colex (map (map renamed) (refinedWords 2 2 6 (refinedWords 2 2 3 triangle))) ≡ refinedWords 2 4 3 triangle
-unfolding inOrder place placed comesBefore decides sortWord insert insertBy sameWord wordIf wordOf byCell
+unfolding inOrder place placed comesBefore decides sortWord insert insertBy wordIf wordOf byCell
 triangle-renamed = refl

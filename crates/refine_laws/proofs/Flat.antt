@@ -8,8 +8,8 @@ use native.Mathlib.Omega.{arith}
 use lib.ListN.{length}
 use lib.Seq.{ext-getD}
 use Rattle.refusal.specs.Limits.{mostCells, mostVertices}
-use Rattle.lists.specs.Rows.{flat}
-use Rattle.lists.specs.Words.{hasRepeat, largestOf, wordAt}
+use Rattle.lists.specs.Rows.{flat, row}
+use Rattle.lists.specs.Words.{hasRepeat, largestOf}
 use Rattle.lists.proofs.Flat.{flat-length, flat-at, cut-flat, flat-count, flat-whole, rows-flat}
 use Rattle.multiindex.specs.Sort.{sortWord}
 use Rattle.complex.specs.Cells.{inOrder, cellsOf}
@@ -71,7 +71,7 @@ module _ (d n : ℕ) (cs ks : List (List ℕ)) (l : Listed d n cs ks) where
   flat-some : 0 < length cs → length (flat cs) ≡ 0 → ⊥
   flat-some h e = omega (arith, flat-length (suc d) cs cells-long, mul-le-mul-right {m = 1} {n = length cs} (suc d) h)
 
-  flat-word : (k : ℕ) → k < length cs → wordAt (suc d) (flat cs) k ≡ cellAt cs k
+  flat-word : (k : ℕ) → k < length cs → row (flat cs) (suc d) k ≡ cellAt cs k
   flat-word k h = flat-at (suc d) cs cells-long k h
 
   module _ (some : 0 < length cs) (used : Used n (In ks)) where

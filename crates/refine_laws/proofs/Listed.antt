@@ -15,11 +15,11 @@ use Rattle.multiindex.specs.Sort.{sortWord}
 use Rattle.multiindex.proofs.SortLaws.{sort-length}
 use Rattle.complex_cells.proofs.Words.{at-in}
 use Rattle.complex.specs.Facets.{cellAt, facetAt, Mates}
-use Rattle.ordering.specs.Order.{keepUnless, without}
+use Rattle.lists.specs.Words.{without, skip, same}
 use Rattle.refine_lattice.specs.Complex.{occurrences, keep, common, Complex, Rises}
 use Rattle.refine_lattice.specs.Refine.{In}
 use Rattle.refine_lattice.specs.Conform.{rest, Meet, Distinct, omit}
-use Rattle.refine_lattice.proofs.Sums.{same-self, same-yes, same-no}
+use Rattle.lists.proofs.Words.{same-self, same-yes, same-no, same-eq}
 use Rattle.refine_lattice.proofs.After.{keep-yes, keep-no, times-common}
 use Rattle.refine_lattice.proofs.Enumerate.{place-of}
 use Rattle.refine_lattice.proofs.Faces.{times-common-le, times-common-no}
@@ -61,13 +61,12 @@ rises-facet w r i h = subst Rises (sym (facet-omit w i h)) (rises-omit w r i h)
 
 -- what two words share, where one number is only in the first
 pub common-without : (x : ℕ) (k l : List ℕ) → occurrences l x ≡ 0 → ((v : ℕ) → 0 < occurrences k v → v ≢ x → 0 < occurrences l v) → common k l ≡ without x k
-unfolding without keepUnless
 common-without x [] l z f = refl
-common-without x (y ∷ k) l z f = go (eqb y x) refl (common-without x k l z (λ v h. f v (omega arith)))
+common-without x (y ∷ k) l z f = go (same x y) refl (common-without x k l z (λ v h. f v (omega arith)))
   where
-    go : (t : Bool) → eqb y x ≡ t → common k l ≡ without x k → keep (occurrences l y) y (common k l) ≡ keepUnless t y (without x k)
-    go true e r = keep-no (occurrences l y) y (common k l) (ap (occurrences l) (eqb-true y x e) ∙ z) ∙ r
-    go false e r = keep-yes (occurrences l y) y (common k l) (f y (omega (arith, same-self y)) (eqb-false y x e)) ∙ ap (λ (w : List ℕ). y ∷ w) r
+    go : (n : ℕ) → same x y ≡ n → common k l ≡ without x k → keep (occurrences l y) y (common k l) ≡ skip n y (without x k)
+    go zero e r = keep-yes (occurrences l y) y (common k l) (f y (omega (arith, same-self y)) (λ q. omega (arith, e, same-yes x y (sym q)))) ∙ ap (λ (w : List ℕ). y ∷ w) r
+    go (suc n) e r = keep-no (occurrences l y) y (common k l) (ap (occurrences l) (sym (same-eq x y (omega (arith, e)))) ∙ z) ∙ r
 
 -- words that share all but one of their numbers meet in a facet
 pub record Beside (k l : List ℕ) : Type 0 where

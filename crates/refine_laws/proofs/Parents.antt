@@ -13,11 +13,14 @@ use Rattle.complex.specs.Facets.{cellAt}
 use Rattle.complex_cells.proofs.Words.{at-in}
 use Rattle.ordering.proofs.Orders.{by-cell-at, word-first}
 use Rattle.refine_lattice.specs.Lattice.{Child}
-use Rattle.refine_lattice.specs.Complex.{same, sum, occurrences, Complex, Names}
+use Rattle.lists.specs.Tables.{sum}
+use Rattle.lists.specs.Words.{same}
+use Rattle.refine_lattice.specs.Complex.{occurrences, Complex, Names}
 use Rattle.refine_lattice.specs.Children.{gather, children}
 use Rattle.refine_lattice.specs.Refine.{births, number, point, words, vertices, share, In}
 use Rattle.refine_lattice.specs.Conform.{Sound, Distinct}
-use Rattle.refine_lattice.proofs.Sums.{same-yes, same-no, sum-ext, sum-add, sum-zero, sum-pick, sum-split}
+use Rattle.lists.proofs.Words.{same-yes, same-no}
+use Rattle.lists.proofs.Sums.{sum-ext, sum-add, sum-zero, sum-pick, sum-split}
 use Rattle.refine_lattice.proofs.Enumerate.{times-at, once-of-apart, child-of-mem}
 use Rattle.refine_lattice.proofs.Count.{Nodup, count}
 use Rattle.refine_lattice.proofs.Refines.{mem-at, names}

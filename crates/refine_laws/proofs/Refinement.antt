@@ -11,11 +11,13 @@ use Rattle.complex.specs.Check.{Passed}
 use Rattle.complex.proofs.Fine.{fine-passed}
 use Rattle.ordering.specs.Order.{Orders}
 use Rattle.refine_lattice.specs.Lattice.{weights}
-use Rattle.refine_lattice.specs.Complex.{same, sum, occurrences, weigh}
+use Rattle.lists.specs.Tables.{sum}
+use Rattle.lists.specs.Words.{same}
+use Rattle.refine_lattice.specs.Complex.{occurrences, weigh}
 use Rattle.refine_lattice.specs.Children.{children}
 use Rattle.refine_lattice.specs.Refine.{vertices, share, In}
 use Rattle.refine_lattice.specs.Conform.{Used, Sound}
-use Rattle.refine_lattice.proofs.Sums.{sum-ext}
+use Rattle.lists.proofs.Sums.{sum-ext}
 use Rattle.refine_lattice.proofs.After.{total-weight}
 use Rattle.refine_lattice.proofs.Enumerate.{place-of, mem-of-child}
 use Rattle.refine_lattice.proofs.Count.{Nodup}

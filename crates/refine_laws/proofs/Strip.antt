@@ -8,15 +8,15 @@ use native.Mathlib.Omega.{arith}
 use lib.Dec.{eqb}
 use lib.ListN.{getD}
 use borrow.Author.Tests.{ne-eqb, eqb-true}
-use Rattle.lists.specs.Words.{either, among, hasRepeat, largestOf, foundAt, firstWhere}
+use Rattle.lists.specs.Words.{among, hasRepeat, largestOf, foundAt, firstWhere, sameWord, without}
 use Rattle.lists.specs.Rows.{cut, rows, flat}
 use Rattle.multiindex.specs.Sort.{insertBy, insert, sortWord}
 use Rattle.multiindex.proofs.Tables.{allBelow, at-below}
 use Rattle.complex.specs.Cells.{decides, comesBefore, placed, place, inOrder, cellsOf}
 use Rattle.complex.specs.Check.{answerOf}
 use Rattle.complex.specs.Facets.{cellAt, facetAt, Crowded}
-use Rattle.ordering.specs.Order.{sameWord, wordIf, wordOf, byCell, keepUnless, without, IsOrder, AgreeOnFacets}
-use Rattle.ordering.proofs.Orders.{same-true, true-same}
+use Rattle.ordering.specs.Order.{wordIf, wordOf, byCell, IsOrder, AgreeOnFacets}
+use Rattle.lists.proofs.Words.{same-word, word-true}
 use Rattle.refine_lattice.specs.Refine.{vertices}
 use Rattle.refine_results.specs.Refined.{orderWords, refinedCells, refinedWords}
 use Rattle.refine_results.specs.Results.{Refines}
@@ -42,7 +42,7 @@ unfolding cut
 rows-are = refl
 
 words-are : orderWords 2 band band ≡ words
-unfolding cellsOf cut inOrder place placed comesBefore decides sortWord insert insertBy sameWord wordIf wordOf byCell
+unfolding cellsOf cut inOrder place placed comesBefore decides sortWord insert insertBy wordIf wordOf byCell
 words-are = refl
 
 -- ---- the tests
@@ -59,7 +59,6 @@ agree c i c′ i′ =
     unless (meet c i c′ i′) (eqb c c′ || sameWord (without (getD (cellAt cells c) i 0) (cellAt words c)) (without (getD (cellAt cells c′) i′ 0) (cellAt words c′)))
 
 all-agree : allBelow 6 (λ c. allBelow 3 (λ i. allBelow 6 (λ c′. allBelow 3 (λ i′. agree c i c′ i′)))) ≡ true
-unfolding sameWord without keepUnless
 all-agree = refl
 
 -- of three cells that meet two are the same
@@ -67,7 +66,6 @@ abbrev thin : ℕ → ℕ → ℕ → ℕ → ℕ → ℕ → Bool
 thin c i c′ i′ c″ i″ = unless (meet c i c′ i′) (unless (meet c i c″ i″) (eqb c c′ || (eqb c c″ || eqb c′ c″)))
 
 all-thin : allBelow 6 (λ c. allBelow 3 (λ i. allBelow 6 (λ c′. allBelow 3 (λ i′. allBelow 6 (λ c″. allBelow 3 (λ i″. thin c i c′ i′ c″ i″)))))) ≡ true
-unfolding sameWord
 all-thin = refl
 
 held : (a b : Bool) → a ≡ true → unless a b ≡ true → b ≡ true
@@ -90,9 +88,9 @@ agrees = record {
       (at-below 6 (λ c. allBelow 3 (λ i. allBelow 6 (λ c′. allBelow 3 (λ i′. agree c i c′ i′)))) all-agree c (m .this .cell)) i hi) c′ (m .that .cell)) i′ hi′ in
       let w : List ℕ = without (getD (cellAt cells c) i 0) (cellAt words c) in
       let w′ : List ℕ = without (getD (cellAt cells c′) i′ 0) (cellAt words c′) in
-      same-true w w′
+      same-word w w′
       (other (eqb c c′) (sameWord w w′) (ne-eqb c c′ (m .apart))
-      (held (meet c i c′ i′) (eqb c c′ || sameWord w w′) (true-same (facetAt (cellAt cells c) i) (facetAt (cellAt cells c′) i′) (m .one)) t));
+      (held (meet c i c′ i′) (eqb c c′ || sameWord w w′) (word-true (facetAt (cellAt cells c) i) (facetAt (cellAt cells c′) i′) (m .one)) t));
 }
 
 uncrowded : Crowded 2 cells → ⊥
@@ -117,20 +115,20 @@ uncrowded w =
     (at-below 6 (λ c. allBelow 3 (λ i. allBelow 6 (λ c′. allBelow 3 (λ i′. allBelow 6 (λ c″. allBelow 3 (λ i″. thin c i c′ i′ c″ i″)))))) all-thin c (one .this .cell))
     i hi) c′ (one .that .cell)) i′ hi′) c″ (two .that .cell)) i″ hi″ in
     let s : (eqb c c′ || (eqb c c″ || eqb c′ c″)) ≡ true =
-    held (meet c i c″ i″) (eqb c c′ || (eqb c c″ || eqb c′ c″)) (true-same (facetAt (cellAt cells c) i) (facetAt (cellAt cells c″) i″) (two .one))
+    held (meet c i c″ i″) (eqb c c′ || (eqb c c″ || eqb c′ c″)) (word-true (facetAt (cellAt cells c) i) (facetAt (cellAt cells c″) i″) (two .one))
     (held (meet c i c′ i′) (unless (meet c i c″ i″) (eqb c c′ || (eqb c c″ || eqb c′ c″)))
-    (true-same (facetAt (cellAt cells c) i) (facetAt (cellAt cells c′) i′) (one .one)) t) in
+    (word-true (facetAt (cellAt cells c) i) (facetAt (cellAt cells c′) i′) (one .one)) t) in
     w .apart
     (eqb-true c′ c″
     (other (eqb c c″) (eqb c′ c″) (ne-eqb c c″ (two .apart)) (other (eqb c c′) (eqb c c″ || eqb c′ c″) (ne-eqb c c′ (one .apart)) s)))
 
 -- ---- the premises
 accepted : Accepted 2 band
-unfolding answerOf either among hasRepeat largestOf foundAt firstWhere
+unfolding answerOf among hasRepeat largestOf foundAt firstWhere
 accepted = record { fine = refl; uncrowded = subst (λ (cs : List (List ℕ)). Crowded 2 cs → ⊥) (sym cells-are) uncrowded }
 
 in-order : IsOrder cells (rows 3 band)
-unfolding cut sortWord insert insertBy sameWord wordIf wordOf
+unfolding cut sortWord insert insertBy wordIf wordOf
 in-order = record { many = refl; each = each }
   where
     each : (c : ℕ) → c < 6 → sortWord (wordOf (rows 3 band) (cellAt cells c)) ≡ cellAt cells c

@@ -9,19 +9,20 @@ use native.Mathlib.Decide.{decLt}
 use native.Mathlib.Omega.{arith}
 use lib.Dec.{eqb, ltb, T, lt→ltb, ltb→lt}
 use lib.ListN.{length, getD, take, drop, length-map, length-append}
-use Rattle.lists.specs.Rows.{flat}
+use Rattle.lists.specs.Rows.{flat, row}
 use Rattle.lists.proofs.Laws.{map-at}
 use Rattle.lists.proofs.Flat.{flat-at}
-use Rattle.sorting.specs.Gather.{row}
-use Rattle.refine_lattice.specs.Lattice.{tab, weights}
-use Rattle.refine_lattice.specs.Complex.{same, weigh}
+use Rattle.lists.specs.Tables.{tab}
+use Rattle.refine_lattice.specs.Lattice.{weights}
+use Rattle.lists.specs.Words.{same, none}
+use Rattle.refine_lattice.specs.Complex.{weigh}
 use Rattle.refine_lattice.specs.Children.{gather, children, pick}
 use Rattle.refine_lattice.specs.Refine.{point, visits, positives, place, births-from, births, vertices, share, In}
-use Rattle.refine_lattice.proofs.Tab.{length-tab, getD-tab}
-use Rattle.refine_lattice.proofs.Sums.{same-yes, same-no}
+use Rattle.lists.proofs.Tables.{length-tab, getD-tab}
+use Rattle.lists.proofs.Words.{same-yes, same-no}
 use Rattle.refine_lattice.proofs.Enumerate.{of-gather}
 use Rattle.refine_lattice.proofs.Refines.{mem-at, yes-pick, no-pick}
-use Rattle.refine_births.specs.Support.{none, supporters, shares, padded}
+use Rattle.refine_births.specs.Support.{supporters, shares, padded}
 use Rattle.refine_births.specs.Promise.{birthVertices, birthWeights}
 use Rattle.refine_births.proofs.Points.{supporters-long, shares-long, supporters-low, weigh-past, positives-most}
 use Rattle.refine_results.specs.Results.{Results, resultsOf}

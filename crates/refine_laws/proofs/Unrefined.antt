@@ -21,14 +21,16 @@ use Rattle.complex_cells.proofs.Words as cells
 use Rattle.complex_cells.proofs.Order.{Colex, colex-irr, colex-trans, order-rising, order-from, order-has}
 use Rattle.ordering.specs.Order.{Orders, wordOf, byCell}
 use Rattle.ordering.proofs.Orders.{by-cell-length, by-cell-at}
-use Rattle.refine_lattice.specs.Lattice.{tab, weights, Child}
-use Rattle.refine_lattice.specs.Complex.{same, occurrences, weigh, Names, Refined}
+use Rattle.lists.specs.Tables.{tab}
+use Rattle.refine_lattice.specs.Lattice.{weights, Child}
+use Rattle.lists.specs.Words.{same}
+use Rattle.refine_lattice.specs.Complex.{occurrences, weigh, Names, Refined}
 use Rattle.refine_lattice.specs.Children.{children}
 use Rattle.refine_lattice.specs.Pattern.{patternOf}
 use Rattle.refine_lattice.specs.Refine.{words, vertices, share, In}
 use Rattle.refine_lattice.specs.Conform.{Used, Distinct, Sound}
-use Rattle.refine_lattice.proofs.Tab.{getD-tab}
-use Rattle.refine_lattice.proofs.Sums.{same-yes, same-no}
+use Rattle.lists.proofs.Tables.{getD-tab}
+use Rattle.lists.proofs.Words.{same-yes, same-no}
 use Rattle.refine_lattice.proofs.Weights.{length-weights}
 use Rattle.refine_lattice.proofs.After.{weigh-absent}
 use Rattle.refine_lattice.proofs.Enumerate.{times-at, place-of, mem-of-child, child-of-mem}

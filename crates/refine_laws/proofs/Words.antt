@@ -1,5 +1,5 @@
 -- Words by their counts: a sorted word has the word's numbers, and a rising word is known by its numbers. Assumes nothing.
-use mathlib.Core.Bool.{Bool, true, false}
+use mathlib.Core.Bool.{Bool, true, false, _||_}
 use mathlib.Core.Path.{_≡_, refl, sym, ap, _∙_}
 use mathlib.Core.Logic.{_⊎_, inl, inr, ⊎-elim}
 use mathlib.Core.List.{List, [], _∷_, List·Memᴰ, List·Memᴰ·head, List·Memᴰ·tail, List·Memᴰ·not-nil, List·Memᴰ·cases-cons}
@@ -8,13 +8,13 @@ use native.Mathlib.Decide.{ℕ-discrete, decLt}
 use native.Mathlib.Omega.{arith}
 use lib.Dec.{ltb, eqb}
 use borrow.Author.Tests.{eqb-true, eqb-false}
-use Rattle.lists.specs.Words.{either, among, hasRepeat}
+use Rattle.lists.specs.Words.{among, hasRepeat, same}
 use Rattle.lists.proofs.Members.{All, Pairs}
 use Rattle.multiindex.specs.Sort.{insertBy, insert, sortWord}
 use Rattle.complex_cells.proofs.Words.{Word, In}
 use Rattle.complex_cells.proofs.Strict.{sort-strict}
-use Rattle.refine_lattice.specs.Complex.{same, occurrences, common, Rises}
-use Rattle.refine_lattice.proofs.Sums.{same-self, same-yes, same-no}
+use Rattle.refine_lattice.specs.Complex.{occurrences, common, Rises}
+use Rattle.lists.proofs.Words.{same-self, same-yes, same-no, or-false}
 use Rattle.refine_lattice.proofs.After.{keep-yes}
 use Rattle.refine_lattice.proofs.Faces.{rising}
 
@@ -45,33 +45,28 @@ sort-times (x ∷ w) v = insert-times x (sortWord w) v ∙ ap (λ (n : ℕ). sam
 
 -- no number twice
 among-times : (v : ℕ) (w : List ℕ) → among v w ≡ false → occurrences w v ≡ 0
-unfolding among either
+unfolding among
 among-times v [] e = refl
 among-times v (x ∷ w) e = go (eqb x v) refl e (among-times v w)
   where
-    go : (t : Bool) → eqb x v ≡ t → either t (among v w) ≡ false → (among v w ≡ false → occurrences w v ≡ 0) → same v x + occurrences w v ≡ 0
+    go : (t : Bool) → eqb x v ≡ t → (t || among v w) ≡ false → (among v w ≡ false → occurrences w v ≡ 0) → same v x + occurrences w v ≡ 0
     go true p e r = let z : _≡_ {A = ℕ} 0 1 = cc in absurd (omega arith)
     go false p e r = omega (arith, same-no v x (λ q. eqb-false x v p (sym q)), r e)
 
 pub times-among : (v : ℕ) (w : List ℕ) → among v w ≡ true → 0 < occurrences w v
-unfolding among either
+unfolding among
 times-among v [] e = let z : _≡_ {A = ℕ} 0 1 = cc in absurd (omega arith)
 times-among v (x ∷ w) e = go (eqb x v) refl e (times-among v w)
   where
-    go : (t : Bool) → eqb x v ≡ t → either t (among v w) ≡ true → (among v w ≡ true → 0 < occurrences w v) → 0 < same v x + occurrences w v
+    go : (t : Bool) → eqb x v ≡ t → (t || among v w) ≡ true → (among v w ≡ true → 0 < occurrences w v) → 0 < same v x + occurrences w v
     go true p e r = omega (arith, same-yes v x (sym (eqb-true x v p)))
     go false p e r = omega (arith, r e)
-
-either-false : (a b : Bool) → either a b ≡ false → (a ≡ false) × (b ≡ false)
-unfolding either
-either-false true b e = let z : _≡_ {A = ℕ} 0 1 = cc in absurd (omega arith)
-either-false false b e = (refl, e)
 
 pub plain-of : (w : List ℕ) → hasRepeat w ≡ false → (v : ℕ) → occurrences w v ≤ 1
 unfolding hasRepeat
 plain-of [] e v = omega arith
 plain-of (x ∷ w) e v =
-    let r = either-false (among x w) (hasRepeat w) e in
+    let r = or-false (among x w) (hasRepeat w) e in
     elim (ℕ-discrete v x) [
       | yes q ↦ omega (arith, same-yes v x q, ap (occurrences w) q, among-times x w (r .0))
       | no q ↦ omega (arith, same-no v x q, plain-of w (r .1) v)
@@ -79,25 +74,25 @@ plain-of (x ∷ w) e v =
 
 -- and back
 among-none : (v : ℕ) (w : List ℕ) → occurrences w v ≡ 0 → among v w ≡ false
-unfolding among either
+unfolding among
 among-none v [] e = refl
 among-none v (x ∷ w) e = go (eqb x v) refl (among-none v w)
   where
-    go : (t : Bool) → eqb x v ≡ t → (occurrences w v ≡ 0 → among v w ≡ false) → either t (among v w) ≡ false
+    go : (t : Bool) → eqb x v ≡ t → (occurrences w v ≡ 0 → among v w ≡ false) → (t || among v w) ≡ false
     go true p r = absurd (omega (arith, same-yes v x (sym (eqb-true x v p))))
     go false p r = r (omega arith)
 
 pub among-some : (v : ℕ) (w : List ℕ) → 0 < occurrences w v → among v w ≡ true
-unfolding among either
+unfolding among
 among-some v [] e = absurd (omega arith)
 among-some v (x ∷ w) e = go (eqb x v) refl (among-some v w)
   where
-    go : (t : Bool) → eqb x v ≡ t → (0 < occurrences w v → among v w ≡ true) → either t (among v w) ≡ true
+    go : (t : Bool) → eqb x v ≡ t → (0 < occurrences w v → among v w ≡ true) → (t || among v w) ≡ true
     go true p r = refl
     go false p r = r (omega (arith, same-no v x (λ q. eqb-false x v p (sym q))))
 
 pub repeat-none : (w : List ℕ) → ((v : ℕ) → occurrences w v ≤ 1) → hasRepeat w ≡ false
-unfolding hasRepeat either
+unfolding hasRepeat
 repeat-none [] p = refl
 repeat-none (x ∷ w) p = rw (among-none x w (omega (arith, p x, same-self x)), repeat-none w (λ v. omega (arith, p v)))
 

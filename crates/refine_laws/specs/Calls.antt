@@ -4,12 +4,12 @@ use mathlib.Core.Path.{_≡_}
 use Prim.Native.Nat.{ℕ, suc, _*_, _-_}
 use lib.Dec.{ltb}
 use lib.ListN.{length}
-use Rattle.lists.specs.Rows.{rows}
-use Rattle.sorting.specs.Gather.{row}
+use Rattle.lists.specs.Rows.{rows, row}
 use Rattle.complex.specs.Cells.{cellsOf}
 use Rattle.ordering.specs.Order.{Orders, AgreeOnFacets}
 use Rattle.refine_lattice.specs.Children.{pick}
-use Rattle.refine_lattice.specs.Complex.{same, weigh, through}
+use Rattle.lists.specs.Words.{same}
+use Rattle.refine_lattice.specs.Complex.{weigh, through}
 use Rattle.refine_results.specs.declared.Refinement.{Refinement}
 use Rattle.refine_results.specs.declared.Refinement.the-variants.{Made}
 use Rattle.refine_results.specs.Refined.{coarse, orderWords}

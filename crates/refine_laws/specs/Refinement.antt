@@ -10,7 +10,9 @@ use Rattle.complex.specs.Cells.{cellsOf}
 use Rattle.complex.specs.Facets.{cellAt}
 use Rattle.ordering.specs.Order.{Orders}
 use Rattle.refine_lattice.specs.Lattice.{Child}
-use Rattle.refine_lattice.specs.Complex.{same, sum, occurrences, Names}
+use Rattle.lists.specs.Tables.{sum}
+use Rattle.lists.specs.Words.{same}
+use Rattle.refine_lattice.specs.Complex.{occurrences, Names}
 use Rattle.refine_lattice.specs.Refine.{vertices, share}
 use Rattle.refine_results.specs.Refined.{coarse, refinedCells, refinedWords, parents}
 use Rattle.refine_laws.specs.Composition.{Accepted}

@@ -7,19 +7,20 @@ use native.Mathlib.Nat.{le-refl, suc-mul, mul-le-mul-right}
 use native.Mathlib.Omega.{arith}
 use lib.ListN.{length, getD, take, drop, length-append}
 use lib.Seq.{length-take-le, getD-take}
-use Rattle.lists.specs.Rows.{cut, flat}
-use Rattle.lists.specs.Words.{foundAt}
+use Rattle.lists.specs.Rows.{cut, flat, row}
+use Rattle.lists.specs.Words.{foundAt, sameWord}
 use Rattle.lists.proofs.Rows.{cut-length, cut-at}
 use Rattle.sorting.specs.Bucket.{cell}
-use Rattle.sorting.specs.Gather.{row, rowsOf}
+use Rattle.sorting.specs.Gather.{rowsOf}
 use Rattle.sorting.specs.Distinct.{Distinct}
 use Rattle.sorting.proofs.Colex.{row-same}
 use Rattle.sorting.proofs.Rows.{rowsOf-pos}
 use Rattle.multiindex.specs.Sort.{sortWord, sortWords}
 use Rattle.complex.specs.Cells.{inOrder}
 use Rattle.complex_cells.proofs.Making.{key-length, key-row, made-same, made-cell}
-use Rattle.ordering.specs.Order.{sameWord, wordOf, byCell}
-use Rattle.ordering.proofs.Orders.{true-same, same-false, word-first, by-cell-rows}
+use Rattle.ordering.specs.Order.{wordOf, byCell}
+use Rattle.lists.proofs.Words.{word-true, word-false}
+use Rattle.ordering.proofs.Orders.{word-first, by-cell-rows}
 use Rattle.refine_children.specs.WorkColex.{Arranged}
 use Rattle.refine_results.specs.Refined.{visitOf}
 
@@ -27,9 +28,9 @@ use Rattle.refine_results.specs.Refined.{visitOf}
 pub visit-first : (ows : List (List ℕ)) (c : List ℕ) (r : ℕ) → r < length ows → sortWord (getD ows r []) ≡ c → ((s : ℕ) → s < r → sortWord (getD ows s []) ≡ c → ⊥) → visitOf ows c ≡ r
 unfolding visitOf foundAt
 visit-first [] c r h e f = absurd (omega arith)
-visit-first (w ∷ ows) c zero h e f = ap (λ (b : Bool). foundAt b (visitOf ows c)) (true-same (sortWord w) c e)
+visit-first (w ∷ ows) c zero h e f = ap (λ (b : Bool). foundAt b (visitOf ows c)) (word-true (sortWord w) c e)
 visit-first (w ∷ ows) c (suc r) h e f =
-    ap (λ (b : Bool). foundAt b (visitOf ows c)) (same-false (sortWord w) c (f 0 (omega arith)))
+    ap (λ (b : Bool). foundAt b (visitOf ows c)) (word-false (sortWord w) c (f 0 (omega arith)))
     ∙ ap suc (visit-first ows c r (omega arith) e (λ s l. f (suc s) (omega arith)))
 
 -- cells that are rows of a flat list

@@ -9,10 +9,9 @@ use lib.ListN.{length, getD, take, drop}
 use lib.Seq.{take-at, take-take, length-take-le}
 use Rattle.refusal.specs.Limits.{mostDimension, mostCells, mostVertices}
 use Rattle.refusal.specs.Lent.{onto}
-use Rattle.lists.specs.Rows.{cut, flat}
+use Rattle.lists.specs.Rows.{cut, flat, row}
 use Rattle.lists.proofs.Rows.{cut-length, cut-at}
 use Rattle.multiindex.proofs.Digits.{power-most}
-use Rattle.sorting.specs.Gather.{row}
 use Rattle.sorting.proofs.Colex.{row-cell, row-length}
 use Rattle.refine_lattice.specs.Pattern.{patternOf}
 use Rattle.refine_lattice.specs.Refine.{births, vertices, words}

@@ -10,11 +10,11 @@ use lib.ListN.{length, getD, take, length-map}
 use Rattle.refusal.specs.Limits.{mostVertices}
 use Rattle.refusal.specs.Table.{tooShort}
 use Rattle.refusal.specs.Lent.{onto}
-use Rattle.lists.specs.Rows.{cut, flat}
+use Rattle.lists.specs.Rows.{cut, flat, row}
 use Rattle.lists.proofs.Laws.{map-at}
 use Rattle.lists.proofs.Rows.{cut-length, cut-at}
-use Rattle.sorting.specs.Gather.{row, rowsOf}
-use Rattle.multiindex.specs.Permutation.{tab}
+use Rattle.sorting.specs.Gather.{rowsOf}
+use Rattle.lists.specs.Tables.{tab}
 use Rattle.multiindex.specs.Sort.{sortWord}
 use Rattle.multiindex.proofs.WordsLaws.{words-length}
 use Rattle.complex.specs.Cells.{inOrder}
@@ -22,7 +22,7 @@ use Rattle.complex.specs.Facets.{cellAt}
 use Rattle.ordering.specs.Order.{byCell}
 use Rattle.refine_lattice.specs.Children.{gather}
 use Rattle.refine_lattice.specs.Refine.{births, words, share}
-use Rattle.refine_lattice.proofs.Tab.{list-tab}
+use Rattle.lists.proofs.Tables.{list-tab}
 use Rattle.refine_jacobian.specs.Entries.{shareOf, wholeOf, floatOf}
 use Rattle.refine_children.specs.WorkColex.{Arranging, Arranged}
 use Rattle.refine_children.specs.WorkFamily.{joined, wholeAt, floatAt, Families}

@@ -14,12 +14,11 @@ use lib.ListN.{length, getD, take, drop, length-take, length-append, List·getD-
 use lib.Seq.{getD-take, getD-drop, getD-append-add}
 use borrow.Author.Tests.{eqb-true, eqb-false}
 use Rattle.refusal.specs.Limits.{mostRefinement}
-use Rattle.lists.specs.Rows.{cut, flat}
+use Rattle.lists.specs.Rows.{cut, flat, row}
 use Rattle.lists.proofs.Laws.{map-at}
 use Rattle.lists.specs.Words.{foundAt}
 use Rattle.lists.proofs.Rows.{cut-length, cut-at}
 use Rattle.lists.proofs.Members.{All, All-of, All-at}
-use Rattle.sorting.specs.Gather.{row}
 use Rattle.sorting.proofs.Colex.{row-length, row-cell}
 use Rattle.multiindex.specs.Sort.{sortWord}
 use Rattle.multiindex.proofs.SortLaws.{sort-length}
@@ -36,7 +35,7 @@ use Rattle.refine_lattice.proofs.Pattern.{child-corners, corner-long, added, ro
 use Rattle.refine_lattice.proofs.Seats.{weigh-at}
 use Rattle.refine_lattice.proofs.Weights.{length-weights}
 use Rattle.refine_lattice.specs.Jacobian.{jacobian}
-use Rattle.refine_lattice.proofs.Tab.{tab-ext}
+use Rattle.lists.proofs.Tables.{tab-ext}
 use Rattle.refine_jacobian.specs.Entries.{nineOf, wholeOf, floatOf, floatStep, nought}
 use Rattle.refine_jacobian.proofs.Laws.{column-in, row-in, entry-past}
 use Rattle.refine_jacobian.specs.WorkWeights.{placeOf, weightOf, Seated}

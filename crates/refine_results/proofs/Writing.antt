@@ -12,12 +12,13 @@ use Rattle.refusal.specs.Lent.{onto}
 use Rattle.lists.specs.Rows.{flat}
 use Rattle.sorting.specs.Gather.{rowsOf}
 use Rattle.sorting.proofs.Rows.{rowsOf-pos}
-use Rattle.multiindex.specs.Permutation.{tab}
-use Rattle.refine_lattice.proofs.Tab.{length-tab}
+use Rattle.lists.specs.Tables.{tab}
+use Rattle.lists.proofs.Tables.{length-tab}
 use Rattle.refine_jacobian.specs.Entries.{shareOf}
 use Rattle.refine_children.specs.WorkFamily.{joined, wholeAt, floatAt, Families}
 use Rattle.refine_children.proofs.Laws.{joined-length}
-use Rattle.refine_births.specs.Support.{none, supporters, shares, padded}
+use Rattle.lists.specs.Words.{none}
+use Rattle.refine_births.specs.Support.{supporters, shares, padded}
 use Rattle.refine_births.specs.Promise.{Supports, Bearing, birthVertices, birthWeights}
 use Rattle.refine_results.specs.WorkSteps.{Writing, Wrote, Bears, Bore}
 

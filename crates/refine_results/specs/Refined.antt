@@ -4,14 +4,14 @@ use mathlib.Core.List.{List, [], _∷_, map}
 use Prim.Native.Nat.{ℕ, zero, suc, _/_, _^_}
 use lib.IntN.{ℤ}
 use lib.Ieee.{Float}
-use Rattle.lists.specs.Rows.{rows}
-use Rattle.lists.specs.Words.{largestOf, foundAt}
+use Rattle.lists.specs.Words.{largestOf, foundAt, sameWord}
 use Rattle.multiindex.specs.Sort.{sortWord}
 use Rattle.complex.specs.Cells.{inOrder, cellsOf}
 use Rattle.complex.specs.Facets.{cellAt}
 use Rattle.refine_lattice.specs.Children.{gather}
 use Rattle.refine_lattice.specs.Refine.{words, share}
-use Rattle.ordering.specs.Order.{sameWord, byCell}
+use Rattle.ordering.specs.Order.{byCell}
+use Rattle.ordering.specs.Promise.{wordsBy}
 use Rattle.refine_jacobian.specs.Entries.{wholeOf, floatOf}
 
 -- how many coarse vertices there are: no number below the largest is unused
@@ -20,7 +20,7 @@ coarse ws = suc (largestOf ws)
 
 -- the words refined by where an order is given: the caller's word for each cell. Where none is given they are the cells.
 abbrev pub orderWords : ℕ → List ℕ → List ℕ → List (List ℕ)
-orderWords d ws os = byCell (rows (suc d) os) (cellsOf d ws)
+orderWords d ws os = wordsBy d (cellsOf d ws) os
 
 -- which of the words is the first that sorts to the cell; past them, where none does
 unfoldable pub visitOf : List (List ℕ) → List ℕ → ℕ

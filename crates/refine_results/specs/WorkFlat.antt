@@ -4,8 +4,7 @@ use mathlib.Core.Path.{_≡_}
 use Prim.Native.Nat.{ℕ, suc, _*_, _^_, _≤_, _<_}
 use lib.ListN.{length, getD, take}
 use Rattle.refusal.specs.Limits.{mostDimension, mostRefinement}
-use Rattle.lists.specs.Rows.{cut, flat}
-use Rattle.sorting.specs.Gather.{row}
+use Rattle.lists.specs.Rows.{cut, flat, row}
 use Rattle.multiindex.specs.Sort.{sortWord}
 use Rattle.refine_lattice.specs.Complex.{occurrences}
 use Rattle.refine_lattice.specs.Pattern.{patternOf}

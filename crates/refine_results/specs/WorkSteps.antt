@@ -11,7 +11,7 @@ use Rattle.refusal.specs.Table.{tooManyCells, tooManyVertices, badRefinement}
 use Rattle.refusal.specs.Lent.{onto}
 use Rattle.lists.specs.Rows.{cut, flat}
 use Rattle.sorting.specs.Gather.{rowsOf}
-use Rattle.multiindex.specs.Permutation.{tab}
+use Rattle.lists.specs.Tables.{tab}
 use Rattle.refine_lattice.specs.Pattern.{patternOf}
 use Rattle.refine_lattice.specs.Refine.{births, vertices}
 use Rattle.refine_jacobian.specs.Entries.{shareOf}

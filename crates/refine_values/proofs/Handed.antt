@@ -15,24 +15,25 @@ use lib.ListN.{length, getD, take, drop, length-append, length-map}
 use lib.Seq.{take-at, drop-append-add}
 use Rattle.refusal.specs.declared.Answer.the-variants.{Fine, Refused}
 use Rattle.refusal.specs.Table.{tooShort}
-use Rattle.lists.specs.Rows.{flat}
+use Rattle.lists.specs.Rows.{flat, row}
 use Rattle.lists.proofs.Laws.{map-at}
 use Rattle.lists.proofs.Words.{first-none, first-at}
 use Rattle.complex.specs.Facets.{cellAt}
 use Rattle.refine_lattice.specs.Children.{gather}
 use Rattle.refine_lattice.specs.Refine.{positives, births, share}
 use Rattle.refine_lattice.proofs.Count.{length-gather}
-use Rattle.refine_lattice.proofs.Tab.{length-tab, getD-tab}
-use Rattle.refine_births.specs.Support.{none, supporters, shares, padded}
+use Rattle.lists.proofs.Tables.{length-tab, getD-tab}
+use Rattle.lists.specs.Words.{none}
+use Rattle.refine_births.specs.Support.{supporters, shares, padded}
 use Rattle.refine_births.specs.Promise.{birthWeights}
 use Rattle.refine_births.proofs.Points.{supporters-high, supporters-past}
 use Rattle.refine_jacobian.specs.Entries.{nought, shareOf, wholeOf, floatOf}
 use Rattle.refine_results.specs.Refined.{refinedCells, parentOf}
 use Rattle.refine_results.specs.Results.{resultsOf}
-use Rattle.refine_values.specs.Reading.{part, reaches, childOf, noChild, four, support, birthOf, noBirth, wordIn}
+use Rattle.refine_values.specs.Reading.{reaches, childOf, noChild, four, support, birthOf, noBirth, wordIn}
 
 -- ---- lists of one length, one after the other
-gather-part : {A : Type 0} (f : List ℕ → List A) (s : ℕ) → ((x : List ℕ) → length (f x) ≡ s) → (ls : List (List ℕ)) (k : ℕ) → k < length ls → part s k (gather f ls) ≡ f (getD ls k [])
+gather-part : {A : Type 0} (f : List ℕ → List A) (s : ℕ) → ((x : List ℕ) → length (f x) ≡ s) → (ls : List (List ℕ)) (k : ℕ) → k < length ls → row (gather f ls) s k ≡ f (getD ls k [])
 gather-part f s long [] k h = absurd (omega arith)
 gather-part {A} f s long (x ∷ ls) zero h = ap (λ (i : ℕ). take s (drop i (f x ++ gather f ls))) (zero-mul s) ∙ take-at (f x) (gather f ls) s (long x)
 gather-part {A} f s long (x ∷ ls) (suc k) h =
@@ -53,7 +54,7 @@ drop-map f zero l = refl
 drop-map f (suc i) [] = refl
 drop-map f (suc i) (x ∷ l) = drop-map f i l
 
-part-map : {A B : Type 0} (f : A → B) (s k : ℕ) (l : List A) → part s k (map f l) ≡ map f (part s k l)
+part-map : {A B : Type 0} (f : A → B) (s k : ℕ) (l : List A) → row (map f l) s k ≡ map f (row l s k)
 part-map f s k l = ap (take s) (drop-map f (k * s) l) ∙ take-map f s (drop (k * s) l)
 
 -- ---- the tests
@@ -121,15 +122,15 @@ module _ (d R n : ℕ) (cs ks : List (List ℕ)) where
   many-shares : length (resultsOf d R n cs ks .birth-shares) ≡ length (births d R n ks) * suc d
   many-shares = length-map (birthWeights (suc d) (births d R n ks)) (shareOf R) ∙ many-weights
 
-  row-vertices : (b : ℕ) → b < length (births d R n ks) → part (suc d) b (resultsOf d R n cs ks .birth-vertices) ≡ named (getD (births d R n ks) b [])
+  row-vertices : (b : ℕ) → b < length (births d R n ks) → row (resultsOf d R n cs ks .birth-vertices) (suc d) b ≡ named (getD (births d R n ks) b [])
   row-vertices b h =
-      ap (part (suc d) b) (flat-gather named (births d R n ks)) ∙ gather-part named (suc d) (λ l. length-tab (suc d) (λ j. getD (supporters 0 l) j none)) (births d R n ks) b h
+      ap (λ (l : List ℕ). row l (suc d) b) (flat-gather named (births d R n ks)) ∙ gather-part named (suc d) (λ l. length-tab (suc d) (λ j. getD (supporters 0 l) j none)) (births d R n ks) b h
 
-  row-weights : (b : ℕ) → b < length (births d R n ks) → part (suc d) b (resultsOf d R n cs ks .birth-weights) ≡ weighed (getD (births d R n ks) b [])
+  row-weights : (b : ℕ) → b < length (births d R n ks) → row (resultsOf d R n cs ks .birth-weights) (suc d) b ≡ weighed (getD (births d R n ks) b [])
   row-weights b h =
-      ap (part (suc d) b) (flat-gather weighed (births d R n ks)) ∙ gather-part weighed (suc d) (λ l. length-tab (suc d) (λ j. getD (shares l) j 0)) (births d R n ks) b h
+      ap (λ (l : List ℕ). row l (suc d) b) (flat-gather weighed (births d R n ks)) ∙ gather-part weighed (suc d) (λ l. length-tab (suc d) (λ j. getD (shares l) j 0)) (births d R n ks) b h
 
-  row-shares : (b : ℕ) → b < length (births d R n ks) → part (suc d) b (resultsOf d R n cs ks .birth-shares) ≡ map (shareOf R) (weighed (getD (births d R n ks) b []))
+  row-shares : (b : ℕ) → b < length (births d R n ks) → row (resultsOf d R n cs ks .birth-shares) (suc d) b ≡ map (shareOf R) (weighed (getD (births d R n ks) b []))
   row-shares b h = part-map (shareOf R) (suc d) b (birthWeights (suc d) (births d R n ks)) ∙ ap (map (shareOf R)) (row-weights b h)
 
   pub birth-handed : d ≤ 3 → (b : ℕ) → b < length (births d R n ks)
@@ -177,7 +178,7 @@ words-long : (s : ℕ) (ks : List (List ℕ)) → ((k : ℕ) → k < length ks �
 words-long s [] long = sym (zero-mul s)
 words-long s (w ∷ ks) long = omega (arith, length-append w (flat ks), long 0 (omega arith), words-long s ks (λ k h. long (suc k) (omega arith)), suc-mul (length ks) s)
 
-words-part : (s : ℕ) (ks : List (List ℕ)) → ((k : ℕ) → k < length ks → length (cellAt ks k) ≡ s) → (k : ℕ) → k < length ks → part s k (flat ks) ≡ cellAt ks k
+words-part : (s : ℕ) (ks : List (List ℕ)) → ((k : ℕ) → k < length ks → length (cellAt ks k) ≡ s) → (k : ℕ) → k < length ks → row (flat ks) s k ≡ cellAt ks k
 words-part s [] long k h = absurd (omega arith)
 words-part s (w ∷ ks) long zero h = ap (λ (i : ℕ). take s (drop i (w ++ flat ks))) (zero-mul s) ∙ take-at w (flat ks) s (long 0 (omega arith))
 words-part s (w ∷ ks) long (suc k) h =

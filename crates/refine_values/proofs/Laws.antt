@@ -13,13 +13,15 @@ use lib.IntN.{ℤ}
 use lib.Ieee.{Float}
 use lib.ListN.{length, getD, take, drop, set, replicate, length-drop, drop-of-length-le}
 use lib.Seq.{length-take-le, take-all}
+use Rattle.lists.proofs.Rows.{part-row}
+use Rattle.lists.specs.Rows.{row}
 use Rattle.refusal.specs.declared.Answer.the-variants.{Fine, Refused}
 use Rattle.refusal.specs.Table.{badDimension, tooShort}
-use Rattle.refine_births.specs.Support.{none}
+use Rattle.lists.specs.Words.{none}
 use Rattle.refine_jacobian.specs.Entries.{nought}
 use Rattle.refine_values.specs.declared.Child.{Child}
 use Rattle.refine_values.specs.declared.Birth.{Birth}
-use Rattle.refine_values.specs.Reading.{part, reaches, hasChild, noChild, childOf, wordIn, wordAlong, four, support, hasBirth, noBirth, birthOf}
+use Rattle.refine_values.specs.Reading.{reaches, hasChild, noChild, childOf, wordIn, wordAlong, four, support, hasBirth, noBirth, birthOf}
 
 -- ---- a copy from the front
 module _ {A : Type 0} where
@@ -48,12 +50,8 @@ module _ {A : Type 0} where
       let k : drop i (replicate 4 z) ≡ replicate (4 - length src) z = drop-same 4 i z ∙ ap (λ (n : ℕ). replicate (4 - n) z) e in
       cc
 
-  pub part-long : (n k : ℕ) (l : List A) → k * n + n ≤ length l → length (part n k l) ≡ n
-  part-long n k l h = length-take-le n (drop (k * n) l) (omega (arith, length-drop (k * n) l))
-
-  -- the part from its start to its end
-  pub part-is : (n k : ℕ) (l : List A) → take (k * n + n - k * n) (drop (k * n) l) ≡ part n k l
-  part-is n k l = ap (λ (i : ℕ). take i (drop (k * n) l)) (add-sub-cancel-left (k * n) n)
+  pub row-long : (n k : ℕ) (l : List A) → k * n + n ≤ length l → length (row l n k) ≡ n
+  row-long n k l h = length-take-le n (drop (k * n) l) (omega (arith, length-drop (k * n) l))
 
 -- ---- three tests
 pub first-no : (a b c : Bool) → a ≡ false → false ≡ (a && (b && c))
@@ -95,7 +93,7 @@ module _ (k : ℕ) (parents : List ℕ) (jacobians : List Float) (wholes : List 
 
     pub child-there : (js : List Float) (ws : List ℤ) → js ≡ take (k * 9 + 9 - k * 9) (drop (k * 9) jacobians) → ws ≡ take (k * 9 + 9 - k * 9) (drop (k * 9) wholes)
         → record { answer = Fine; child = record { parent = getD parents k 0; jacobian = js; whole = ws } } ≡ childOf k parents jacobians wholes
-    child-there js ws f g = rw (e, f ∙ part-is 9 k jacobians, g ∙ part-is 9 k wholes)
+    child-there js ws f g = rw (e, f ∙ part-row jacobians 9 k, g ∙ part-row wholes 9 k)
 
 -- ---- a word
 module _ (d k : ℕ) (words : List ℕ) where
@@ -110,7 +108,7 @@ module _ (d k : ℕ) (words : List ℕ) where
 
   pub word-there : d ≤ 3 → k * (d + 1) + (d + 1) ≤ length words → take (k * (d + 1) + (d + 1) - k * (d + 1)) (drop (k * (d + 1)) words) ≡ wordIn d k words
   word-there h l =
-      part-is (d + 1) k words ∙ ap (λ (n : ℕ). part n k words) (add-one d)
+      part-row words (d + 1) k ∙ ap (λ (n : ℕ). row words n k) (add-one d)
       ∙ rw (le-leb d 3 h, le-leb (k * suc d + suc d) (length words) (omega (arith, size)))
 
   pub word-end : d ≤ 3 → k < 4294967296 → k * (d + 1) + (d + 1) < 17179869188
@@ -157,8 +155,8 @@ module _ (d k : ℕ) (vertices weights : List ℕ) (shares : List Float) where
           → ss ≡ four nought (take (k * (d + 1) + (d + 1) - k * (d + 1)) (drop (k * (d + 1)) shares))
           → record { answer = Fine; birth = record { count = count; vertices = vs; weights = ws; shares = ss } } ≡ birthOf d k vertices weights shares
       birth-there count vs ws ss f g i j =
-          let p : take (k * (d + 1) + (d + 1) - k * (d + 1)) (drop (k * (d + 1)) vertices) ≡ part (suc d) k vertices = part-is (d + 1) k vertices ∙ ap (λ (n : ℕ). part n k vertices) (add-one d) in
-          let q : take (k * (d + 1) + (d + 1) - k * (d + 1)) (drop (k * (d + 1)) weights) ≡ part (suc d) k weights = part-is (d + 1) k weights ∙ ap (λ (n : ℕ). part n k weights) (add-one d) in
-          let r : take (k * (d + 1) + (d + 1) - k * (d + 1)) (drop (k * (d + 1)) shares) ≡ part (suc d) k shares = part-is (d + 1) k shares ∙ ap (λ (n : ℕ). part n k shares) (add-one d) in
+          let p : take (k * (d + 1) + (d + 1) - k * (d + 1)) (drop (k * (d + 1)) vertices) ≡ row vertices (suc d) k = part-row vertices (d + 1) k ∙ ap (λ (n : ℕ). row vertices n k) (add-one d) in
+          let q : take (k * (d + 1) + (d + 1) - k * (d + 1)) (drop (k * (d + 1)) weights) ≡ row weights (suc d) k = part-row weights (d + 1) k ∙ ap (λ (n : ℕ). row weights n k) (add-one d) in
+          let r : take (k * (d + 1) + (d + 1) - k * (d + 1)) (drop (k * (d + 1)) shares) ≡ row shares (suc d) k = part-row shares (d + 1) k ∙ ap (λ (n : ℕ). row shares n k) (add-one d) in
           let has : hasBirth (suc d) k (length vertices) (length weights) (length shares) ≡ true = subst (λ (n : ℕ). hasBirth n k (length vertices) (length weights) (length shares) ≡ true) (add-one d) e in
           rw (le-ltb 3 d h, has, f ∙ ap support p, g ∙ ap (four none) p, i ∙ ap (four 0) q, j ∙ ap (four nought) r)

@@ -6,20 +6,16 @@ use lib.Dec.{eqb, ltb, leb}
 use lib.IntN.{ℤ, pos}
 use lib.Ieee.{Float}
 use lib.ListN.{length, getD, take, drop, replicate}
+use Rattle.lists.specs.Rows.{row}
 use Rattle.refusal.specs.declared.Answer.the-variants.{Fine, Refused}
 use Rattle.refusal.specs.Limits.{mostDimension}
 use Rattle.refusal.specs.Table.{badDimension, tooShort}
-use Rattle.lists.specs.Words.{firstWhere}
-use Rattle.refine_births.specs.Support.{none}
+use Rattle.lists.specs.Words.{firstWhere, none}
 use Rattle.refine_jacobian.specs.Entries.{nought}
 use Rattle.refine_values.specs.declared.Child.{Child}
 use Rattle.refine_values.specs.declared.OneChild.{OneChild}
 use Rattle.refine_values.specs.declared.Birth.{Birth}
 use Rattle.refine_values.specs.declared.OneBirth.{OneBirth}
-
--- n entries of a list stand for each number: those of number k
-abbrev pub part : {A : Type 0} → ℕ → ℕ → List A → List A
-part n k l = take n (drop (k * n) l)
 
 -- a list of so many entries has those of number k
 abbrev pub reaches : ℕ → ℕ → ℕ → Bool
@@ -33,7 +29,7 @@ hasChild k parents jacobians wholes = ltb k parents && (reaches 9 k jacobians &&
 
 -- what they have of it
 abbrev pub childAt : ℕ → List ℕ → List Float → List ℤ → Child
-childAt k parents jacobians wholes = record { parent = getD parents k 0; jacobian = part 9 k jacobians; whole = part 9 k wholes }
+childAt k parents jacobians wholes = record { parent = getD parents k 0; jacobian = row jacobians 9 k; whole = row wholes 9 k }
 
 -- what stands for it where a list is too short
 abbrev pub noChild : Child
@@ -50,7 +46,7 @@ childOf k parents jacobians wholes =
 
 -- word k of a list of words of d + 1 numbers: no number, where the list has none
 abbrev pub wordIn : ℕ → ℕ → List ℕ → List ℕ
-wordIn d k words = cond (leb d mostDimension && reaches (suc d) k (length words)) (part (suc d) k words) []
+wordIn d k words = cond (leb d mostDimension && reaches (suc d) k (length words)) (row words (suc d) k) []
 
 -- the word that cell k is refined by: the order's where one is given, else the cell's sorted vertices
 abbrev pub wordAlong : Bool → ℕ → ℕ → List ℕ → List ℕ → List ℕ
@@ -74,10 +70,10 @@ hasBirth n k vertices weights shares = reaches n k vertices && (reaches n k weig
 abbrev pub birthAt : ℕ → ℕ → List ℕ → List ℕ → List Float → Birth
 birthAt n k vertices weights shares =
     record {
-      count = support (part n k vertices);
-      vertices = four none (part n k vertices);
-      weights = four 0 (part n k weights);
-      shares = four nought (part n k shares);
+      count = support (row vertices n k);
+      vertices = four none (row vertices n k);
+      weights = four 0 (row weights n k);
+      shares = four nought (row shares n k);
     }
 
 -- what stands for it where there is none

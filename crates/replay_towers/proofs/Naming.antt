@@ -8,7 +8,7 @@ use lib.ListN.{length, getD, take, drop, set}
 use native.Mathlib.Decide.{decLt}
 use lib.Seq.{getD-set-same, getD-set-other, length-take-le}
 use borrow.Author.Count.{below-more}
-use Rattle.sorting.specs.Gather.{row}
+use Rattle.lists.specs.Rows.{row}
 use Rattle.replay_towers.specs.WorkRows.{First, Only, Matched}
 
 -- number k has its name

@@ -3,7 +3,7 @@ use mathlib.Core.List.{List}
 use mathlib.Core.Path.{_≡_}
 use Prim.Native.Nat.{ℕ, _≤_, _<_}
 use lib.ListN.{length, getD, take}
-use Rattle.sorting.specs.Gather.{row}
+use Rattle.lists.specs.Rows.{row}
 
 -- y is the number of the first row, from number `from` on, that is equal to r; the number of rows where there is none
 pub record First (width : ℕ) (r among : List ℕ) (count from y : ℕ) : Type 0 where

@@ -10,11 +10,14 @@ use lib.Dec.{eqb}
 use lib.ListN.{length, length-append}
 use borrow.Author.Tests.{eq-eqb, ne-eqb}
 use Rattle.complex.specs.Facets.{Crowded, Cells, slots}
-use Rattle.complex.specs.Skeleton.{tab, facetRowOf, facetsOf, sameWord, onlyIf, numbers, rowsWith, keepIf, keep, borderOf}
+use Rattle.lists.specs.Tables.{tab}
+use Rattle.lists.specs.Words.{sameWord}
+use Rattle.complex.specs.Skeleton.{facetRowOf, facetsOf, onlyIf, numbers, rowsWith, keepIf, keep, borderOf}
 use Rattle.complex_cells.proofs.Words.{Word, Each, Rising, In, each-in, each-of}
 use Rattle.complex_cells.proofs.Order.{Colex, colex-irr}
 use Rattle.complex_cells.proofs.Named.{inColex-has}
-use Rattle.complex_facets.proofs.Numbers.{word-true, word-false, tab-in}
+use Rattle.lists.proofs.Words.{word-true, word-false}
+use Rattle.complex_facets.proofs.Numbers.{tab-in}
 use Rattle.skeleton.proofs.Laws.{facets-rising, facet-rows-long, at-least-one, at-most-two}
 
 -- ---- sums over a list of words

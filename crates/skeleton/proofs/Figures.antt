@@ -4,7 +4,7 @@ use mathlib.Core.List.{List, [], _∷_}
 use Prim.Native.Nat.{ℕ}
 use lib.ListN.{length}
 use Rattle.complex.specs.Cells.{decides, comesBefore, placed, place}
-use Rattle.complex.specs.Skeleton.{inColex, edgesOf, tab, facetsOf, numbers, keep, borderOf}
+use Rattle.complex.specs.Skeleton.{inColex, edgesOf, facetsOf, numbers, keep, borderOf}
 use Rattle.complex_facets.specs.Sides.{eachSides, tableOf}
 
 abbrev band : List (List ℕ)
@@ -15,7 +15,7 @@ unfolding inColex place placed comesBefore decides
 twelve-edges = refl
 
 six-border : length (borderOf 2 band) ≡ 6
-unfolding inColex place placed comesBefore decides tab numbers keep
+unfolding inColex place placed comesBefore decides numbers keep
 six-border = refl
 
 -- a triangle and the one across its edge 1,2
@@ -23,15 +23,15 @@ abbrev pair : List (List ℕ)
 pair = (0 ∷ 1 ∷ 2 ∷ []) ∷ (1 ∷ 2 ∷ 3 ∷ []) ∷ []
 
 pair-facets : facetsOf 2 pair ≡ (0 ∷ 1 ∷ []) ∷ (0 ∷ 2 ∷ []) ∷ (1 ∷ 2 ∷ []) ∷ (1 ∷ 3 ∷ []) ∷ (2 ∷ 3 ∷ []) ∷ []
-unfolding inColex place placed comesBefore decides tab
+unfolding inColex place placed comesBefore decides
 pair-facets = refl
 
 pair-border : borderOf 2 pair ≡ (0 ∷ 1 ∷ []) ∷ (0 ∷ 2 ∷ []) ∷ (1 ∷ 3 ∷ []) ∷ (2 ∷ 3 ∷ []) ∷ []
-unfolding inColex place placed comesBefore decides tab numbers keep
+unfolding inColex place placed comesBefore decides numbers keep
 pair-border = refl
 
 pair-table : tableOf 2 pair ≡ 0 ∷ 2 ∷ 4294967295 ∷ 4294967295 ∷ 0 ∷ 1 ∷ 4294967295 ∷ 4294967295 ∷ 0 ∷ 0 ∷ 1 ∷ 2 ∷ 1 ∷ 1 ∷ 4294967295 ∷ 4294967295 ∷ 1 ∷ 0 ∷ 4294967295 ∷ 4294967295 ∷ []
-unfolding inColex place placed comesBefore decides tab numbers eachSides
+unfolding inColex place placed comesBefore decides numbers eachSides
 pair-table = refl
 
 -- dimension 0 has no edges and no facets
@@ -40,5 +40,5 @@ unfolding inColex
 points = refl
 
 no-facets : facetsOf 0 ((0 ∷ []) ∷ (1 ∷ []) ∷ []) ≡ []
-unfolding inColex tab
+unfolding inColex
 no-facets = refl

@@ -11,7 +11,7 @@ use native.Mathlib.Omega.{arith}
 use lib.ListN.{length, getD, length-append}
 use Rattle.refusal.specs.declared.Room.{Room}
 use Rattle.lists.specs.Rows.{cut, rows}
-use Rattle.lists.proofs.Rows.{cut-length, cut-at}
+use Rattle.lists.proofs.Rows.{cut-length, cut-at, row-fits, row-cell-below, row-slot-below, row-is, slots-some}
 use Rattle.sorting.proofs.Colex.{row-length}
 use Rattle.complex_cells.proofs.Making.{whole-words}
 use Rattle.multiindex.specs.Sort.{sortWord}
@@ -19,14 +19,17 @@ use Rattle.complex.specs.Check.{Passed}
 use Rattle.complex.specs.Room.{keyRoom, needOf}
 use Rattle.complex.specs.Cells.{inOrder, cellsOf}
 use Rattle.complex.specs.Facets.{cellAt, facetAt, FacetOf, Mates, Crowded, Cells, slots}
-use Rattle.complex.specs.Skeleton.{inColex, allPairs, edgesOf, tab, facetRowOf, facetsOf, sameWord, onlyIf, numbers, rowsWith}
+use Rattle.lists.specs.Tables.{tab}
+use Rattle.lists.specs.Words.{sameWord}
+use Rattle.complex.specs.Skeleton.{inColex, allPairs, edgesOf, facetRowOf, facetsOf, onlyIf, numbers, rowsWith}
 use Rattle.complex_cells.proofs.Words.{Word, Each, Rising, In, each-of, at-in}
 use Rattle.complex_cells.proofs.Order.{Colex, order-rising, order-from, order-has, order-same}
 use Rattle.complex_cells.proofs.Named.{inColex-rising, inColex-from, inColex-has}
-use Rattle.complex_mates.proofs.Laws.{facet-length, facets-differ, row-fits, row-cell-below, row-slot-below, row-is, slots-some}
+use Rattle.complex_mates.proofs.Laws.{facet-length, facets-differ}
 use Rattle.complex_mates.proofs.Places.{facet-row}
 use Rattle.complex_mates.proofs.Meeting.{slots-most, slots-dim}
-use Rattle.complex_facets.proofs.Numbers.{same-word, word-true, tab-in, in-tab}
+use Rattle.lists.proofs.Words.{same-word, word-true}
+use Rattle.complex_facets.proofs.Numbers.{tab-in, in-tab}
 use Rattle.complex_edges.proofs.Members.{pair-in, in-pair, all-in, in-all}
 use Rattle.skeleton.specs.Parts.{edgeNeed}
 use Rattle.skeleton.proofs.Steps.{room-most}

@@ -25,8 +25,9 @@ use Rattle.complex.specs.Facets.{Crowded, Cells, slots}
 use Rattle.complex.specs.Skeleton.{edgesOf, facetsOf, borderOf}
 use Rattle.complex_cells.specs.WorkMade.{Making, Made}
 use Rattle.complex_cells.specs.WorkNamed.{Naming, Named}
-use Rattle.complex_mates.specs.Table.{none, MateTable, Meeting}
-use Rattle.orientation_signs.proofs.Linking.{not-crowded}
+use Rattle.lists.specs.Words.{none}
+use Rattle.complex_mates.specs.Table.{MateTable, Meeting}
+use Rattle.complex_mates.proofs.Mated.{not-crowded}
 use Rattle.complex_mates.proofs.Meeting.{slots-most}
 use Rattle.complex_cells.proofs.Named.{named-flat, named-many}
 use Rattle.complex_edges.specs.WorkPairs.{Edging}

@@ -2,7 +2,8 @@ use native.Mathlib.Nat.{add-sub-cancel-left}
 use Rattle.lists.proofs.Words.{word-within}
 use mathlib.Core.Bool.{true, false}
 use borrow.Author.Count.{below-none, below-more}
-use Rattle.lists.specs.Words.{hasRepeat, wordAt}
+use Rattle.lists.specs.Rows.{row}
+use Rattle.lists.specs.Words.{hasRepeat}
 use Rattle.lists.proofs.Words.{first-none, first-at}
 use mathlib.Core.Path.{_≡_, refl, sym, ap, _∙_}
 use Prim.Native.Nat.{ℕ, _+_, _*_, _-_, _≤_, _<_, max}
@@ -13,7 +14,7 @@ use Rattle.complex.proofs.first_repeat.Statement.{statement}
 use Rattle.complex.proofs.first_repeat.Tie as tie
 
 abbrev Inv-loop : tie.InvT-loop
-Inv-loop ws n count k₀ k = (k ≤ count) × ((j : ℕ) → j < k → hasRepeat (wordAt n ws j) ≡ false)
+Inv-loop ws n count k₀ k = (k ≤ count) × ((j : ℕ) → j < k → hasRepeat (row ws n j) ≡ false)
 
 abbrev μ-loop : tie.MeasureT-loop
 μ-loop ws n count k₀ k = count - k

@@ -4,7 +4,7 @@ use Prim.Native.Nat.{ℕ, suc, _*_, _≤_, _<_}
 use native.Mathlib.Omega.{arith}
 use lib.ListN.{length, take, drop, replicate, length-replicate}
 use lib.Seq.{length-take-le}
-use Rattle.complex_mates.specs.Table.{none}
+use Rattle.lists.specs.Words.{none}
 use Rattle.complex_mates.proofs.Meeting.{meeting-most, meeting-writing, meeting-table}
 use Rattle.complex_facets.proofs.Facets.{seeking, classes-done}
 use borrow.Author.Needs.{needs}

@@ -8,7 +8,7 @@ use Prim.Native.Nat.{ℕ, suc, _+_, _*_, _-_, _/_, _%_, _≤_, _<_}
 use native.Mathlib.Omega.{arith}
 use borrow.Author.Needs.{needs}
 use borrow.Author.Tests.{eq-eqb, ne-eqb}
-use Rattle.complex_mates.specs.Table.{none}
+use Rattle.lists.specs.Words.{none}
 use Rattle.complex_facets.specs.Sides.{orNone, fours}
 use Rattle.complex_facets.proofs.write_table.Statement.{statement}
 use Rattle.complex_facets.proofs.write_table.Tie as tie

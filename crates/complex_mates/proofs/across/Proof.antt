@@ -1,6 +1,7 @@
 -- `complex_mates::across` meets its contract. The loop's invariant: the first x rows are crossed. Assumes nothing.
 use native.Mathlib.Nat.{div-le-self, mod-le}
-use Rattle.complex_mates.specs.Table.{none, Across}
+use Rattle.lists.specs.Words.{none}
+use Rattle.complex_mates.specs.Table.{Across}
 use Rattle.complex_mates.proofs.Pairing.{across-more}
 use mathlib.Core.Path.{_≡_, refl, sym, ap, _∙_, subst}
 use mathlib.Core.List.{List, [], _∷_, _++_}

@@ -3,7 +3,7 @@ use borrow.Author.Fill.{fill-more}
 use mathlib.Core.List.{append-nil}
 use lib.ListN.{drop-of-length-le}
 use native.Mathlib.Nat.{le-refl}
-use Rattle.complex_mates.specs.Table.{none}
+use Rattle.lists.specs.Words.{none}
 use mathlib.Core.Path.{_≡_, refl, sym, ap, _∙_, subst}
 use mathlib.Core.List.{List, [], _∷_, _++_}
 use Prim.Native.Nat.{ℕ, zero, suc, _+_, _*_, _-_, _/_, _%_, _≤_, _<_}

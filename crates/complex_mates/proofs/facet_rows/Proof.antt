@@ -1,5 +1,5 @@
 -- `complex_mates::facet_rows` meets its contract. The loop's invariant: the first x facet rows are written. Assumes nothing.
-use Rattle.complex_mates.proofs.Laws.{part-size, wrote, wrote-length}
+use Rattle.complex_mates.proofs.Laws.{wrote, wrote-length}
 use native.Mathlib.Nat.{add-sub-cancel-left}
 use native.Mathlib.Numerals.{add-one}
 use lib.Seq.{length-take-le}
@@ -8,7 +8,8 @@ use Rattle.complex.specs.Facets.{facetAt}
 use Rattle.complex_mates.proofs.Laws.{Turn}
 use Rattle.complex_mates.proofs.Laws.{writing-few, writing-turn}
 use Rattle.complex_mates.specs.Table.{Written, Writing}
-use Rattle.complex_mates.proofs.Laws.{put-before, put-here, put-length, row-fits, written-more, slots-some, row-cell-below, row-slot-below, row-is, facet-length}
+use Rattle.lists.proofs.Rows.{row-fits, row-cell-below, row-slot-below, row-is, slots-some, part-size}
+use Rattle.complex_mates.proofs.Laws.{put-before, put-here, put-length, written-more, facet-length}
 use mathlib.Core.Path.{_≡_, refl, sym, ap, _∙_, subst}
 use mathlib.Core.List.{List, [], _∷_, _++_}
 use Prim.Native.Nat.{ℕ, zero, suc, _+_, _*_, _-_, _/_, _%_, _≤_, _<_}

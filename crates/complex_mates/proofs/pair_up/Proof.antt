@@ -1,7 +1,8 @@
 -- `complex_mates::pair_up` meets its contract. The loop's invariant: among the first x rows each has its mate, no class has three, and no later row has one yet. Assumes nothing.
 use native.Mathlib.Nat.{le-refl}
 use mathlib.Core.Bool.{true, false}
-use Rattle.complex_mates.specs.Table.{none, Grouped, Paired, Three}
+use Rattle.lists.specs.Words.{none}
+use Rattle.complex_mates.specs.Table.{Grouped, Paired, Three}
 use Rattle.complex_mates.proofs.Pairing.{paired-none, paired-first, paired-second, three, still-free}
 use mathlib.Core.Path.{_≡_, refl, sym, ap, _∙_, subst}
 use mathlib.Core.List.{List, [], _∷_, _++_}

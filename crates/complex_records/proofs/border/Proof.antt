@@ -1,6 +1,6 @@
 -- `complex_records::border` meets its contract: a derivation of its MIR by hand (`Derive`), with a loop that calls `load` and `bump`. The loop's invariant: i records are counted. The measure is what is left of m, the lesser of n and the list's length. Assumes nothing.
 use mathlib.Core.Path.{_≡_, refl, ap, sym, _∙_}
-use Prim.Native.Nat.{ℕ, _<_, _≤_, _+_, _-_}
+use Prim.Native.Nat.{ℕ, _<_, _≤_, _+_, _-_, min}
 use native.Mathlib.Numerals.{add-one}
 use native.Mathlib.Omega.{arith}
 use mathlib.Core.List.{List, [], _∷_}
@@ -13,8 +13,8 @@ use ghost.Atoms.{Atoms}
 use contract.Running.{tablesOf}
 use borrow.Author.Needs.{zero≤}
 use borrow.Author.Tests.{ltb-true, ltb-false}
-use Rattle.complex_records.specs.Record.{noFacet, loneOf, bordering, least}
-use Rattle.complex_records.proofs.Steps.{bordering-most, least-most}
+use Rattle.complex_records.specs.Record.{noFacet, loneOf, bordering}
+use Rattle.complex_records.proofs.Steps.{bordering-most}
 use Rattle.complex_records.proofs.Derive.{Given, givenOf, Over, Holds, Knows, closes-free, knows, knows-free, t-fn-plain, _▸_, then, after, last, op, put, call, branch, turns, free, rets, skips, leaves, rd, rm, rm-rec, gone, yields, vAt, oAt, oFld, oInt, Cx, Mo, Lfts, Shares, sBool, lease, sslice, sc-here, any-gone, now, lenV, reads-sslice, reads-sslice-len, spares-sslice}
 use Rattle.complex_records.proofs.Facet.{facet, R, val, shr, N, lesser-says, load-says, bump-says, border-says}
 use Rattle.complex_records.proofs.lesser.Symbol as lesser
@@ -45,11 +45,11 @@ more records i = rw (add-one i) refl
 again : (records : List (R .Denot)) (m c c′ i : ℕ) (x : R .Denot) → i < m → Inv records m c i → x ≡ getD records i noFacet → c′ ≡ c + loneOf x → Inv records m c′ (i + 1)
 again records m c c′ i x l v e f = (omega arith, f ∙ ap (λ (k : ℕ). k + loneOf x) (v .1) ∙ ap (λ (y : R .Denot). bordering i records + loneOf y) e ∙ sym (more records i))
 
-all : (records : List (R .Denot)) (n m c i : ℕ) → m ≡ least n (length records) → m ≤ i → Inv records m c i → c ≡ bordering (least n (length records)) records
+all : (records : List (R .Denot)) (n m c i : ℕ) → m ≡ min n (length records) → m ≤ i → Inv records m c i → c ≡ bordering (min n (length records)) records
 all records n m c i q l v = let e : i ≡ m = omega arith in v .1 ∙ ap (λ (j : ℕ). bordering j records) (e ∙ q)
 
-within : (records : List (R .Denot)) (n m i : ℕ) → m ≡ least n (length records) → i < m → i < length records
-within records n m i q l = omega (arith, q, least-most n (length records))
+within : (records : List (R .Denot)) (n m i : ℕ) → m ≡ min n (length records) → i < m → i < length records
+within records n m i q l = omega (arith, q)
 
 -- ---- the derivation
 -- the table at the loop's head

@@ -6,8 +6,8 @@ use native.Mathlib.Omega.{arith}
 use borrow.Author.Needs.{needs}
 use lib.ListN.{length, getD, take, drop, set, replicate, length-set}
 use lib.Ieee.{Float}
-use Rattle.multiindex.specs.Permutation.{tab}
-use Rattle.refine_lattice.proofs.Tab.{length-tab, getD-tab}
+use Rattle.lists.specs.Tables.{tab}
+use Rattle.lists.proofs.Tables.{length-tab, getD-tab}
 use Rattle.grid_lengths.specs.Edges.{squareAt}
 use Rattle.grid_lengths.proofs.Steps.{store-length, stored-lengths}
 use Rattle.grid_lengths.proofs.hand_out.Statement.{statement}

@@ -6,7 +6,7 @@ use native.Mathlib.Omega.{arith}
 use borrow.Author.Needs.{needs}
 use lib.ListN.{length, getD, take, drop, set, replicate, length-set}
 use Rattle.lists.proofs.Laws.{store, copied}
-use Rattle.refine_lattice.proofs.Tab.{length-tab, getD-tab}
+use Rattle.lists.proofs.Tables.{length-tab, getD-tab}
 use Rattle.grid_lengths.specs.Edges.{visitsOf}
 use Rattle.grid_lengths.specs.Noted.{endOf, endsOf}
 use Rattle.grid_lengths.proofs.write_ends.Statement.{statement}

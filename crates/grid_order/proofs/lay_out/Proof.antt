@@ -6,7 +6,7 @@ use native.Mathlib.Omega.{arith}
 use borrow.Author.Needs.{needs}
 use lib.ListN.{length, getD, take, drop, set, replicate, length-set}
 use lib.Seq.{length-take-le}
-use Rattle.complex_mates.proofs.Laws.{part-size}
+use Rattle.lists.proofs.Rows.{part-size}
 use Rattle.grid_order.proofs.Steps.{size-fits, rows-in, size-small, size-rows, size-list, list-holds, words-hold, laid}
 use Rattle.grid_order.proofs.lay_out.Statement.{statement}
 use Rattle.grid_order.proofs.lay_out.Tie as tie

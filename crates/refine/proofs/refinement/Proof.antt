@@ -13,7 +13,7 @@ use Rattle.refusal.specs.declared.Answer.the-variants as Answer
 use Rattle.complex.specs.Check.{answerOf}
 use Rattle.complex.proofs.Fine.{fine-passed}
 use Rattle.complex_cells.proofs.Making.{few-corners}
-use Rattle.refine.specs.WorkReading.{OrderedBy, wordsBy}
+use Rattle.refine.specs.WorkReading.{OrderedBy, wordsAlong}
 use Rattle.refine.proofs.Entry.{out-refused, out-cramped, working, out-ended}
 use Rattle.refine.proofs.refinement.Statement.{statement}
 use Rattle.refine.proofs.refinement.Tie as tie
@@ -39,7 +39,7 @@ returns : tie.Need-returns
 returns c =
     let s = c .before .before .before .before .before .before .before .before .before .before .before .before .before .before .before .before .before .before .before .before .before .before .before in
     let k = c .before .before .before .check-cells in
-    out-refused (s .args .d) (s .args .r) (s .args .given .now) (OrderedBy (s .args .with-order) (s .args .d) (s .args .given .now) (s .args .order .now)) (wordsBy (s .args .with-order) (s .args .d) (s .args .given .now) (s .args .order .now)) (s .args .out-cells .now) (s .args .out-words .now) (s .args .parents .now) (s .args .jacobians .now) (s .args .wholes .now) (s .args .birth-vertices .now) (s .args .birth-weights .now) (s .args .birth-shares .now) (s .args .cells .now) (s .args .along .now) (s .args .pattern .now) (s .args .keys .now) (s .args .rows .now) (s .args .spare .now) (s .args .counts .now) (s .args .sorted .now) (s .args .firsts .now) (s .args .buckets .now) _ _ (sym (k .ensures) ∙ c .before .checked .given .1)
+    out-refused (s .args .d) (s .args .r) (s .args .given .now) (OrderedBy (s .args .with-order) (s .args .d) (s .args .given .now) (s .args .order .now)) (wordsAlong (s .args .with-order) (s .args .d) (s .args .given .now) (s .args .order .now)) (s .args .out-cells .now) (s .args .out-words .now) (s .args .parents .now) (s .args .jacobians .now) (s .args .wholes .now) (s .args .birth-vertices .now) (s .args .birth-weights .now) (s .args .birth-shares .now) (s .args .cells .now) (s .args .along .now) (s .args .pattern .now) (s .args .keys .now) (s .args .rows .now) (s .args .spare .now) (s .args .counts .now) (s .args .sorted .now) (s .args .firsts .now) (s .args .buckets .now) _ _ (sym (k .ensures) ∙ c .before .checked .given .1)
 
 enum-told : tie.Need-enum-told
 enum-told c = search needs
@@ -60,7 +60,7 @@ returns-2 c =
     let k = c .before .before .before .before .before .check-cells in
     let t = c .before .before .before .enum-told in
     let n = c .before .before .need in
-    out-cramped (s .args .d) (s .args .r) (s .args .given .now) (OrderedBy (s .args .with-order) (s .args .d) (s .args .given .now) (s .args .order .now)) (wordsBy (s .args .with-order) (s .args .d) (s .args .given .now) (s .args .order .now)) (s .args .out-cells .now) (s .args .out-words .now) (s .args .parents .now) (s .args .jacobians .now) (s .args .wholes .now) (s .args .birth-vertices .now) (s .args .birth-weights .now) (s .args .birth-shares .now) (s .args .cells .now) (s .args .along .now) (s .args .pattern .now) (s .args .keys .now) (s .args .rows .now) (s .args .spare .now) (s .args .counts .now) (s .args .sorted .now) (s .args .firsts .now) (s .args .buckets .now) (sym (k .ensures) ∙ t .given .1) (n .result) (n .ensures) (c .before .enough .ensures .no (not-true _ (c .if1 .taken)))
+    out-cramped (s .args .d) (s .args .r) (s .args .given .now) (OrderedBy (s .args .with-order) (s .args .d) (s .args .given .now) (s .args .order .now)) (wordsAlong (s .args .with-order) (s .args .d) (s .args .given .now) (s .args .order .now)) (s .args .out-cells .now) (s .args .out-words .now) (s .args .parents .now) (s .args .jacobians .now) (s .args .wholes .now) (s .args .birth-vertices .now) (s .args .birth-weights .now) (s .args .birth-shares .now) (s .args .cells .now) (s .args .along .now) (s .args .pattern .now) (s .args .keys .now) (s .args .rows .now) (s .args .spare .now) (s .args .counts .now) (s .args .sorted .now) (s .args .firsts .now) (s .args .buckets .now) (sym (k .ensures) ∙ t .given .1) (n .result) (n .ensures) (c .before .enough .ensures .no (not-true _ (c .if1 .taken)))
 
 slice-relend-prefix-cleared : tie.Need-slice-relend-prefix-cleared
 slice-relend-prefix-cleared c =
@@ -169,7 +169,7 @@ cleared-requires c κs =
     let t = c .before .before .before .before .before .before .before .before .before .before .before .before .before .before .before .before .before .before .before .before .before .enum-told in
     let n = c .before .before .before .before .before .before .before .before .before .before .before .before .before .before .before .before .before .before .before .before .need in
     let h = c .before .before .before .before .before .before .before .before .before .before .before .before .before .before .before .before .before .before .before .enough .ensures .yes (not-false _ (c .before .before .before .before .before .before .before .before .before .before .before .before .before .before .before .before .before .before .if1 .left)) in
-    working (s .args .d) (s .args .r) (s .args .given .now) (OrderedBy (s .args .with-order) (s .args .d) (s .args .given .now) (s .args .order .now)) (wordsBy (s .args .with-order) (s .args .d) (s .args .given .now) (s .args .order .now)) (s .args .out-cells .now) (s .args .out-words .now) (s .args .parents .now) (s .args .jacobians .now) (s .args .wholes .now) (s .args .birth-vertices .now) (s .args .birth-weights .now) (s .args .birth-shares .now) (s .args .cells .now) (s .args .along .now) (s .args .pattern .now) (s .args .keys .now) (s .args .rows .now) (s .args .spare .now) (s .args .counts .now) (s .args .sorted .now) (s .args .firsts .now) (s .args .buckets .now) (sym (k .ensures) ∙ t .given .1) (n .result) (n .ensures) h
+    working (s .args .d) (s .args .r) (s .args .given .now) (OrderedBy (s .args .with-order) (s .args .d) (s .args .given .now) (s .args .order .now)) (wordsAlong (s .args .with-order) (s .args .d) (s .args .given .now) (s .args .order .now)) (s .args .out-cells .now) (s .args .out-words .now) (s .args .parents .now) (s .args .jacobians .now) (s .args .wholes .now) (s .args .birth-vertices .now) (s .args .birth-weights .now) (s .args .birth-shares .now) (s .args .cells .now) (s .args .along .now) (s .args .pattern .now) (s .args .keys .now) (s .args .rows .now) (s .args .spare .now) (s .args .counts .now) (s .args .sorted .now) (s .args .firsts .now) (s .args .buckets .now) (sym (k .ensures) ∙ t .given .1) (n .result) (n .ensures) h
 
 same-length : tie.Need-same-length
 same-length c = c .before .before .before .before .before .before .before .before .before .before .before .before .before .before .before .before .before .before .before .before .before .before .before .before .before .before .before .before .before .before .before .before .before .before .before .cleared .kept .1 .1 .1 .1 .1 .0
@@ -273,7 +273,7 @@ returns-3 c =
     let n = c .before .before .before .before .before .before .before .before .before .before .before .before .before .before .before .before .before .before .before .before .before .before .before .before .before .before .before .before .before .before .before .before .before .before .before .before .before .before .before .before .before .before .before .before .before .before .before .before .before .before .before .before .before .before .before .before .need in
     let h = c .before .before .before .before .before .before .before .before .before .before .before .before .before .before .before .before .before .before .before .before .before .before .before .before .before .before .before .before .before .before .before .before .before .before .before .before .before .before .before .before .before .before .before .before .before .before .before .before .before .before .before .before .before .before .before .enough .ensures .yes (not-false _ (c .before .before .before .before .before .before .before .before .before .before .before .before .before .before .before .before .before .before .before .before .before .before .before .before .before .before .before .before .before .before .before .before .before .before .before .before .before .before .before .before .before .before .before .before .before .before .before .before .before .before .before .before .before .before .if1 .left)) in
     let w = c .before .before .before .before .before .before .before .before .before .before .before .before .before .before .before .before .before .before .before .before .before .before .before .before .before .before .before .before .before .before .before .before .before .before .before .cleared in
-    out-ended (s .args .d) (s .args .r) (s .args .given .now) (OrderedBy (s .args .with-order) (s .args .d) (s .args .given .now) (s .args .order .now)) (wordsBy (s .args .with-order) (s .args .d) (s .args .given .now) (s .args .order .now)) (s .args .out-cells .now) (s .args .out-words .now) (s .args .parents .now) (s .args .jacobians .now) (s .args .wholes .now) (s .args .birth-vertices .now) (s .args .birth-weights .now) (s .args .birth-shares .now) (s .args .cells .now) (s .args .along .now) (s .args .pattern .now) (s .args .keys .now) (s .args .rows .now) (s .args .spare .now) (s .args .counts .now) (s .args .sorted .now) (s .args .firsts .now) (s .args .buckets .now) (sym (k .ensures) ∙ t .given .1) (n .result) (n .ensures) h (w .result) (w .last .1 .1 .1 .1 .1 .0) (w .last .1 .1 .1 .1 .1 .1 .0) (w .last .1 .1 .1 .1 .1 .1 .1 .0) (w .last .1 .1 .1 .1 .1 .1 .1 .1 .0) (w .last .1 .1 .1 .1 .1 .1 .1 .1 .1 .0) (w .last .1 .1 .1 .1 .1 .1 .1 .1 .1 .1 .0) (w .last .1 .1 .1 .1 .1 .1 .1 .1 .1 .1 .1 .0) (w .last .1 .1 .1 .1 .1 .1 .1 .1 .1 .1 .1 .1 .0) (w .last .1 .1 .1 .1 .1 .1 .1 .1 .1 .1 .1 .1 .1 .0) (w .last .1 .1 .1 .1 .1 .1 .1 .1 .1 .1 .1 .1 .1 .1 .0) (w .last .1 .1 .1 .1 .1 .1 .1 .1 .1 .1 .1 .1 .1 .1 .1 .0) (w .last .1 .1 .1 .1 .1 .1 .1 .1 .1 .1 .1 .1 .1 .1 .1 .1 .0) (w .last .1 .1 .1 .1 .1 .1 .1 .1 .1 .1 .1 .1 .1 .1 .1 .1 .1 .0) (w .last .1 .1 .1 .1 .1 .1 .1 .1 .1 .1 .1 .1 .1 .1 .1 .1 .1 .1 .0) (w .last .1 .1 .1 .1 .1 .1 .1 .1 .1 .1 .1 .1 .1 .1 .1 .1 .1 .1 .1 .0) (w .last .1 .1 .1 .1 .1 .1 .1 .1 .1 .1 .1 .1 .1 .1 .1 .1 .1 .1 .1 .1 .0) (w .last .1 .1 .1 .1 .1 .1 .1 .1 .1 .1 .1 .1 .1 .1 .1 .1 .1 .1 .1 .1 .1 .0) (w .last .1 .1 .1 .1 .1 .1 .1 .1 .1 .1 .1 .1 .1 .1 .1 .1 .1 .1 .1 .1 .1 .1 .0) (w .ensures .0) (w .ensures .1)
+    out-ended (s .args .d) (s .args .r) (s .args .given .now) (OrderedBy (s .args .with-order) (s .args .d) (s .args .given .now) (s .args .order .now)) (wordsAlong (s .args .with-order) (s .args .d) (s .args .given .now) (s .args .order .now)) (s .args .out-cells .now) (s .args .out-words .now) (s .args .parents .now) (s .args .jacobians .now) (s .args .wholes .now) (s .args .birth-vertices .now) (s .args .birth-weights .now) (s .args .birth-shares .now) (s .args .cells .now) (s .args .along .now) (s .args .pattern .now) (s .args .keys .now) (s .args .rows .now) (s .args .spare .now) (s .args .counts .now) (s .args .sorted .now) (s .args .firsts .now) (s .args .buckets .now) (sym (k .ensures) ∙ t .given .1) (n .result) (n .ensures) h (w .result) (w .last .1 .1 .1 .1 .1 .0) (w .last .1 .1 .1 .1 .1 .1 .0) (w .last .1 .1 .1 .1 .1 .1 .1 .0) (w .last .1 .1 .1 .1 .1 .1 .1 .1 .0) (w .last .1 .1 .1 .1 .1 .1 .1 .1 .1 .0) (w .last .1 .1 .1 .1 .1 .1 .1 .1 .1 .1 .0) (w .last .1 .1 .1 .1 .1 .1 .1 .1 .1 .1 .1 .0) (w .last .1 .1 .1 .1 .1 .1 .1 .1 .1 .1 .1 .1 .0) (w .last .1 .1 .1 .1 .1 .1 .1 .1 .1 .1 .1 .1 .1 .0) (w .last .1 .1 .1 .1 .1 .1 .1 .1 .1 .1 .1 .1 .1 .1 .0) (w .last .1 .1 .1 .1 .1 .1 .1 .1 .1 .1 .1 .1 .1 .1 .1 .0) (w .last .1 .1 .1 .1 .1 .1 .1 .1 .1 .1 .1 .1 .1 .1 .1 .1 .0) (w .last .1 .1 .1 .1 .1 .1 .1 .1 .1 .1 .1 .1 .1 .1 .1 .1 .1 .0) (w .last .1 .1 .1 .1 .1 .1 .1 .1 .1 .1 .1 .1 .1 .1 .1 .1 .1 .1 .0) (w .last .1 .1 .1 .1 .1 .1 .1 .1 .1 .1 .1 .1 .1 .1 .1 .1 .1 .1 .1 .0) (w .last .1 .1 .1 .1 .1 .1 .1 .1 .1 .1 .1 .1 .1 .1 .1 .1 .1 .1 .1 .1 .0) (w .last .1 .1 .1 .1 .1 .1 .1 .1 .1 .1 .1 .1 .1 .1 .1 .1 .1 .1 .1 .1 .1 .0) (w .last .1 .1 .1 .1 .1 .1 .1 .1 .1 .1 .1 .1 .1 .1 .1 .1 .1 .1 .1 .1 .1 .1 .0) (w .ensures .0) (w .ensures .1)
 
 pub refinement-spec : {M : Type 1} → statement M
 refinement-spec =

@@ -1,7 +1,7 @@
 -- `refine::work` meets its contract: each call asks what the calls before it gave (proofs/Steps). Assumes nothing.
 use mathlib.Core.Path.{_∙_}
 use borrow.Author.Needs.{needs}
-use Rattle.refine.specs.WorkReading.{OrderedBy, wordsBy}
+use Rattle.refine.specs.WorkReading.{OrderedBy, wordsAlong}
 use Rattle.refine.proofs.Steps.{making, readied, worked-unread, worked-finished}
 use Rattle.refine.proofs.work.Statement.{statement}
 use Rattle.refine.proofs.work.Tie as tie
@@ -33,7 +33,7 @@ refined-requires c κs =
     let s = c .before .before .before .before .before .before .before .before .before .before .before .before .before .before .before .before .before .before .before .before .before .before .before .before .before .before .before .before .before .before .before .before .before .before .before .before .before .before .before .before .before .before .before .before .before .before .before .before .before .before .before .before .before .before .before .before .before .before .before .before in
     let a = c .before .before .before .before .before .before .before .before .before .before .before .before .before .before .before .before .before .before .before .before .before .before .before .before .before .before .before .before .before .before .before .before .before .before .read in
     let v = c .before .before .before .before .before .before .before .before .before .before .before .before .before .before .before .before .before .before .vertices in
-    readied (s .args .d) (s .args .r) (s .args .given .now) (OrderedBy (s .args .with-order) (s .args .d) (s .args .given .now) (s .args .order .now)) (wordsBy (s .args .with-order) (s .args .d) (s .args .given .now) (s .args .order .now)) (s .args .cells .now) (s .args .along .now) (s .args .pattern .now) (s .args .keys .now) (s .args .rows .now) (s .args .spare .now) (s .args .counts .now) (s .args .sorted .now) (s .args .firsts .now) (s .args .buckets .now) (s .pre) (a .last .1 .1 .1 .1 .0) (a .last .1 .1 .1 .1 .1 .0) (a .last .1 .1 .1 .1 .1 .1 .0) (a .last .1 .1 .1 .1 .1 .1 .1 .0) (a .last .1 .1 .1 .1 .1 .1 .1 .1 .0) (a .last .1 .1 .1 .1 .1 .1 .1 .1 .1 .0) (a .result) (a .ensures) _ (c .before .before .before .before .before .before .before .before .before .before .before .before .before .before .before .before .before .before .before .before .found2 .given .1) (v .result) (v .ensures) (a .kept .1 .1 .1 .1 .1 .1 .0) (a .kept .1 .1 .1 .1 .1 .1 .1 .0) (a .kept .1 .1 .1 .1 .1 .1 .1 .1 .0) (a .kept .1 .1 .1 .1 .1 .1 .1 .1 .1 .0)
+    readied (s .args .d) (s .args .r) (s .args .given .now) (OrderedBy (s .args .with-order) (s .args .d) (s .args .given .now) (s .args .order .now)) (wordsAlong (s .args .with-order) (s .args .d) (s .args .given .now) (s .args .order .now)) (s .args .cells .now) (s .args .along .now) (s .args .pattern .now) (s .args .keys .now) (s .args .rows .now) (s .args .spare .now) (s .args .counts .now) (s .args .sorted .now) (s .args .firsts .now) (s .args .buckets .now) (s .pre) (a .last .1 .1 .1 .1 .0) (a .last .1 .1 .1 .1 .1 .0) (a .last .1 .1 .1 .1 .1 .1 .0) (a .last .1 .1 .1 .1 .1 .1 .1 .0) (a .last .1 .1 .1 .1 .1 .1 .1 .1 .0) (a .last .1 .1 .1 .1 .1 .1 .1 .1 .1 .0) (a .result) (a .ensures) _ (c .before .before .before .before .before .before .before .before .before .before .before .before .before .before .before .before .before .before .before .before .found2 .given .1) (v .result) (v .ensures) (a .kept .1 .1 .1 .1 .1 .1 .0) (a .kept .1 .1 .1 .1 .1 .1 .1 .0) (a .kept .1 .1 .1 .1 .1 .1 .1 .1 .0) (a .kept .1 .1 .1 .1 .1 .1 .1 .1 .1 .0)
 
 same-length : tie.Need-same-length
 same-length c = search needs
@@ -57,7 +57,7 @@ returns : tie.Need-returns
 returns c =
     let s = c .before .before .before .before .before .before .before .before .before .before .before .before .before .before .before .before .before .before .before .before .before .before .before .before .before .before .before .before .before .before .before .before .before .before .before .before .before .before .before .before .before in
     let a = c .before .before .before .before .before .before .before .before .before .before .before .before .before .before .before .read in
-    worked-unread (s .args .d) (s .args .r) (s .args .given .now) (OrderedBy (s .args .with-order) (s .args .d) (s .args .given .now) (s .args .order .now)) (wordsBy (s .args .with-order) (s .args .d) (s .args .given .now) (s .args .order .now)) (s .args .cells .now) (s .args .along .now) (s .args .pattern .now) (s .args .keys .now) (s .args .rows .now) (s .args .spare .now) (s .args .counts .now) (s .args .sorted .now) (s .args .firsts .now) (s .args .buckets .now) (s .pre) (a .last .1 .1 .1 .1 .0) (a .last .1 .1 .1 .1 .1 .0) (a .last .1 .1 .1 .1 .1 .1 .0) (a .last .1 .1 .1 .1 .1 .1 .1 .0) (a .last .1 .1 .1 .1 .1 .1 .1 .1 .0) (a .last .1 .1 .1 .1 .1 .1 .1 .1 .1 .0) (a .result) (a .ensures) _ _ (c .before .found .given .1) (s .args .out-cells .now) (s .args .out-words .now) (s .args .parents .now) (s .args .jacobians .now) (s .args .wholes .now) (s .args .birth-vertices .now) (s .args .birth-weights .now) (s .args .birth-shares .now)
+    worked-unread (s .args .d) (s .args .r) (s .args .given .now) (OrderedBy (s .args .with-order) (s .args .d) (s .args .given .now) (s .args .order .now)) (wordsAlong (s .args .with-order) (s .args .d) (s .args .given .now) (s .args .order .now)) (s .args .cells .now) (s .args .along .now) (s .args .pattern .now) (s .args .keys .now) (s .args .rows .now) (s .args .spare .now) (s .args .counts .now) (s .args .sorted .now) (s .args .firsts .now) (s .args .buckets .now) (s .pre) (a .last .1 .1 .1 .1 .0) (a .last .1 .1 .1 .1 .1 .0) (a .last .1 .1 .1 .1 .1 .1 .0) (a .last .1 .1 .1 .1 .1 .1 .1 .0) (a .last .1 .1 .1 .1 .1 .1 .1 .1 .0) (a .last .1 .1 .1 .1 .1 .1 .1 .1 .1 .0) (a .result) (a .ensures) _ _ (c .before .found .given .1) (s .args .out-cells .now) (s .args .out-words .now) (s .args .parents .now) (s .args .jacobians .now) (s .args .wholes .now) (s .args .birth-vertices .now) (s .args .birth-weights .now) (s .args .birth-shares .now)
 
 same-length-7 : tie.Need-same-length-7
 same-length-7 c = c .before .before .before .before .before .before .before .before .before .before .before .before .before .before .before .before .before .before .before .before .before .before .before .before .before .before .before .before .before .before .before .refined .kept .1 .1 .1 .1 .1 .1 .0
@@ -119,7 +119,7 @@ returns-2 c =
     let a = c .before .before .before .before .before .before .before .before .before .before .before .before .before .before .before .before .before .before .before .before .before .before .before .before .before .before .before .before .before .before .before .before .before .before .before .before .before .before .before .before .before .before .before .before .before .before .before .before .before .before .before .before .before .before .before .before .before .before .before .before .before .before .before .before .before .before .read in
     let v = c .before .before .before .before .before .before .before .before .before .before .before .before .before .before .before .before .before .before .before .before .before .before .before .before .before .before .before .before .before .before .before .before .before .before .before .before .before .before .before .before .before .before .before .before .before .before .before .before .before .before .vertices in
     let f = c .before .before .before .before .before .before .before .before .before .before .before .before .before .before .before .before .before .before .before .before .before .before .before .before .before .before .before .before .before .before .before .refined in
-    worked-finished (s .args .d) (s .args .r) (s .args .given .now) (OrderedBy (s .args .with-order) (s .args .d) (s .args .given .now) (s .args .order .now)) (wordsBy (s .args .with-order) (s .args .d) (s .args .given .now) (s .args .order .now)) (s .args .cells .now) (s .args .along .now) (s .args .pattern .now) (s .args .keys .now) (s .args .rows .now) (s .args .spare .now) (s .args .counts .now) (s .args .sorted .now) (s .args .firsts .now) (s .args .buckets .now) (s .pre) (a .last .1 .1 .1 .1 .0) (a .last .1 .1 .1 .1 .1 .0) (a .last .1 .1 .1 .1 .1 .1 .0) (a .last .1 .1 .1 .1 .1 .1 .1 .0) (a .last .1 .1 .1 .1 .1 .1 .1 .1 .0) (a .last .1 .1 .1 .1 .1 .1 .1 .1 .1 .0) (a .result) (a .ensures) _ (c .before .before .before .before .before .before .before .before .before .before .before .before .before .before .before .before .before .before .before .before .before .before .before .before .before .before .before .before .before .before .before .before .before .before .before .before .before .before .before .before .before .before .before .before .before .before .before .before .before .before .before .before .found2 .given .1) (v .result) (v .ensures) (f .result) (s .args .out-cells .now) (s .args .out-words .now) (s .args .parents .now) (s .args .jacobians .now) (s .args .wholes .now) (s .args .birth-vertices .now) (s .args .birth-weights .now) (s .args .birth-shares .now) (f .last .1 .1 .1 .1 .1 .1 .0) (f .last .1 .1 .1 .1 .1 .1 .1 .0) (f .last .1 .1 .1 .1 .1 .1 .1 .1 .0) (f .last .1 .1 .1 .1 .1 .1 .1 .1 .1 .0) (f .last .1 .1 .1 .1 .1 .1 .1 .1 .1 .1 .0) (f .last .1 .1 .1 .1 .1 .1 .1 .1 .1 .1 .1 .0) (f .last .1 .1 .1 .1 .1 .1 .1 .1 .1 .1 .1 .1 .0) (f .last .1 .1 .1 .1 .1 .1 .1 .1 .1 .1 .1 .1 .1 .0) (f .ensures)
+    worked-finished (s .args .d) (s .args .r) (s .args .given .now) (OrderedBy (s .args .with-order) (s .args .d) (s .args .given .now) (s .args .order .now)) (wordsAlong (s .args .with-order) (s .args .d) (s .args .given .now) (s .args .order .now)) (s .args .cells .now) (s .args .along .now) (s .args .pattern .now) (s .args .keys .now) (s .args .rows .now) (s .args .spare .now) (s .args .counts .now) (s .args .sorted .now) (s .args .firsts .now) (s .args .buckets .now) (s .pre) (a .last .1 .1 .1 .1 .0) (a .last .1 .1 .1 .1 .1 .0) (a .last .1 .1 .1 .1 .1 .1 .0) (a .last .1 .1 .1 .1 .1 .1 .1 .0) (a .last .1 .1 .1 .1 .1 .1 .1 .1 .0) (a .last .1 .1 .1 .1 .1 .1 .1 .1 .1 .0) (a .result) (a .ensures) _ (c .before .before .before .before .before .before .before .before .before .before .before .before .before .before .before .before .before .before .before .before .before .before .before .before .before .before .before .before .before .before .before .before .before .before .before .before .before .before .before .before .before .before .before .before .before .before .before .before .before .before .before .before .found2 .given .1) (v .result) (v .ensures) (f .result) (s .args .out-cells .now) (s .args .out-words .now) (s .args .parents .now) (s .args .jacobians .now) (s .args .wholes .now) (s .args .birth-vertices .now) (s .args .birth-weights .now) (s .args .birth-shares .now) (f .last .1 .1 .1 .1 .1 .1 .0) (f .last .1 .1 .1 .1 .1 .1 .1 .0) (f .last .1 .1 .1 .1 .1 .1 .1 .1 .0) (f .last .1 .1 .1 .1 .1 .1 .1 .1 .1 .0) (f .last .1 .1 .1 .1 .1 .1 .1 .1 .1 .1 .0) (f .last .1 .1 .1 .1 .1 .1 .1 .1 .1 .1 .1 .0) (f .last .1 .1 .1 .1 .1 .1 .1 .1 .1 .1 .1 .1 .0) (f .last .1 .1 .1 .1 .1 .1 .1 .1 .1 .1 .1 .1 .1 .0) (f .ensures)
 
 pub work-spec : {M : Type 1} → statement M
 work-spec =

@@ -10,7 +10,7 @@ use borrow.Author.Fill.{fill-more}
 use mathlib.Core.List.{append-nil}
 use lib.ListN.{drop-of-length-le}
 use native.Mathlib.Nat.{le-refl}
-use Rattle.refine_births.specs.Support.{none}
+use Rattle.lists.specs.Words.{none}
 use Rattle.refine_births.proofs.blank.Statement.{statement}
 use Rattle.refine_births.proofs.blank.Tie as tie
 use Rattle.refine_births.proofs.blank.Reads as reads

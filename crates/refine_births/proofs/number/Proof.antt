@@ -6,7 +6,7 @@ use Prim.Native.Nat.{ℕ, zero, suc, _+_, _*_, _-_, _/_, _%_, _≤_, _<_}
 use native.Mathlib.Omega.{arith}
 use borrow.Author.Needs.{needs}
 use lib.ListN.{length, getD, take, drop, set, replicate, length-set}
-use Rattle.complex_mates.proofs.Laws.{row-fits, part-size}
+use Rattle.lists.proofs.Rows.{row-fits, part-size}
 use Rattle.refine_births.specs.WorkNumbers.{Numbering, Told, Numbered}
 use Rattle.refine_births.proofs.Numbering.{Scanned, Scanning, seenBy, scanned-none, scanning-none, scanning-old, scanning-lone, scanning-born, the-class, class-below, in-corners, old-point, lone-point, born-point, is-lone, not-lone, scanned-done}
 use Rattle.refine_births.proofs.number.Statement.{statement}

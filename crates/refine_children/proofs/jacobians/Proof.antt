@@ -7,8 +7,9 @@ use lib.ListN.{length, getD, take, drop, set, length-set}
 use borrow.Author.Needs.{needs}
 use lib.IntN.{ℤ}
 use lib.Ieee.{Float}
+use Rattle.lists.proofs.Rows.{part-size}
 use Rattle.refine_children.specs.WorkFamily.{joined, wholeAt, floatAt, Family}
-use Rattle.refine_children.proofs.Laws.{joined-more, joined-kept, joined-full, part-length}
+use Rattle.refine_children.proofs.Laws.{joined-more, joined-kept, joined-full}
 use Rattle.refine_children.proofs.jacobians.Statement.{statement}
 use Rattle.refine_children.proofs.jacobians.Tie as tie
 use Rattle.refine_children.proofs.jacobians.Reads as reads
@@ -75,8 +76,8 @@ child-requires c κs =
     let h : i < s .args .m = omega (arith, c .before .before .before .before .loop-test .taken) in
     let a : i * 9 + 9 ≤ length (l .loop .wholes) = omega (arith, s .pre .0) in
     let b : i * 9 + 9 ≤ length (l .loop .floats) = omega (arith, s .pre .1) in (
-      part-length 9 i (l .loop .wholes) a,
-      part-length 9 i (l .loop .floats) b,
+      part-size (l .loop .wholes) (i * 9) 9 a,
+      part-size (l .loop .floats) (i * 9) 9 b,
       subst (λ (x : ℕ). Family (s .args .d) (s .args .size) (s .args .pattern .now) (s .args .words .now) (s .args .sorted .now) (s .args .along .now) (s .args .cells .now) x) (sym (c .before .before .wide .ensures)) (s .pre .2 .each i h),
     )
 

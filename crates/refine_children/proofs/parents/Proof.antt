@@ -6,7 +6,7 @@ use native.Mathlib.Nat.{div-le-self}
 use native.Mathlib.Omega.{arith}
 use lib.ListN.{length, getD, take, drop, set, length-set}
 use borrow.Author.Needs.{needs}
-use Rattle.multiindex.specs.Permutation.{tab}
+use Rattle.lists.specs.Tables.{tab}
 use Rattle.refine_jacobian.proofs.Laws.{tab-store, tab-full}
 use Rattle.refine_children.proofs.parents.Statement.{statement}
 use Rattle.refine_children.proofs.parents.Tie as tie

@@ -10,7 +10,7 @@ use native.Mathlib.Nat.{mul-le-mul}
 use borrow.Author.Tests.{lt-ltb, le-ltb}
 use lib.Dec.{ltb}
 use lib.Ieee.{Float, binary64, ofBits, sub}
-use Rattle.multiindex.specs.Permutation.{tab}
+use Rattle.lists.specs.Tables.{tab}
 use Rattle.refine_jacobian.specs.Entries.{shareOf, nought, floatStep}
 use Rattle.refine_jacobian.specs.WorkWeights.{weightOf}
 use Rattle.refine_jacobian.proofs.Laws.{tab-store, tab-full, entry-in, entry-past}

@@ -6,7 +6,7 @@ use native.Mathlib.Omega.{arith}
 use lib.ListN.{length, getD, take, drop, set, length-set}
 use borrow.Author.Needs.{needs}
 use lib.Ieee.{Float}
-use Rattle.multiindex.specs.Permutation.{tab}
+use Rattle.lists.specs.Tables.{tab}
 use Rattle.refine_jacobian.specs.Entries.{shareOf}
 use Rattle.refine_jacobian.proofs.Laws.{tab-store, tab-full, tab-map}
 use Rattle.refine_jacobian.proofs.shares.Statement.{statement}

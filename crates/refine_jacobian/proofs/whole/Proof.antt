@@ -12,7 +12,7 @@ use lib.Dec.{ltb}
 use lib.IntN.{ℤ, pos, _-ℤ_}
 use mir.Syntax.{w32}
 use mir.Val.{toZ, ofZ}
-use Rattle.multiindex.specs.Permutation.{tab}
+use Rattle.lists.specs.Tables.{tab}
 use Rattle.refine_lattice.specs.Jacobian.{jacobian}
 use Rattle.refine_jacobian.specs.WorkWeights.{weightOf}
 use Rattle.refine_jacobian.proofs.Laws.{tab-store, tab-full, entry-in, entry-past, one-fits, step-fits, step-stored}

@@ -9,7 +9,7 @@ use lib.Dec.{eqb}
 use lib.ListN.{length, getD}
 use Rattle.refine_values.proofs.Laws.{more-none}
 use Rattle.lists.proofs.Words.{first-none, first-at}
-use Rattle.refine_births.specs.Support.{none}
+use Rattle.lists.specs.Words.{none}
 use Rattle.refine_values.proofs.vertices_in.Statement.{statement}
 use Rattle.refine_values.proofs.vertices_in.Tie as tie
 use Rattle.refine_values.proofs.vertices_in.Reads as reads

@@ -8,9 +8,9 @@ use lib.ListN.{length, getD, take, drop, set, replicate, length-set}
 use mathlib.Core.Bool.{true, false}
 use borrow.Author.Count.{below-more}
 use borrow.Author.Tests.{not-true, not-false}
-use Rattle.complex_mates.specs.Table.{none}
+use Rattle.lists.specs.Words.{none}
 use Rattle.ordering.specs.WorkAgree.{rowWord}
-use Rattle.ordering.proofs.Orders.{same-true, true-same}
+use Rattle.lists.proofs.Words.{same-word, word-true}
 use Rattle.ordering.proofs.Reading.{total-small, mates-room, mate-row, reading, all-agree, clashes}
 use Rattle.ordering.proofs.agreement.agree.Statement.{statement}
 use Rattle.ordering.proofs.agreement.agree.Tie as tie
@@ -60,7 +60,7 @@ row-agrees-requires : tie.Need-row-agrees-requires Inv-loop μ-loop
 row-agrees-requires c κs = reading (c .before .before .before .before .before .before .before .before .args .d) (c .before .before .before .before .before .before .before .before .args .m) (c .before .before .before .before .before .before .before .before .args .mates .now) (c .before .before .before .before .before .before .before .before .args .list .now) (c .before .before .before .before .before .before .before .before .pre) (c .before .before .before .before .before .slots .result) (c .before .before .before .before .before .slots .ensures) (c .before .before .before .before .loop .x) (c .wide .result) (c .before .before .before .loop-test .taken) (omega (arith, c .wide .ensures, mate-row (c .before .before .before .before .before .before .before .before .args .d) (c .before .before .before .before .before .before .before .before .args .m) (c .before .before .before .before .before .before .before .before .args .mates .now) (c .before .before .before .before .before .before .before .before .args .list .now) (c .before .before .before .before .before .before .before .before .pre) (c .before .before .before .before .before .slots .result) (c .before .before .before .before .before .slots .ensures) (c .before .before .before .before .loop .x) (c .before .before .before .loop-test .taken) (c .before .if1 .left)))
 
 returns : tie.Need-returns Inv-loop μ-loop
-returns c = (λ e. let z : _≡_ {A = ℕ} 0 1 = cc in absurd (omega arith), λ e. clashes (c .before .before .before .before .before .before .before .before .before .before .args .d) (c .before .before .before .before .before .before .before .before .before .before .args .m) (c .before .before .before .before .before .before .before .before .before .before .args .mates .now) (c .before .before .before .before .before .before .before .before .before .before .args .list .now) (c .before .before .before .before .before .before .before .before .before .before .pre) (c .before .before .before .before .before .before .before .slots .result) (c .before .before .before .before .before .before .before .slots .ensures) (c .before .before .before .before .before .before .loop .x) (c .before .before .before .before .before .loop-test .taken) (c .before .before .before .if1 .left) (λ q. true-false (sym (true-same _ _ (q ∙ ap (rowWord (c .before .before .before .before .before .before .before .before .before .before .args .d) (c .before .before .before .before .before .before .before .slots .result) (c .before .before .before .before .before .before .before .before .before .before .args .m) (c .before .before .before .before .before .before .before .before .before .before .args .list .now)) (sym (c .before .before .wide .ensures)))) ∙ sym (c .before .row-agrees .ensures) ∙ not-true _ (c .if2 .taken))))
+returns c = (λ e. let z : _≡_ {A = ℕ} 0 1 = cc in absurd (omega arith), λ e. clashes (c .before .before .before .before .before .before .before .before .before .before .args .d) (c .before .before .before .before .before .before .before .before .before .before .args .m) (c .before .before .before .before .before .before .before .before .before .before .args .mates .now) (c .before .before .before .before .before .before .before .before .before .before .args .list .now) (c .before .before .before .before .before .before .before .before .before .before .pre) (c .before .before .before .before .before .before .before .slots .result) (c .before .before .before .before .before .before .before .slots .ensures) (c .before .before .before .before .before .before .loop .x) (c .before .before .before .before .before .loop-test .taken) (c .before .before .before .if1 .left) (λ q. true-false (sym (word-true _ _ (q ∙ ap (rowWord (c .before .before .before .before .before .before .before .before .before .before .args .d) (c .before .before .before .before .before .before .before .slots .result) (c .before .before .before .before .before .before .before .before .before .before .args .m) (c .before .before .before .before .before .before .before .before .before .before .args .list .now)) (sym (c .before .before .wide .ensures)))) ∙ sym (c .before .row-agrees .ensures) ∙ not-true _ (c .if2 .taken))))
 
 add-x-2 : tie.Need-add-x-2 Inv-loop μ-loop
 add-x-2 c = omega (arith, total-small (c .before .before .before .before .before .before .before .before .before .before .args .d) (c .before .before .before .before .before .before .before .before .before .before .args .m) (c .before .before .before .before .before .before .before .before .before .before .args .mates .now) (c .before .before .before .before .before .before .before .before .before .before .args .list .now) (c .before .before .before .before .before .before .before .before .before .before .pre) (c .before .before .before .before .before .before .before .slots .result) (c .before .before .before .before .before .before .before .slots .ensures))
@@ -69,7 +69,7 @@ loop-less-2 : tie.Need-loop-less-2 Inv-loop μ-loop
 loop-less-2 c = search needs
 
 loop-again-2 : tie.Need-loop-again-2 Inv-loop μ-loop
-loop-again-2 c = (omega arith, below-more _ _ (c .before .before .before .before .before .before .loop .inv .1) (λ f. same-true _ _ (sym (c .before .row-agrees .ensures) ∙ not-false _ (c .if2 .left)) ∙ ap (rowWord (c .before .before .before .before .before .before .before .before .before .before .args .d) (c .before .before .before .before .before .before .before .slots .result) (c .before .before .before .before .before .before .before .before .before .before .args .m) (c .before .before .before .before .before .before .before .before .before .before .args .list .now)) (c .before .before .wide .ensures)))
+loop-again-2 c = (omega arith, below-more _ _ (c .before .before .before .before .before .before .loop .inv .1) (λ f. same-word _ _ (sym (c .before .row-agrees .ensures) ∙ not-false _ (c .if2 .left)) ∙ ap (rowWord (c .before .before .before .before .before .before .before .before .before .before .args .d) (c .before .before .before .before .before .before .before .slots .result) (c .before .before .before .before .before .before .before .before .before .before .args .m) (c .before .before .before .before .before .before .before .before .before .before .args .list .now)) (c .before .before .wide .ensures)))
 
 returns-2 : tie.Need-returns-2 Inv-loop μ-loop
 returns-2 c = (λ e. all-agree (c .before .before .before .before .before .args .d) (c .before .before .before .before .before .args .m) (c .before .before .before .before .before .args .mates .now) (c .before .before .before .before .before .args .list .now) (c .before .before .before .before .before .pre) (c .before .before .slots .result) (c .before .before .slots .ensures) (λ x h. c .before .loop .inv .1 x (omega arith)), λ e. let z : _≡_ {A = ℕ} 0 1 = cc in absurd (omega arith))

@@ -5,7 +5,7 @@ use Prim.Native.Nat.{ℕ, zero, suc, _+_, _*_, _-_, _/_, _%_, _≤_, _<_}
 use native.Mathlib.Omega.{arith}
 use borrow.Author.Needs.{needs}
 use lib.ListN.{length, getD, take, drop, set, replicate, length-set}
-use Rattle.ordering.specs.Order.{sameWord, without}
+use Rattle.lists.specs.Words.{sameWord, without}
 use Rattle.ordering.proofs.Without.{only-hit, only-miss, only-end}
 use Rattle.ordering.proofs.agreement.only.Statement.{statement}
 use Rattle.ordering.proofs.agreement.only.Tie as tie

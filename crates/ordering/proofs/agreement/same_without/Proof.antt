@@ -6,7 +6,7 @@ use native.Mathlib.Omega.{arith}
 use borrow.Author.Needs.{needs}
 use lib.ListN.{length, getD, take, drop, set, replicate, length-set}
 use Rattle.lists.proofs.Words.{tail-part}
-use Rattle.ordering.specs.Order.{sameWord, without}
+use Rattle.lists.specs.Words.{sameWord, without}
 use Rattle.ordering.proofs.Without.{From, skip-left, ran-out, skip-right, step-both, step-other, left-out}
 use Rattle.ordering.proofs.agreement.same_without.Statement.{statement}
 use Rattle.ordering.proofs.agreement.same_without.Tie as tie

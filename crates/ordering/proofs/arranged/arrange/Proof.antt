@@ -6,7 +6,7 @@ use native.Mathlib.Omega.{arith}
 use lib.ListN.{length, getD, take, drop, set, replicate, length-set}
 use lib.Seq.{length-take-le}
 use borrow.Author.Tests.{not-true, not-false}
-use Rattle.complex_mates.proofs.Laws.{part-size}
+use Rattle.lists.proofs.Rows.{part-size}
 use Rattle.ordering.proofs.Arranging.{out-length, out-high, matching, size-fits, room-keys, room-cells, room-spare, out-other, reps-rows, out-arranged}
 use borrow.Author.Needs.{needs}
 use Rattle.ordering.proofs.arranged.arrange.Statement.{statement}

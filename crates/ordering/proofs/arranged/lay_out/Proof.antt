@@ -7,7 +7,7 @@ use lib.ListN.{length, getD, take, drop, set, replicate, length-set}
 use lib.ListN.{length-append, length-drop}
 use lib.Seq.{length-take-le}
 use Rattle.multiindex.specs.Sort.{sortWords}
-use Rattle.complex_mates.proofs.Laws.{part-size}
+use Rattle.lists.proofs.Rows.{part-size}
 use Rattle.ordering.proofs.Lists.{laid}
 use borrow.Author.Needs.{needs}
 use Rattle.ordering.proofs.arranged.lay_out.Statement.{statement}

@@ -6,7 +6,7 @@ use native.Mathlib.Omega.{arith}
 use lib.ListN.{length, getD, take, drop, set, replicate, length-set}
 use lib.Seq.{length-take-le}
 use native.Mathlib.Nat.{mul-le-mul-right}
-use Rattle.complex_mates.proofs.Laws.{part-size}
+use Rattle.lists.proofs.Rows.{part-size}
 use Rattle.ordering.proofs.Matching.{many-numbers, key-long, table, rows-fit, reps-in, matched-fewer, matched-compared}
 use borrow.Author.Needs.{needs}
 use Rattle.ordering.proofs.arranged.matched.Statement.{statement}
