@@ -18,7 +18,6 @@ ghost use mathlib.Core.List.{List};
 ghost use Prim.Native.Nat.{ℕ, _<_, _≤_};
 ghost use lib.ListN.{length, getD};
 ghost use Rattle.lists.specs.Zero.{AllZero};
-ghost use Rattle.orientation_walk.specs.WorkSigns.{turned};
 ghost use Rattle.complex_mates.specs.Table.{MateTable};
 ghost use Rattle.multiindex.specs.Sign.{Sign};
 ghost use Rattle.orientation_signs.specs.WorkFound.{signOf};
@@ -31,17 +30,6 @@ fn wide(x: u32) -> usize
     ensures { λ r. ⌜ r ≡ x ⌝ }
 {
     x as usize
-}
-
-// The mark across a slot: the same at flip 0, else the other one.
-fn turn(f: u32, s: u32) -> u32
-    requires { ⌜ s ≤ 2 ⌝ }
-    ensures { λ r. ⌜ r ≡ turned f s ⌝ }
-{
-    if f == 0 {
-        return s;
-    }
-    3 - s
 }
 
 // Whether the marks across each slot are as its flip says.
@@ -59,7 +47,7 @@ fn all_agree(k: usize, total: usize, other: &[u32], flip: &[u32], marks: &[u32])
         }
         let there = marks[wide(o)];
         let here = marks[x / k];
-        if there != turn(flip[x], here) {
+        if there != orientation_walk::turn(flip[x], here) {
             return false;
         }
         x += 1;

@@ -12,7 +12,8 @@ fn wide(x: u32) -> usize
     x as usize
 }
 
-fn turn(f: u32, s: u32) -> u32
+// The mark across a slot, 1 for + and 2 for -: the same at flip 0, else the other one.
+pub fn turn(f: u32, s: u32) -> u32
     requires { ⌜ s ≤ 2 ⌝ }
     ensures { λ r. ⌜ r ≡ turned f s ⌝ }
 {

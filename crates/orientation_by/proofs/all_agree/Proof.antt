@@ -11,7 +11,6 @@ use Rattle.orientation_by.proofs.all_agree.Statement.{statement}
 use Rattle.orientation_by.proofs.all_agree.Tie as tie
 use Rattle.orientation_by.proofs.all_agree.Reads as reads
 use Rattle.orientation_by.proofs.all_agree.Lts as lts
-use Rattle.orientation_by.proofs.turn.Reads as turn-reads
 use Rattle.orientation_by.proofs.wide.Reads as wide-reads
 
 abbrev Inv-loop : tie.InvT-loop
