@@ -55,6 +55,12 @@ pub struct GridVertex(pub u32);
 // The number of a vertex after gluing. Only `reduce` leads from a grid point to its vertex.
 pub struct GluedVertex(pub u32);
 
+// How many cells and vertices a grid has, each at most one more than its limit.
+struct Sizes {
+    cells: usize,
+    vertices: usize,
+}
+
 // What `reduce` says: a point's vertex. 4294967295 stands for a number past the last grid point, and is no vertex.
 pub enum Reduced {
     At(GluedVertex),
