@@ -14,7 +14,8 @@ use Rattle.quotient.specs.declared.Glue.{Glue}
 use Rattle.quotient.specs.declared.Glue.the-variants.{Open, Periodic, Twisted}
 use Rattle.quotient.specs.declared.Grid.{Grid}
 use Rattle.quotient.specs.Fold.{member, some, count}
-use Rattle.quotient.specs.Shape.{noAxis, sizeOf}
+use Rattle.quotient.specs.Shape.{noAxis}
+use Rattle.quotient.proofs.Sets.{sizeOf}
 use Rattle.quotient.proofs.Laws.{some-true}
 use Rattle.refusal.specs.Table.{badDimension, unreadable}
 use Rattle.refusal.specs.Limits.{mostDimension}
