@@ -6,7 +6,7 @@ use native.Mathlib.Numerals.{add-one}
 use native.Mathlib.Omega.{arith}
 use lib.ListN.{length, getD, drop, drop-of-length-le}
 use lib.Seq.{drop-cons}
-use Rattle.refine_lattice.proofs.Tab.{length-tab, getD-tab}
+use Rattle.lists.proofs.Tables.{length-tab, getD-tab}
 use Rattle.quotient.specs.declared.Grid.{Grid}
 use Rattle.quotient.specs.Shape.{cellCount}
 use Rattle.quotient.proofs.Taken.{taken-cells}

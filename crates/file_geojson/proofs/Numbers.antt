@@ -10,16 +10,16 @@ use native.Mathlib.Omega.{arith}
 use lib.Arith.{digits-div, digits-mod}
 use lib.ListN.{length, getD}
 use Rattle.refusal.specs.declared.Answer.the-variants.{Fine}
-use Rattle.lists.proofs.Words.{first-at}
-use Rattle.multiindex.specs.Permutation.{tab, orders}
+use Rattle.lists.proofs.Words.{first-at, word-true, word-false}
+use Rattle.lists.specs.Tables.{tab}
+use Rattle.multiindex.specs.Permutation.{orders}
 use Rattle.multiindex.specs.Sort.{sortWord}
-use Rattle.refine_lattice.proofs.Tab.{length-tab, getD-tab}
+use Rattle.lists.proofs.Tables.{length-tab, getD-tab}
 use Rattle.complex.specs.Cells.{inOrder}
 use Rattle.complex.specs.Facets.{cellAt}
-use Rattle.complex.specs.Skeleton.{sameWord}
+use Rattle.lists.specs.Words.{sameWord}
 use Rattle.complex_cells.proofs.Words.{Word, In, Rising, rising-by, one-list}
 use Rattle.complex_cells.proofs.Order.{Colex, colex-irr, colex-trans, order-rising, order-from, order-has}
-use Rattle.complex_facets.proofs.Numbers.{word-true, word-false}
 use Rattle.quotient.specs.declared.Grid.{Grid}
 use Rattle.quotient.specs.Fold.{product, factorial}
 use Rattle.quotient.specs.Shape.{cellsOn, checkOf, cellCount}

@@ -6,10 +6,9 @@ use mathlib.Core.List.{List, [], _∷_, _++_, map}
 use lib.Dec.{eqb}
 use lib.ListN.{length, getD}
 use Rattle.text.specs.Decimal.{decimal}
-use Rattle.lists.specs.Words.{firstWhere}
+use Rattle.lists.specs.Words.{sameWord, firstWhere}
 use Rattle.multiindex.specs.Sort.{sortWord}
 use Rattle.complex.specs.Facets.{cellAt}
-use Rattle.complex.specs.Skeleton.{sameWord}
 use Rattle.quotient.specs.declared.Grid.{Grid}
 use Rattle.quotient.specs.Shape.{cellsOn}
 use Rattle.quotient.specs.Reduce.{coordAt, vertexOf}

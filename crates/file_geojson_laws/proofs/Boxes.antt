@@ -9,7 +9,7 @@ use native.Mathlib.Omega.{arith}
 use lib.Arith.{digits-div, digits-mod}
 use lib.Dec.{eqb}
 use lib.ListN.{getD}
-use Rattle.refine_lattice.proofs.Tab.{getD-tab}
+use Rattle.lists.proofs.Tables.{getD-tab}
 use Rattle.quotient.specs.declared.Grid.{Grid}
 use Rattle.quotient.specs.Fold.{product}
 use Rattle.quotient.specs.Shape.{cellsOn, pointsOn, cellCount}

@@ -6,7 +6,7 @@ use Prim.Native.Nat.{ℕ, _+_, _-_, _*_, _%_, _<_}
 use native.Mathlib.Omega.{arith}
 use lib.ListN.{getD}
 use Rattle.multiindex.specs.Sort.{sortWord}
-use Rattle.refine_lattice.proofs.Tab.{getD-tab}
+use Rattle.lists.proofs.Tables.{getD-tab}
 use Rattle.complex.specs.Facets.{cellAt}
 use Rattle.quotient.specs.declared.Grid.{Grid}
 use Rattle.quotient.specs.Shape.{cellsOn, cellCount}
