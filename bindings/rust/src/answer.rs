@@ -9,7 +9,7 @@
 /// ```
 #[derive(Clone, Copy, Debug, PartialEq, Eq, Hash)]
 pub struct Refusal {
-    /// 1 to 16.
+    /// As the tables of documents 01 and 02 count them.
     pub number: u32,
     /// The first word, the least number or the least axis that is refused; 0 where there is no place.
     pub place: u32,
@@ -35,6 +35,8 @@ impl Refusal {
             14 => "sign list not one +1 or -1 for each cell",
             15 => "some grid edge gets two lengths",
             16 => "order words not one for each cell, no more",
+            18 => "another kind of grid than the call takes",
+            19 => "south not below north, or either beyond 90 degrees",
             _ => "no such number",
         }
     }

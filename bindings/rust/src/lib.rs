@@ -20,6 +20,7 @@
 
 mod answer;
 mod complex;
+mod geojson;
 mod grid;
 mod orientation;
 mod raw;
