@@ -38,7 +38,8 @@ REFINED = [("1-D, 2,047 edges, R 2", words_of(2047, O), 2, words_of(511, O), 2),
 GRID_CALLS = ["reduce", "crossing", "nvertices", "is_orientation_preserving", "cell_words", "triangulate_ordered", "edge_lengths_sq", "edge_length_sq"]
 LIST_CALLS = ["cells", "edges", "facets", "border", "orientation", "orientation_looks", "orient_by", "ordering", "induced_orientation"]
 REFINE_CALLS = ["refine", "refine_with"]
-NOT_IN_RUST = {"crossing", "edge_length_sq", "orientation_looks"}
+BANDS = [("band 2048 x 1", grid(2048, P, 1, O), grid(512, P, 1, O)), ("band 64 x 32", grid(64, P, 32, O), grid(32, P, 16, O))]
+NOT_IN_RUST = {"crossing", "geojson", "edge_length_sq", "orientation_looks"}
 CONSTANT = {"nvertices", "is_orientation_preserving"}          # made a thousand times in one run: they do not grow
 
 
@@ -86,6 +87,8 @@ def cases():
     for name, whole, quarter in GRIDS:
         for call in GRID_CALLS:
             yield call, name, Case(call, whole), Case(call, quarter)
+    for name, whole, quarter in BANDS:
+        yield "geojson", name, Case("geojson", whole), Case("geojson", quarter)
     for name, whole, quarter in LISTS:
         for call in LIST_CALLS:
             yield call, name, Case(call, whole), Case(call, quarter)

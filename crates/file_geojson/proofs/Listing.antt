@@ -1,9 +1,12 @@
 -- The features one by one: the invariant of the loop that writes them. Assumes nothing.
 use mathlib.Core.Path.{_≡_, refl, sym, ap, subst, _∙_}
+use mathlib.Core.Bool.{Bool, true, false, cond}
 use mathlib.Core.List.{List, [], _∷_, _++_, map, append-assoc, append-nil}
 use Prim.Native.Nat.{ℕ, suc, _+_, _-_, _*_, _≤_, _<_}
 use native.Mathlib.Numerals.{add-one}
 use native.Mathlib.Omega.{arith}
+use borrow.Author.Tests.{eq-eqb, ne-eqb}
+use lib.Dec.{eqb}
 use lib.ListN.{length, getD, drop, drop-of-length-le}
 use lib.Seq.{drop-cons}
 use Rattle.lists.proofs.Tables.{length-tab, getD-tab}
@@ -19,6 +22,7 @@ use Rattle.file_writing.proofs.Laws.{wrote-none, wrote-more, wrote-same}
 use Rattle.file_geojson.specs.Words.{openingWord, closingWord}
 use Rattle.file_geojson.specs.File.{commaEach, joined, featureOf, featuresOf, collectionOf}
 use Rattle.file_geojson.specs.Kind.{Mapped}
+use Rattle.file_geojson.specs.Work.{partOf}
 use Rattle.file_geojson.proofs.Sizes.{feature-end}
 
 -- the features from 1 on below x are written, each with its comma; what is left of the list of features
@@ -94,3 +98,19 @@ module _ (g : Grid) (low high : ℕ) (m : Mapped g low high) where
       (ap (λ (l : List ℕ). openingWord ++ l)
       (sym (append-assoc (featureOf g low high (cellNo g 0)) (commaEach (map (featureOf g low high) (drop 1 (gridCells g)))) closingWord) ∙ ap (λ (l : List ℕ). l ++ closingWord) (sym features-first)))
       (wrote-more a (wrote-more b (wrote-more (listing-all x h w) z)))
+
+-- ---- one part by itself
+module _ (g : Grid) (low high : ℕ) {to : List ℕ} {at : ℕ} {to′ : List ℕ} {r : ℕ} {to″ : List ℕ} where
+  pub part-first : (x : ℕ) → x ≡ 0 → Wrote openingWord 0 to at to′ → Wrote (featureOf g low high (cellNo g x)) at to′ r to″ → Wrote (partOf g low high x) 0 to r to″
+  unfolding partOf
+  part-first x e a b = wrote-same (ap (λ (l : List ℕ). l ++ featureOf g low high (cellNo g x)) (sym (opened (eqb x 0) (eq-eqb x 0 e)))) (wrote-more a b)
+    where
+      opened : (t : Bool) → t ≡ true → cond t openingWord (44 ∷ []) ≡ openingWord
+      opened t q = ap (λ (b : Bool). cond b openingWord (44 ∷ [])) q
+
+  pub part-later : (x : ℕ) → (x ≡ 0 → ⊥) → Wrote (44 ∷ []) 0 to at to′ → Wrote (featureOf g low high (cellNo g x)) at to′ r to″ → Wrote (partOf g low high x) 0 to r to″
+  unfolding partOf
+  part-later x e a b = wrote-same (ap (λ (l : List ℕ). l ++ featureOf g low high (cellNo g x)) (sym (led (eqb x 0) (ne-eqb x 0 e)))) (wrote-more a b)
+    where
+      led : (t : Bool) → t ≡ false → cond t openingWord (44 ∷ []) ≡ 44 ∷ []
+      led t q = ap (λ (b : Bool). cond b openingWord (44 ∷ [])) q

@@ -8,7 +8,7 @@ ghost use Rattle.file_writing.specs.Wrote.{farthest, Wrote};
 ghost use Rattle.file_geojson.specs.Degrees.{fractionOf, degreesOf};
 ghost use Rattle.file_geojson.specs.File.{longitudeOf, latitudeOf, positionOf, ringCorners, ringOf, featureOf, collectionOf};
 ghost use Rattle.file_geojson.specs.Kind.{Mapped};
-ghost use Rattle.file_geojson.specs.Work.{farAngle};
+ghost use Rattle.file_geojson.specs.Work.{farAngle, partOf};
 use crate::number;
 use quotient::Grid;
 
@@ -120,6 +120,20 @@ fn feature(grid: Grid, low: u32, high: u32, x: usize, to: &mut [u8], at: usize) 
     );
     let end = cell_ring(grid, low, high, x, to, first);
     file_writing::word(to, end, b"]}}")
+}
+
+// Part x of the file, from the start of the byte list on: feature x after the opening, where it is the first, and else after its comma. For crates above, which print
+// the file part by part.
+pub fn part(grid: Grid, low: u32, high: u32, x: usize, to: &mut [u8]) -> usize
+    requires { ⌜ Mapped grid low high × (x < cellCount grid) ⌝ }
+    ensures { λ r. ⌜ Wrote (partOf grid low high x) 0 (now (to .entry)) r (now (to .exit)) ⌝ }
+{
+    if x == 0 {
+        let first = file_writing::word(to, 0, b"{\"type\":\"FeatureCollection\",\"features\":[");
+        return feature(grid, low, high, x, to, first);
+    }
+    let first = file_writing::byte(to, 0, b',');
+    feature(grid, low, high, x, to, first)
 }
 
 // The whole file, from the start of the byte list on.

@@ -39,8 +39,8 @@ pub(crate) fn latitudes_fit(south: i32, north: i32) -> bool
     south < north
 }
 
-// A latitude in whole degrees from the South Pole.
-pub(crate) fn from_pole(latitude: i32) -> u32
+// A latitude in whole degrees from the South Pole. For crates above.
+pub fn from_pole(latitude: i32) -> u32
     requires { ⌜ (ltZ latitude (negsuc 89) ≡ false) × (ltZ (pos 90) latitude ≡ false) ⌝ }
     ensures { λ r. ⌜ r ≡ fromPole latitude ⌝ }
 {

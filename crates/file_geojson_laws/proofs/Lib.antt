@@ -9,4 +9,5 @@ pub mod Every
 pub mod Areas
 pub mod Numbers
 pub mod Never
+pub mod Parts
 pub mod Figures

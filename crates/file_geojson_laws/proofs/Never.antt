@@ -114,3 +114,27 @@ module _ (g : Grid) (south north : ℤ) (n : ℕ) where
       countOf : Counted → ℕ
       countOf (Count k) = k
       countOf (Refused a b) = 0
+
+-- ---- where 12 is said for the bytes, nothing else is amiss
+module _ (g : Grid) (south north : ℤ) where
+  abbrev numberSaid : Counted → ℕ
+  numberSaid (Count k) = 0
+  numberSaid (Refused a b) = a
+
+  drawn-twelve : (given : ℕ) (r : Counted) (h : List ℕ) → numberSaid r ≡ 12 → Drawn g south north given r h → (bandGrid g ≡ true) × (latitudesFit south north ≡ true)
+  drawn-twelve given r h i (other x) = absurd (let w : ⊥ = omega arith in w)
+  drawn-twelve given r h i (beyond x y) = absurd (let w : ⊥ = omega arith in w)
+  drawn-twelve given r h i (short x y z) = (x, y)
+  drawn-twelve given r h i (drawn x y z) = (x, y)
+
+  comes-twelve : (have : Room) (given : ℕ) (r : Counted) (h : List ℕ) (u : Room) → numberSaid r ≡ 12 → checkOf g ≡ Answer.Fine → Roomy (gridNeed g) have →
+      Comes Refused [] (checkOf g) (gridNeed g) have (GeoEnd g south north given) r h u → (bandGrid g ≡ true) × (latitudesFit south north ≡ true)
+  comes-twelve have given r h u i fine room (refused {n} {p} x) = let z : _≡_ {A = ℕ} 0 1 = cc in absurd (omega arith)
+  comes-twelve have given r h u i fine room (cramped x y) = absurd (y room)
+  comes-twelve have given r h u i fine room (ended x y (crowded c)) = absurd (let w : ⊥ = omega arith in w)
+  comes-twelve have given r h u i fine room (ended x y (plain c d)) = drawn-twelve given r h i d
+
+  pub twelve-drawn : (r : Counted) (n p : ℕ) (bytes b keys k rows o spare q counts c : List ℕ) → GeoJson g south north r bytes b keys k rows o spare q counts c → r ≡ Refused n p → n ≡ 12 →
+      checkOf g ≡ Answer.Fine → Roomy (gridNeed g) (lengths keys rows spare counts) → (bandGrid g ≡ true) × (latitudesFit south north ≡ true)
+  twelve-drawn r n p bytes b keys k rows o spare q counts c w e f fine room =
+      comes-twelve (lengths keys rows spare counts) (length bytes) r (w .handed) (w .used) (ap numberSaid e ∙ f) fine room (w .comes)
