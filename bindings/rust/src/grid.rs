@@ -173,7 +173,7 @@ impl Grid {
     }
 
     /// How many numbers the words have; 0 where there are more words than the limit, which is refused before the working lists are tested.
-    fn corners(&self) -> usize {
+    pub(crate) fn corners(&self) -> usize {
         let boxes = self.axes.iter().fold(1u64, |n, a| n.saturating_mul(u64::from(a.cells)));
         let each = [0, 1, 2, 6].get(self.axes.len()).copied().unwrap_or(0);
         let words = boxes.saturating_mul(each);

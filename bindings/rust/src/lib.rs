@@ -19,6 +19,7 @@
 #![warn(missing_docs)]
 
 mod answer;
+mod chained;
 mod complex;
 mod grid;
 mod orientation;
@@ -27,6 +28,7 @@ mod refinement;
 mod seam;
 
 pub use answer::Refusal;
+pub use chained::ClassVertex;
 pub use complex::{border, cells, edges, facets, induced_orientation, ordering, orient_by, orientation, Facet, Ordered, Side};
 pub use orientation::{orientation_looks, Coherence};
 pub use grid::{Axis, EdgeLength, Gluing, GluedVertex, Grid, GridVertex, Triangulated};

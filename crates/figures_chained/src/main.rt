@@ -8,32 +8,33 @@ use quotient::Grid;
 use quotient::GridVertex;
 use refusal::Counted;
 
-fn digit(n: u32) -> u8 {
-    48 + (n % 10) as u8
-}
-
-fn count_of(a: Counted) -> u32 {
-    match a {
-        Counted::Count(n) => n,
-        Counted::Refused(n, _) => 900 + n % 100,
-    }
-}
-
-fn class_of(a: Classed) -> u32 {
-    match a {
-        Classed::At(v) => v.0 % 900,
-        Classed::Refused(n, _) => 900 + n % 100,
-    }
-}
-
 fn write_number(n: u32) {
-    let bytes = [digit(n / 100), digit(n / 10), digit(n), b' '];
-    io::write_all(1, &bytes);
+    io::write_all(1, b" ");
+    io::print_decimal(1, n as u64);
 }
 
 fn write_end() {
-    let bytes = [b'\n'];
-    io::write_all(1, &bytes);
+    io::write_all(1, b"\n");
+}
+
+fn write_refusal(number: u32, place: u32) {
+    io::write_all(1, b" refused");
+    write_number(number);
+    write_number(place);
+}
+
+fn write_counted(said: Counted) {
+    match said {
+        Counted::Count(n) => write_number(n),
+        Counted::Refused(number, place) => write_refusal(number, place),
+    }
+}
+
+fn write_classed(said: Classed) {
+    match said {
+        Classed::At(v) => write_number(v.0),
+        Classed::Refused(number, place) => write_refusal(number, place),
+    }
 }
 
 fn axis(count: u32, glue: Glue) -> Axis {
@@ -66,13 +67,22 @@ fn write_list(list: &[u32]) {
     write_end();
 }
 
-// The count of classes, the class of point 1, and the list of classes by each engine.
-fn show(g: Grid, to: &mut [u32], other: &mut [u32], room: &mut [u32]) {
-    write_number(count_of(calls::nvertices(g, room)));
-    write_number(class_of(calls::reduce(g, GridVertex(1), room)));
-    write_number(count_of(calls::classes(g, to, room)));
+// The count of classes, the class of point 1 and of a point past the last, and the list of classes by each engine.
+fn show(g: Grid, past: u32, to: &mut [u32], other: &mut [u32], room: &mut [u32]) {
+    io::write_all(1, b"nvertices");
+    write_counted(calls::nvertices(g, room));
+    io::write_all(1, b", point 1");
+    write_classed(calls::reduce(g, GridVertex(1), room));
+    io::write_all(1, b", past the last");
+    write_classed(calls::reduce(g, GridVertex(past), room));
+    write_end();
+    io::write_all(1, b"classes");
+    write_counted(calls::classes(g, to, room));
+    io::write_all(1, b":");
     write_list(to);
-    write_number(count_of(calls::closed_classes(g, other, room)));
+    io::write_all(1, b"closed_classes");
+    write_counted(calls::closed_classes(g, other, room));
+    io::write_all(1, b":");
     write_list(other);
 }
 
@@ -91,7 +101,7 @@ fn plane() {
         axis(3, Glue::Twisted(1)),
         none(),
     );
-    show(g, &mut to, &mut other, &mut room);
+    show(g, 16, &mut to, &mut other, &mut room);
 }
 
 // 3 x 2, axis 0 twisted over 1.
@@ -100,7 +110,7 @@ fn band() {
     let mut other = [777u32; 13];
     let mut room = [5u32; 36];
     let g = grid(2, axis(3, Glue::Twisted(2)), axis(2, Glue::Open), none());
-    show(g, &mut to, &mut other, &mut room);
+    show(g, 12, &mut to, &mut other, &mut room);
 }
 
 // 3 x 1 x 3, axis 0 twisted over 2, axis 2 over both others.
@@ -114,7 +124,7 @@ fn solid() {
         axis(1, Glue::Open),
         axis(3, Glue::Twisted(3)),
     );
-    show(g, &mut to, &mut other, &mut room);
+    show(g, 32, &mut to, &mut other, &mut room);
 }
 
 // 8 x 8, twisted over each other.
@@ -128,7 +138,7 @@ fn large_plane() {
         axis(8, Glue::Twisted(1)),
         none(),
     );
-    show(g, &mut to, &mut other, &mut room);
+    show(g, 81, &mut to, &mut other, &mut room);
 }
 
 // One number of room too few.
@@ -142,7 +152,7 @@ fn cramped() {
         axis(3, Glue::Twisted(1)),
         none(),
     );
-    show(g, &mut to, &mut other, &mut room);
+    show(g, 16, &mut to, &mut other, &mut room);
 }
 
 // One place too few in the lists.
@@ -156,7 +166,7 @@ fn short() {
         axis(3, Glue::Twisted(1)),
         none(),
     );
-    show(g, &mut to, &mut other, &mut room);
+    show(g, 4294967295, &mut to, &mut other, &mut room);
 }
 
 // An axis that reflects itself.
@@ -170,7 +180,7 @@ fn self_reflected() {
         axis(3, Glue::Twisted(1)),
         none(),
     );
-    show(g, &mut to, &mut other, &mut room);
+    show(g, 16, &mut to, &mut other, &mut room);
 }
 
 // A closed axis of two cells.
@@ -179,7 +189,7 @@ fn narrow() {
     let mut other = [777u32; 2];
     let mut room = [5u32; 54];
     let g = grid(1, axis(2, Glue::Periodic), none(), none());
-    show(g, &mut to, &mut other, &mut room);
+    show(g, 3, &mut to, &mut other, &mut room);
 }
 
 // No dimension.
@@ -188,7 +198,7 @@ fn flat() {
     let mut other = [777u32; 2];
     let mut room = [5u32; 54];
     let g = grid(0, none(), none(), none());
-    show(g, &mut to, &mut other, &mut room);
+    show(g, 1, &mut to, &mut other, &mut room);
 }
 
 // 4,097 classes.
@@ -197,7 +207,7 @@ fn long_line() {
     let mut other = [777u32; 2];
     let mut room = [5u32; 8192];
     let g = grid(1, axis(4096, Glue::Open), none(), none());
-    show(g, &mut to, &mut other, &mut room);
+    show(g, 4097, &mut to, &mut other, &mut room);
 }
 
 // 4,096 classes: too many for the lists.
@@ -206,7 +216,7 @@ fn long_ring() {
     let mut other = [777u32; 2];
     let mut room = [5u32; 8192];
     let g = grid(1, axis(4096, Glue::Periodic), none(), none());
-    show(g, &mut to, &mut other, &mut room);
+    show(g, 4097, &mut to, &mut other, &mut room);
 }
 
 fn main() {

@@ -6,36 +6,24 @@ use quotient::Glue;
 use quotient::Grid;
 use refusal::Counted;
 
-fn digit(n: u32) -> u8 {
-    48 + (n % 10) as u8
-}
-
 fn write_number(n: u32) {
-    let bytes = [
-        digit(n / 1000),
-        digit(n / 100),
-        digit(n / 10),
-        digit(n),
-        b' ',
-    ];
-    io::write_all(1, &bytes);
+    io::write_all(1, b" ");
+    io::print_decimal(1, n as u64);
 }
 
 fn write_end() {
-    let bytes = [b'\n'];
-    io::write_all(1, &bytes);
+    io::write_all(1, b"\n");
 }
 
-// A count is written behind a C, a refusal behind an R.
 fn write_said(said: Counted) {
     match said {
         Counted::Count(n) => {
-            io::write_all(1, b"C ");
+            io::write_all(1, b"count");
             write_number(n);
         }
-        Counted::Refused(n, place) => {
-            io::write_all(1, b"R ");
-            write_number(n);
+        Counted::Refused(number, place) => {
+            io::write_all(1, b"refused");
+            write_number(number);
             write_number(place);
         }
     }
@@ -119,7 +107,9 @@ fn show(
     counts: &mut [u32],
 ) {
     write_said(grid_chained_mesh::cell_words(g, words, keys, rows, spare, counts));
+    io::write_all(1, b"words");
     write_list(words);
+    io::write_all(1, b"room");
     write_ends(keys);
     write_ends(rows);
     write_ends(spare);

@@ -19,11 +19,12 @@ use Rattle.refusal.specs.Limits.{mostDimension, mostCells, mostVertices}
 use Rattle.refusal.specs.Call.{Call, refused, cramped, ended}
 use Rattle.quotient.specs.declared.Axis.{Axis}
 use Rattle.quotient.specs.declared.Grid.{Grid}
+use Rattle.quotient.specs.declared.Crossing.{Crossing}
 use Rattle.quotient.specs.declared.Reduced.{Reduced}
 use Rattle.quotient.specs.declared.Reduced.the-variants as Reduced
 use Rattle.quotient.specs.Fold.{product, factorial}
 use Rattle.quotient.specs.Shape.{axisOf, cellsOn, badReflection, shortAxis, cellCount, verticesOf, checkOf, nverticesOf, countedAfter}
-use Rattle.quotient.specs.Reduce.{vertexOf, reducedAfter, reduceOf}
+use Rattle.quotient.specs.Reduce.{vertexOf, crossingOf, reducedAfter, reduceOf}
 use Rattle.quotient.specs.Points.{pointsOf}
 use Rattle.quotient.specs.Chain.{Untangled}
 use Rattle.quotient.proofs.Laws.{lt-or-ge}
@@ -47,7 +48,7 @@ use Rattle.grid_chained.proofs.Square.{square-classes}
 
 -- the number that is said, and one more; 0 for a refusal
 abbrev saidVertex : Reduced → ℕ
-saidVertex (Reduced.At v) = suc (v .0)
+saidVertex (Reduced.At x) = suc (x .vertex .0)
 saidVertex (Reduced.Refused n p) = 0
 
 abbrev saidClass : Classed → ℕ
@@ -62,9 +63,9 @@ never : {n p : ℕ} → Answer.Fine ≡ Answer.Refused n p → ⊥
 never z = let w : _≡_ {A = ℕ} 1 0 = ap fineness z in omega arith
 
 -- where the first mode says x, the grid is taken and x is the point's vertex
-reduced-vertex : (a : Answer) (y x : ℕ) → reducedAfter a (Reduced.At (record { 0 = y })) ≡ Reduced.At (record { 0 = x }) → (a ≡ Answer.Fine) × (y ≡ x)
-reduced-vertex Answer.Fine y x e = let w : suc y ≡ suc x = ap saidVertex e in (refl, omega arith)
-reduced-vertex (Answer.Refused n p) y x e = let w : _≡_ {A = ℕ} 0 (suc x) = ap saidVertex e in absurd (let z : ⊥ = omega arith in z)
+reduced-vertex : (a : Answer) (z x : Crossing) → reducedAfter a (Reduced.At z) ≡ Reduced.At x → (a ≡ Answer.Fine) × (z .vertex .0 ≡ x .vertex .0)
+reduced-vertex Answer.Fine z x e = let w : suc (z .vertex .0) ≡ suc (x .vertex .0) = ap saidVertex e in (refl, omega arith)
+reduced-vertex (Answer.Refused n p) z x e = let w : _≡_ {A = ℕ} 0 (suc (x .vertex .0)) = ap saidVertex e in absurd (let o : ⊥ = omega arith in o)
 
 -- where this mode says y of a grid point, y is the number of its class
 module _ (g : Grid) (v y : ℕ) (room room′ : List ℕ) (h : v < pointsOf g) (c : ReducedTo g v (Classed.At (record { 0 = y })) room room′) where
@@ -130,15 +131,16 @@ module _ (g : Grid) where
 
 -- ---- both modes
 module _ (g : Grid) (untangled : Untangled g) where
-  points-agree : (v x y : ℕ) (room room′ : List ℕ) → v < pointsOf g → reduceOf g (record { 0 = v }) ≡ Reduced.At (record { 0 = x }) →
-      ReducedTo g v (Classed.At (record { 0 = y })) room room′ → (classOfVertex g (classOf g) x ≡ y) × (vertexOfClass g (classOf g) y ≡ x)
+  points-agree : (v y : ℕ) (x : Crossing) (room room′ : List ℕ) → v < pointsOf g → reduceOf g (record { 0 = v }) ≡ Reduced.At x →
+      ReducedTo g v (Classed.At (record { 0 = y })) room room′ → (classOfVertex g (classOf g) (x .vertex .0) ≡ y) × (vertexOfClass g (classOf g) y ≡ x .vertex .0)
   unfolding reduceOf
-  points-agree v x y room room′ h e c =
-      let w = reduced-vertex (checkOf g) (vertexOf g v) x e in
+  points-agree v y x room room′ h e c =
+      let w = reduced-vertex (checkOf g) (crossingOf g v) x e in
       let q : classOf g v ≡ y = reduced-class g v y room room′ h c in
-      let fine : checkOf g ≡ Answer.Fine = w .0 in (
-        ap (classOfVertex g (classOf g)) (sym (w .1)) ∙ class-is g fine untangled (classOf g) (classCount g) (class-numbers g) v h ∙ q,
-        ap (vertexOfClass g (classOf g)) (sym q) ∙ vertex-is g fine untangled (classOf g) (classCount g) (class-numbers g) v h ∙ w .1,
+      let fine : checkOf g ≡ Answer.Fine = w .0 in
+      let u : vertexOf g v ≡ x .vertex .0 = w .1 in (
+        ap (classOfVertex g (classOf g)) (sym u) ∙ class-is g fine untangled (classOf g) (classCount g) (class-numbers g) v h ∙ q,
+        ap (vertexOfClass g (classOf g)) (sym q) ∙ vertex-is g fine untangled (classOf g) (classCount g) (class-numbers g) v h ∙ u,
       )
 
   counts-agree : (r : Counted) (room room′ : List ℕ) → needOf g ≤ length room → CountedTo g r room room′ → r ≡ nverticesOf g

@@ -10,6 +10,7 @@ use Rattle.refusal.specs.declared.Counted.the-variants as Counted
 use Rattle.quotient.specs.declared.Glue.the-variants.{Twisted}
 use Rattle.quotient.specs.declared.Axis.{Axis}
 use Rattle.quotient.specs.declared.Grid.{Grid}
+use Rattle.quotient.specs.declared.Crossing.{Crossing}
 use Rattle.quotient.specs.declared.Reduced.the-variants as Reduced
 use Rattle.quotient.specs.Shape.{axisOf, verticesOf, nverticesOf}
 use Rattle.quotient.specs.Reduce.{vertexOf, reduceOf}
@@ -39,8 +40,8 @@ pub record BothModes (g : Grid) : Type 0 where
   pub to : ℕ → ℕ
   pub from : ℕ → ℕ
   -- where the first mode's `reduce` says x of a grid point and this mode's says y, y is x renamed and x is y renamed back
-  pub point : (v x y : ℕ) (room room′ : List ℕ) → v < pointsOf g → reduceOf g (record { 0 = v }) ≡ Reduced.At (record { 0 = x }) →
-      ReducedTo g v (Classed.At (record { 0 = y })) room room′ → (to x ≡ y) × (from y ≡ x)
+  pub point : (v y : ℕ) (x : Crossing) (room room′ : List ℕ) → v < pointsOf g → reduceOf g (record { 0 = v }) ≡ Reduced.At x →
+      ReducedTo g v (Classed.At (record { 0 = y })) room room′ → (to (x .vertex .0) ≡ y) × (from y ≡ x .vertex .0)
   -- with room `nvertices` says the same in both modes
   pub count : (r : Counted) (room room′ : List ℕ) → needOf g ≤ length room → CountedTo g r room room′ → r ≡ nverticesOf g
 

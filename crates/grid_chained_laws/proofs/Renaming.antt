@@ -1,6 +1,6 @@
 -- A renaming that keeps the numbers of some words apart takes a facet in three cells to a facet in three cells, though the cells are sorted anew. Assumes nothing.
 use mathlib.Core.Path.{_≡_, refl, sym, ap, subst, _∙_}
-use mathlib.Core.Bool.{Bool, true, false, false≢true}
+use mathlib.Core.Bool.{Bool, true, false, _||_, false≢true}
 use mathlib.Core.Logic.{inl, inr}
 use mathlib.Core.List.{List, [], _∷_, map}
 use Prim.Native.Nat.{ℕ, zero, suc, _≤_, _<_}
@@ -9,7 +9,7 @@ use native.Mathlib.Omega.{arith}
 use lib.Dec.{eqb}
 use lib.ListN.{length, getD, length-map}
 use borrow.Author.Tests.{eqb-false, ne-eqb}
-use Rattle.lists.specs.Words.{either, among, hasRepeat}
+use Rattle.lists.specs.Words.{among, hasRepeat}
 use Rattle.lists.proofs.Members.{Mem, Mem-of, Mem-at}
 use Rattle.multiindex.specs.Sort.{sortWord}
 use Rattle.multiindex.proofs.SortLaws.{sort-length}
@@ -42,14 +42,12 @@ in-from f v (x ∷ ws) (inl e) = (x, inl refl, e)
 in-from f v (x ∷ ws) (inr m) = let u = in-from f v ws m in (u .0, inr (u .1), u .2)
 
 -- ---- a renaming that keeps numbers apart makes no repeat
-both-false : (a b : Bool) → either a b ≡ false → (a ≡ false) × (b ≡ false)
-unfolding either
+both-false : (a b : Bool) → a || b ≡ false → (a ≡ false) × (b ≡ false)
 both-false true b e = absurd (false≢true (sym e))
 both-false false b e = (refl, e)
 
-neither : (a b : Bool) → a ≡ false → b ≡ false → either a b ≡ false
-unfolding either
-neither a b e h = rw (e, h)
+neither : (a b : Bool) → a ≡ false → b ≡ false → a || b ≡ false
+na || b e h = rw (e, h)
 
 module _ (N : ℕ) (f : ℕ → ℕ) (one : (a b : ℕ) → a < N → b < N → f a ≡ f b → a ≡ b) where
   among-map : (a : ℕ) (w : List ℕ) → a < N → ((b : ℕ) → Mem b w → b < N) → among a w ≡ false → among (f a) (map f w) ≡ false

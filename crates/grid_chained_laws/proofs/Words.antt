@@ -10,15 +10,16 @@ use native.Mathlib.Omega.{arith}
 use lib.ListN.{length, getD, length-map}
 use lib.Seq.{ext-getD}
 use Rattle.refusal.specs.declared.Answer.the-variants.{Fine}
-use Rattle.lists.specs.Words.{hasRepeat, wordAt}
+use Rattle.lists.specs.Words.{hasRepeat}
+use Rattle.lists.specs.Rows.{row}
 use Rattle.lists.specs.Rows.{cut, rows}
 use Rattle.lists.proofs.Laws.{map-at}
 use Rattle.lists.proofs.Rows.{cut-at}
 use Rattle.lists.proofs.Flat.{each-long, cut-flat}
 use Rattle.lists.proofs.Members.{Mem, Mem-at}
 use Rattle.lists.proofs.Words.{first-none}
-use Rattle.multiindex.specs.Permutation.{tab}
-use Rattle.refine_lattice.proofs.Tab.{length-tab, getD-tab, map-tab, tab-ext}
+use Rattle.lists.specs.Tables.{tab}
+use Rattle.lists.proofs.Tables.{length-tab, getD-tab, map-tab, tab-ext}
 use Rattle.complex.specs.Cells.{inOrder}
 use Rattle.complex.specs.Cells as Complex
 use Rattle.complex.specs.Facets.{Crowded}
@@ -82,7 +83,7 @@ module _ (g : Grid) (fine : checkOf g ≡ Fine) (c : ℕ → ℕ) where
   unfolding Complex.cellsOf
   cells-are = ap (λ (n : ℕ). inOrder n (rows n (flatBy g c))) (add-one (g .d)) ∙ ap (inOrder (suc (g .d))) rows-are
 
-  pub row-is : (x : ℕ) → x < cellCount g → wordAt (suc (g .d)) (flatBy g c) x ≡ wordBy x
+  pub row-is : (x : ℕ) → x < cellCount g → row (flatBy g c) (suc (g .d)) x ≡ wordBy x
   row-is x h =
       sym (cut-at (suc (g .d)) (length (flatBy g c) / suc (g .d)) (flatBy g c) x (omega (arith, by-count)))
       ∙ ap (λ (l : List Word). getD l x []) (rows-are ∙ words-tab) ∙ getD-tab (cellCount g) wordBy x [] h
@@ -159,8 +160,8 @@ module _ (g : Grid) (fine : checkOf g ≡ Fine) (untangled : Untangled g) (c : �
   -- 4 is never given
   pub never-four : firstTwice g (flatBy g c) ≡ cellCount g
   never-four =
-      first-none (λ x. hasRepeat (wordAt (g .d + 1) (flatBy g c) x)) (cellCount g)
-      (λ x h. subst (λ (n : ℕ). hasRepeat (wordAt n (flatBy g c) x) ≡ false) (sym (add-one (g .d))) (subst (λ (w : List ℕ). hasRepeat w ≡ false) (sym (row-is g fine c x h)) (single-class x h)))
+      first-none (λ x. hasRepeat (row (flatBy g c) (g .d + 1) x)) (cellCount g)
+      (λ x h. subst (λ (n : ℕ). hasRepeat (row (flatBy g c) n x) ≡ false) (sym (add-one (g .d))) (subst (λ (w : List ℕ). hasRepeat w ≡ false) (sym (row-is g fine c x h)) (single-class x h)))
 
   -- a facet in three cells in one mode is one in the other; and so 7 is never given
   pub crowd-to : Crowded (g .d) (gluedCells g) → Crowd g (flatBy g c)

@@ -18,14 +18,14 @@ use Rattle.refusal.specs.Lent.{Roomy}
 use Rattle.refusal.specs.Call.{Comes, ended}
 use Rattle.refusal.proofs.Determined.{comes-one}
 use Rattle.refusal.specs.Limits.{mostVertices}
-use Rattle.lists.specs.Words.{either, among, hasRepeat, foundAt, firstWhere}
+use Rattle.lists.specs.Words.{among, hasRepeat, foundAt, firstWhere}
 use Rattle.lists.specs.Rows.{cut}
-use Rattle.multiindex.specs.Permutation.{tab}
+use Rattle.lists.specs.Tables.{tab}
 use Rattle.multiindex.specs.Sort.{insertBy, insert, sortWord}
 use Rattle.complex.specs.Cells.{inOrder, place, placed, comesBefore, decides}
 use Rattle.complex.specs.Cells as Complex
 use Rattle.complex.specs.Facets.{cellAt, facetAt, FacetOf}
-use Rattle.refine_lattice.proofs.Tab.{length-tab, getD-tab}
+use Rattle.lists.proofs.Tables.{length-tab, getD-tab}
 use Rattle.quotient.specs.declared.Glue.{Glue}
 use Rattle.quotient.specs.declared.Glue.the-variants.{Open, Periodic, Twisted}
 use Rattle.quotient.specs.declared.Axis.{Axis}
@@ -106,7 +106,7 @@ abbrev solid : Grid
 solid = grid 3 (axis 3 (Twisted 4)) (axis 1 Open) (axis 3 (Twisted 3))
 
 pub solid-twice : firstTwice solid (flatBy solid (classOf solid)) ≡ 1
-unfolding gridCells met inOrder place placed comesBefore decides sortWord insert insertBy fromDigits product restAt axisOf leastBelow count either among hasRepeat foundAt firstWhere
+unfolding gridCells met inOrder place placed comesBefore decides sortWord insert insertBy fromDigits product restAt axisOf leastBelow count among hasRepeat foundAt firstWhere
 solid-twice = refl
 
 -- 3 x 3, twisted over each other: 17 cells for 18 words, and the facet 2, 7 in cells 4, 5 and 9
@@ -155,7 +155,7 @@ unfolding axisOf product restAt fromDigits leastBelow count
 plane-few = refl
 
 plane-apart : firstTwice plane (flatBy plane (classOf plane)) ≡ 18
-unfolding gridCells met inOrder place placed comesBefore decides sortWord insert insertBy fromDigits product restAt axisOf leastBelow count either among hasRepeat foundAt firstWhere
+unfolding gridCells met inOrder place placed comesBefore decides sortWord insert insertBy fromDigits product restAt axisOf leastBelow count among hasRepeat foundAt firstWhere
 plane-apart = refl
 
 plane-eighteen : cellCount plane ≡ 18

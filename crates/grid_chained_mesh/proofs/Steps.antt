@@ -25,7 +25,7 @@ use Rattle.complex.specs.Room.{keyRoom}
 use Rattle.complex.specs.Facets.{Crowded, slots}
 use Rattle.complex_cells.specs.WorkMade.{Made}
 use Rattle.complex_mates.specs.Table.{MateTable, Meeting}
-use Rattle.orientation_signs.proofs.Linking.{not-crowded}
+use Rattle.complex_mates.proofs.Mated.{not-crowded}
 use Rattle.quotient.specs.declared.Grid.{Grid}
 use Rattle.quotient.specs.Shape.{checkOf, cellCount}
 use Rattle.quotient.specs.Points.{pointsOf}

@@ -15,7 +15,8 @@ use Rattle.refusal.specs.declared.Answer.the-variants.{Fine, Refused}
 use Rattle.refusal.specs.Refuse.{refuse}
 use Rattle.refusal.specs.Table.{badDimension, raggedWords, tooManyCells, vertexTwice}
 use Rattle.refusal.specs.Limits.{mostDimension, mostCells, mostVertices}
-use Rattle.lists.specs.Words.{among, hasRepeat, largestOf, wordAt}
+use Rattle.lists.specs.Words.{among, hasRepeat, largestOf}
+use Rattle.lists.specs.Rows.{row}
 use Rattle.lists.proofs.Members.{All, All-of}
 use Rattle.complex.specs.Check.{firstRepeat, answerOf, Passed}
 use Rattle.complex.proofs.Fine.{first-full, passed-fine}
@@ -63,7 +64,7 @@ module _ (g : Grid) (fine : checkOf g ≡ Fine) (c : ℕ → ℕ) (m : ℕ) (k :
         some-words = λ e. omega (arith, some-number, e);
         whole = ap (λ (n : ℕ). n % (g .d + 1)) (sym same-long) ∙ p .whole;
         few = subst (λ (n : ℕ). n / (g .d + 1) ≤ mostCells) same-long (p .few);
-        apart = λ i l. first-full (λ x. hasRepeat (wordAt (g .d + 1) (flatBy g c) x)) (cellCount g) h i (subst (λ (n : ℕ). i < n) by-count l);
+        apart = λ i l. first-full (λ x. hasRepeat (row (flatBy g c) (g .d + 1) x)) (cellCount g) h i (subst (λ (n : ℕ). i < n) by-count l);
         low = (let u : largestOf (flatBy g c) < m = under in omega arith);
         used = λ v l. classes-all g fine c m k v (let u : largestOf (flatBy g c) < m = under in omega arith);
       }

@@ -14,8 +14,8 @@ use Rattle.lists.specs.Rows.{flat}
 use Rattle.lists.specs.Words.{among}
 use Rattle.lists.proofs.Laws.{map-at}
 use Rattle.lists.proofs.Members.{Mem, Mem-of}
-use Rattle.multiindex.specs.Permutation.{tab}
-use Rattle.refine_lattice.proofs.Tab.{length-tab, getD-tab, map-tab, tab-ext}
+use Rattle.lists.specs.Tables.{tab}
+use Rattle.lists.proofs.Tables.{length-tab, getD-tab, map-tab, tab-ext}
 use Rattle.quotient.specs.declared.Grid.{Grid}
 use Rattle.quotient.specs.Shape.{cellsOn, checkOf, cellCount}
 use Rattle.quotient.specs.Reduce.{coordAt}
