@@ -60,7 +60,7 @@ impl Grid {
         self.classed(raw::planner_chained_classes)
     }
 
-    /// The same list by the plain engine, which closes the relation step by step; it is proved equal and slower.
+    /// The same list by the plain engine, which closes the relation step by step; the two are proved equal.
     ///
     /// ```
     /// use planner::{Axis, Gluing, Grid};

@@ -67,8 +67,8 @@ fn write_list(list: &[u32]) {
     write_end();
 }
 
-// The count of classes, the class of point 1 and of a point past the last, and the list of classes by each engine.
-fn show(g: Grid, past: u32, to: &mut [u32], other: &mut [u32], room: &mut [u32]) {
+// The count of classes, the class of point 1 and of a point past the last.
+fn ask(g: Grid, past: u32, room: &mut [u32]) {
     io::write_all(1, b"nvertices");
     write_counted(calls::nvertices(g, room));
     io::write_all(1, b", point 1");
@@ -76,6 +76,10 @@ fn show(g: Grid, past: u32, to: &mut [u32], other: &mut [u32], room: &mut [u32])
     io::write_all(1, b", past the last");
     write_classed(calls::reduce(g, GridVertex(past), room));
     write_end();
+}
+
+// The list of classes by each engine.
+fn list(g: Grid, to: &mut [u32], other: &mut [u32], room: &mut [u32]) {
     io::write_all(1, b"classes");
     write_counted(calls::classes(g, to, room));
     io::write_all(1, b":");
@@ -84,6 +88,11 @@ fn show(g: Grid, past: u32, to: &mut [u32], other: &mut [u32], room: &mut [u32])
     write_counted(calls::closed_classes(g, other, room));
     io::write_all(1, b":");
     write_list(other);
+}
+
+fn show(g: Grid, past: u32, to: &mut [u32], other: &mut [u32], room: &mut [u32]) {
+    ask(g, past, room);
+    list(g, to, other, room);
 }
 
 fn none() -> Axis {

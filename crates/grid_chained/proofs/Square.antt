@@ -182,7 +182,7 @@ neither true b = refl
 neither false b = refl
 
 module _ (g : Grid) (j : ℕ) (flat : g .d ≡ 2) (first : axisOf g 0 ≡ twistedAxis (suc j) 2) (second : axisOf g 1 ≡ twistedAxis (suc j) 1) where
-  abbrev side : ℕ
+  abbrev pub side : ℕ
   side = suc (suc j)
 
   cells-0 : cellsOn g 0 ≡ suc j
@@ -191,11 +191,11 @@ module _ (g : Grid) (j : ℕ) (flat : g .d ≡ 2) (first : axisOf g 0 ≡ twiste
   cells-1 : cellsOn g 1 ≡ suc j
   cells-1 = ap (λ (a : Axis). a .count) second
 
-  points-are : pointsOf g ≡ side * side
+  pub points-are : pointsOf g ≡ side * side
   unfolding product axisOf
   points-are = rw (flat, cells-0, cells-1, add-one (suc j)) (ap (λ (x : ℕ). x * side) (one-mul side))
 
-  point-is : (c : ℕ → ℕ) → pointOf g c ≡ side * c 1 + c 0
+  pub point-is : (c : ℕ → ℕ) → pointOf g c ≡ side * c 1 + c 0
   unfolding fromDigits product axisOf
   point-is c =
       rw (flat, cells-0, add-one (suc j))
@@ -251,10 +251,10 @@ module _ (g : Grid) (j : ℕ) (flat : g .d ≡ 2) (first : axisOf g 0 ≡ twiste
         let u : side * side ≡ side * suc j + side = mul-suc side (suc j) in
         omega arith
 
-    abbrev mirror : ℕ
+    abbrev pub mirror : ℕ
     mirror = side * side - suc p
 
-    across-0 : acrossOf g p 0 ≡ mirror
+    pub across-0 : acrossOf g p 0 ≡ mirror
     across-0 = let e : acrossOf g p 0 + p + 1 ≡ side * side = opposite 0 turns-00 turns-01 in omega arith
 
     across-1 : acrossOf g p 1 ≡ mirror
@@ -266,7 +266,7 @@ module _ (g : Grid) (j : ℕ) (flat : g .d ≡ 2) (first : axisOf g 0 ≡ twiste
     mirror-end : (b : ℕ) → b < g .d → endAt g mirror b ≡ endAt g p b
     mirror-end b l = subst (λ (z : ℕ). endAt g z b ≡ endAt g p b) across-0 (across-end g p 0 b l)
 
-    abbrev border : Bool
+    abbrev pub border : Bool
     border = endAt g p 0 || endAt g p 1
 
     below-side : p < side * side
@@ -276,7 +276,7 @@ module _ (g : Grid) (j : ℕ) (flat : g .d ≡ 2) (first : axisOf g 0 ≡ twiste
   mirror-back : (p : ℕ) (h : p < pointsOf g) → mirror (mirror p h) (mirror-lt p h) ≡ p
   mirror-back p h = let l : p < side * side = below-side p h in omega arith
 
-  least-is : (p : ℕ) (h : p < pointsOf g) → leastOf g p ≡ cond (border p h) (min p (mirror p h)) p
+  pub least-is : (p : ℕ) (h : p < pointsOf g) → leastOf g p ≡ cond (border p h) (min p (mirror p h)) p
   unfolding leastBelow
   least-is p h =
       ap (λ (k : ℕ). leastBelow g k p) flat
@@ -288,10 +288,10 @@ module _ (g : Grid) (j : ℕ) (flat : g .d ≡ 2) (first : axisOf g 0 ≡ twiste
   no-half : (x : ℕ) → isEnd x (suc j) ≡ true → x ≡ suc j - x → ⊥
   no-half x e q = ⊎-elim (λ (z : x ≡ 0). omega arith) (λ (z : x ≡ suc j). omega arith) (of-end x (suc j) e)
 
-  end-is-0 : (p : ℕ) → endAt g p 0 ≡ isEnd (coordAt g p 0) (suc j)
+  pub end-is-0 : (p : ℕ) → endAt g p 0 ≡ isEnd (coordAt g p 0) (suc j)
   end-is-0 p = rw (shut-0, cells-0)
 
-  end-is-1 : (p : ℕ) → endAt g p 1 ≡ isEnd (coordAt g p 1) (suc j)
+  pub end-is-1 : (p : ℕ) → endAt g p 1 ≡ isEnd (coordAt g p 1) (suc j)
   end-is-1 p = rw (shut-1, cells-1)
 
   half-0 : (p : ℕ) (h : p < pointsOf g) → p ≡ mirror p h → coordAt g p 0 ≡ suc j - coordAt g p 0

@@ -47,7 +47,7 @@ both-false true b e = absurd (false≢true (sym e))
 both-false false b e = (refl, e)
 
 neither : (a b : Bool) → a ≡ false → b ≡ false → a || b ≡ false
-na || b e h = rw (e, h)
+neither a b e h = rw (e, h)
 
 module _ (N : ℕ) (f : ℕ → ℕ) (one : (a b : ℕ) → a < N → b < N → f a ≡ f b → a ≡ b) where
   among-map : (a : ℕ) (w : List ℕ) → a < N → ((b : ℕ) → Mem b w → b < N) → among a w ≡ false → among (f a) (map f w) ≡ false

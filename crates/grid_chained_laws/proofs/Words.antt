@@ -50,10 +50,10 @@ use Rattle.grid_chained_laws.proofs.Renaming.{repeat-map, crowd-renamed
 -- ---- words under any numbering of the points
 module _ (g : Grid) (fine : checkOf g ≡ Fine) (c : ℕ → ℕ) where
   -- the word of cell x
-  abbrev wordBy : ℕ → List ℕ
+  abbrev pub wordBy : ℕ → List ℕ
   wordBy x = map c (cellNo g x)
 
-  words-tab : wordsBy g c ≡ tab (cellCount g) wordBy
+  pub words-tab : wordsBy g c ≡ tab (cellCount g) wordBy
   words-tab = ap (map (map c)) (listed g fine) ∙ map-tab (map c) (cellCount g) (cellNo g)
 
   words-many : length (wordsBy g c) ≡ cellCount g
