@@ -18,7 +18,9 @@ same-length : tie.Need-same-length
 same-length c = search needs
 
 returns : tie.Need-returns
-returns c = swath-as _ _ _ _ _ (c .answer .ensures) (c .before .before .before .swath .ensures) (c .before .before .before .before .before .plain .ensures)
+returns c =
+    let s = c .before .before .before .before .before .before .before .before .before in
+    swath-as _ _ (s .args .points .now) (s .args .glued .now) _ (c .answer .ensures) (c .before .before .before .swath .ensures) (c .before .before .before .before .before .plain .ensures)
 
 pub planner-swath-spec : {M : Type 1} → statement M
 planner-swath-spec = tie.close (tie.spec plain-requires swath-requires answer-requires same-length returns)
