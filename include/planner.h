@@ -259,7 +259,7 @@ uint64_t planner_write_mesh(
     uint32_t *keys, size_t keys_len, uint32_t *rows, size_t rows_len, uint32_t *spare, size_t spare_len, uint32_t *counts, size_t counts_len);
 
 /* Reads a file and returns how many cells it has; shape gets the dimension and how many births and pairs there are. For any file words of bytes_len / 4, births of
- * bytes_len / 8 and pairs of bytes_len / 3 numbers are long enough, and working lists of 3 * (bytes_len / 4) and three times bytes_len / 4; no accepted file has more than
+ * bytes_len / 8 and pairs of bytes_len / 3 numbers are long enough, keys of 3 * (bytes_len / 4) and rows, spare and counts of bytes_len / 4; no accepted file has more than
  * 16,384 numbers in words, 12,288 in births and 524,288 in pairs. Refused: 20, 21, 22 as the bytes come, then 1, 2, 3, 4, 6, 5, 12 (working lists), 7, 12 (a result list). A
  * refusal leaves shape as it was. The call takes 64 KB of stack. */
 uint64_t planner_read_mesh(
