@@ -198,9 +198,17 @@ def ask_write(j, d, words, births, pairs, data=None):
 # ---- inputs
 
 
+def accepted(rnd, most=24):
+    """a cell list to which none of 1 to 6 applies"""
+    while True:
+        d, ws = inputs.random_list(rnd, most)
+        if m.check_cells(d, ws) is None:
+            return d, ws
+
+
 def made_up(rnd):
     """words in the order of their cells, the last of their vertices born of the others in any way"""
-    d, ws = inputs.accepted_list(rnd)
+    d, ws = accepted(rnd)
     seen = {cell(w): w for w in m.chunks(ws, d + 1)}
     words = [seen[c] for c in sorted(seen)]
     vertices = max(ws) + 1
@@ -216,7 +224,7 @@ def made_up(rnd):
 
 def refined(rnd):
     """what a refinement hands out"""
-    d, ws = inputs.accepted_list(rnd, 8)
+    d, ws = accepted(rnd, 8)
     cells = m.cells_of(d, ws)
     r = rnd.choice((2, 2, 2, 3, 4)) if d > 1 else rnd.choice((2, 3, 5, 64))
     got = m.Refined(d, cells, cells, r)

@@ -8,13 +8,14 @@ use native.Mathlib.Omega.{arith}
 use lib.ListN.{length}
 use lib.Dec.{eqb, ltb}
 use borrow.Author.Tests.{eqb-false}
-use Rattle.refine_lattice.specs.Lattice.{tab, dot}
-use Rattle.refine_lattice.specs.Complex.{sum, weigh, occurrences}
+use Rattle.lists.specs.Tables.{tab, sum}
+use Rattle.lists.proofs.Tables.{length-tab}
+use Rattle.lists.proofs.Sums.{sum-ext}
+use Rattle.refine_lattice.specs.Lattice.{dot}
+use Rattle.refine_lattice.specs.Complex.{weigh, occurrences}
 use Rattle.refine_lattice.specs.Children.{gather, pick}
 use Rattle.refine_lattice.specs.Pattern.{patternOf}
 use Rattle.refine_lattice.specs.Refine.{visits, positives, place, births-from, births, vertices, In}
-use Rattle.refine_lattice.proofs.Tab.{length-tab}
-use Rattle.refine_lattice.proofs.Sums.{sum-ext}
 use Rattle.refine_lattice.proofs.Shares.{pull}
 use Rattle.refine_lattice.proofs.Enumerate.{of-gather}
 use Rattle.refine_lattice.proofs.Pattern.{added, row-long, row-sum, visits-pattern}

@@ -12,10 +12,11 @@ use Rattle.lists.specs.Rows.{flat}
 use Rattle.multiindex.specs.Sort.{sortWord}
 use Rattle.multiindex.proofs.SortLaws.{sort-length}
 use Rattle.complex_cells.proofs.Order.{order-rising}
-use Rattle.refine_lattice.specs.Complex.{same, occurrences}
+use Rattle.lists.specs.Words.{same}
+use Rattle.lists.proofs.Words.{same-yes, same-no}
+use Rattle.refine_lattice.specs.Complex.{occurrences}
 use Rattle.refine_lattice.specs.Conform.{Used, Sound}
 use Rattle.refine_lattice.specs.Refine.{words, vertices, births, In}
-use Rattle.refine_lattice.proofs.Sums.{same-yes, same-no}
 use Rattle.refine_lattice.proofs.Count.{Nodup}
 use Rattle.refine_results.specs.Refined.{refinedCells, refinedWords}
 use Rattle.refine_laws.proofs.Again.{visited, refined-listed, to-sorted, of-sorted}

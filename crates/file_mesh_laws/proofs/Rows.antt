@@ -6,14 +6,15 @@ use native.Mathlib.Omega.{arith}
 use lib.ListN.{length, getD, take, drop}
 use lib.Seq.{take-at, drop-at}
 use Rattle.lists.specs.Rows.{flat}
-use Rattle.refine_lattice.specs.Lattice.{tab}
+use Rattle.lists.specs.Words.{none}
+use Rattle.lists.specs.Tables.{tab}
+use Rattle.lists.proofs.Tables.{length-tab}
 use Rattle.refine_lattice.specs.Complex.{weigh}
 use Rattle.refine_lattice.specs.Pattern.{patternOf}
 use Rattle.refine_lattice.specs.Refine.{visits, positives, births, vertices, In}
-use Rattle.refine_lattice.proofs.Tab.{length-tab}
 use Rattle.refine_lattice.proofs.Enumerate.{of-gather}
 use Rattle.refine_lattice.proofs.Pattern.{visits-pattern}
-use Rattle.refine_births.specs.Support.{none, supporters, shares, padded}
+use Rattle.refine_births.specs.Support.{supporters, shares, padded}
 use Rattle.refine_births.specs.Promise.{birthVertices, birthWeights}
 use Rattle.refine_births.proofs.Points.{positives-most}
 use Rattle.refine_results.specs.Results.{Results, resultsOf}
