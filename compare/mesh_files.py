@@ -387,7 +387,8 @@ def run(library, seed, count):
 
 # ---- the stored sample
 
-MOST = 512                    # bytes of a file that `figures_mesh_file` reads, and numbers of each of its lists
+MOST = 512                    # bytes of a file that `figures_mesh_file` reads
+ALL = 65536                   # bytes of its input
 
 
 def said(data):
@@ -417,6 +418,7 @@ def sample(seed, count, folder):
         if 0 < len(data) <= MOST:
             files.append(data)
             count -= 1
+    assert sum(2 * len(data) + 1 for data in files) <= ALL, "too many files"
     with open(os.path.join(folder, "stdin"), "w") as requests, open(os.path.join(folder, "stdout"), "w") as answers:
         for data in files:
             requests.write(data.hex() + "\n")
