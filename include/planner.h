@@ -58,7 +58,10 @@ enum {
     PLANNER_NO_SIGNS = 13,          /* no coherent signs exist */
     PLANNER_BAD_SIGNS = 14,         /* sign list not one +1 or -1 for each cell */
     PLANNER_TWO_LENGTHS = 15,       /* some grid edge gets two lengths */
-    PLANNER_BAD_ORDER = 16          /* order words not one for each cell, no more */
+    PLANNER_BAD_ORDER = 16,         /* order words not one for each cell, no more */
+    PLANNER_FILE_ENDS = 20,         /* a mesh file ends inside a record, or before the record that ends it */
+    PLANNER_UNKNOWN_KIND = 21,      /* a mesh file has a record of an unknown kind */
+    PLANNER_BAD_FILE = 22           /* a mesh file has a wrong length, order, count, field or birth, or bytes after its end */
 };
 
 /* ---- grids */
@@ -241,6 +244,31 @@ uint64_t planner_child_of(
 uint64_t planner_birth_of(
     uint32_t d, uint32_t number, const uint32_t *birth_vertices, size_t birth_vertices_len, const uint32_t *birth_weights, size_t birth_weights_len,
     const double *birth_shares, size_t birth_shares_len, uint32_t vertices[4], uint32_t weights[4], double shares[4]);
+
+/* ---- mesh files: words and births as bytes, to be carried home and read again
+ *
+ * A file is records, all numbers little-endian: four bytes that count what follows them, two bytes of kind, and then
+ *   kind 1   the dimension and the number of cells, two bytes each: the first record
+ *   kind 2   one cell's word, four bytes a vertex: in the order of their cells (colex)
+ *   kind 3   one birth: its number in four bytes, R in two, the number of its pairs in two, and for each pair a vertex in four and a weight in two: by number
+ *   kind 4   nothing: the last record
+ * A birth has two or more pairs, vertices rising and below the first birth's number, positive weights with sum R, one R from 2 to 64 in the whole file; birth numbers run on
+ * to the last vertex. births has three numbers for each birth (number, R, how many pairs), pairs two for each pair (vertex, weight), those of one birth after those of the
+ * birth before it. Working lists of both calls, n corners of the words: keys max(1, d) * n, rows n, spare n, counts n. */
+
+/* Writes the file and returns how many bytes it has: 16 + (10 + 4 * d) * cells + 14 * births + 6 * pairs. Refused: 1, 2, 3, 4, 6, 5, 12 (working lists), 7, 22 (the lists
+ * break the rules of a file), 12 (bytes). */
+uint64_t planner_write_mesh(
+    uint32_t d, const uint32_t *words, size_t n, const uint32_t *births, size_t births_len, const uint32_t *pairs, size_t pairs_len, uint8_t *bytes, size_t bytes_len,
+    uint32_t *keys, size_t keys_len, uint32_t *rows, size_t rows_len, uint32_t *spare, size_t spare_len, uint32_t *counts, size_t counts_len);
+
+/* Reads a file and returns how many cells it has; shape gets the dimension and how many births and pairs there are. For any file words of bytes_len / 4, births of
+ * bytes_len / 8 and pairs of bytes_len / 3 numbers are long enough, keys of 3 * (bytes_len / 4) and rows, spare and counts of bytes_len / 4; no accepted file has more than
+ * 16,384 numbers in words, 12,288 in births and 524,288 in pairs. Refused: 20, 21, 22 as the bytes come, then 1, 2, 3, 4, 6, 5, 12 (working lists), 7, 12 (a result list). A
+ * refusal leaves shape as it was. The call takes 64 KB of stack. */
+uint64_t planner_read_mesh(
+    const uint8_t *bytes, size_t bytes_len, uint32_t *words, size_t words_len, uint32_t *births, size_t births_len, uint32_t *pairs, size_t pairs_len, uint32_t *keys,
+    size_t keys_len, uint32_t *rows, size_t rows_len, uint32_t *spare, size_t spare_len, uint32_t *counts, size_t counts_len, uint32_t shape[3]);
 
 #ifdef __cplusplus
 }
