@@ -30,6 +30,8 @@
 #include <stddef.h>
 #include <stdint.h>
 
+#define PLANNER_VERSION "0.1.0"
+
 #ifdef __cplusplus
 extern "C" {
 #endif

@@ -91,7 +91,7 @@ def too_many_vertices(place: int, about: Any) -> str:
 def crowded(place: int, about: Any) -> str:
     """Names the facet, which the library does not."""
     if "words" not in about:
-        return "the gluing puts three or more cells on one facet; use more boxes on the twisted axes"
+        return "three or more cells meet in one facet, since a twisted axis is turned over by another; leave one of the twists out"
     d = about["d"]
     cells = {tuple(sorted(int(v) for v in about["words"][i:i + d + 1])) for i in range(0, len(about["words"]), d + 1)}
     found = Counter(f for cell in cells for f in combinations(cell, d))
