@@ -174,6 +174,26 @@ class Grid:
         """
         return int(np.ravel_multi_index(coordinates, self.shape, order="F"))
 
+    def cut(self) -> "Grid":
+        """The same boxes with every axis left open: row i of its words is row i of this grid's words before gluing.
+
+        >>> import pampilussa as pa
+        >>> pa.Grid([(3, "P"), (1, "O")]).cut().words()[5].tolist()
+        [2, 6, 7]
+        """
+        return Grid([(count, "O") for count, _ in self.axes], self.sides)
+
+    def points(self) -> np.ndarray:
+        """Where the grid points lie before gluing, one row each, by their numbers: coordinates in boxes, or in the sides' lengths where there are sides.
+
+        >>> import pampilussa as pa
+        >>> pa.Grid([(2, "O"), (1, "O")], sides=(6.0, 1.0)).points().tolist()
+        [[0.0, 0.0], [3.0, 0.0], [6.0, 0.0], [0.0, 1.0], [3.0, 1.0], [6.0, 1.0]]
+        """
+        counts = np.array([count for count, _ in self.axes], np.float64)
+        spacing = np.ones(self.d) if self.sides is None else self.sides[:self.d] / counts
+        return np.stack([x.reshape(-1, order="F") for x in np.indices(self.shape)], axis=1) * spacing
+
     def reduce(self, points: Any) -> Union[int, np.ndarray]:
         """The glued vertex of a grid point, or of each of an array of them; NO_VERTEX past the last point.
 
