@@ -24,9 +24,11 @@ mod grid;
 mod orientation;
 mod raw;
 mod refinement;
+mod seam;
 
 pub use answer::Refusal;
 pub use complex::{border, cells, edges, facets, induced_orientation, ordering, orient_by, orientation, Facet, Ordered, Side};
 pub use orientation::{orientation_looks, Coherence};
 pub use grid::{Axis, EdgeLength, Gluing, GluedVertex, Grid, GridVertex, Triangulated};
 pub use refinement::{refine, refine_with, Birth, Child, Refined};
+pub use seam::Crossing;

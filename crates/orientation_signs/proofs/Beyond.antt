@@ -1,6 +1,6 @@
 -- The searches of specs/Looks find what the mates of cells say: where a facet has a mate its cell and position are found, and where it has none nothing is. Assumes nothing.
-use mathlib.Core.Bool.{Bool, true, false, not}
-use mathlib.Core.List.{List, [], _∷_}
+use mathlib.Core.Bool.{Bool, true, false, not, _&&_}
+use mathlib.Core.List.{List}
 use mathlib.Core.Path.{_≡_, refl, sym, ap, _∙_, subst}
 use Prim.Native.Nat.{ℕ, suc, _<_, _≤_}
 use native.Mathlib.Omega.{arith}
@@ -8,38 +8,21 @@ use borrow.Author.Tests.{eqb-true, eqb-false, eq-eqb, ne-eqb, ltb-true, ltb-fals
 use lib.Dec.{eqb, ltb}
 use lib.ListN.{length}
 use Rattle.complex.specs.Facets.{cellAt, facetAt, FacetOf, Mates}
-use Rattle.complex.specs.Skeleton.{both, sameWord}
+use Rattle.lists.specs.Words.{sameWord}
+use Rattle.lists.proofs.Words.{same-word, word-true}
 use Rattle.complex.proofs.Fine.{first-full, first-found}
 use Rattle.orientation_signs.specs.Looks.{droppedFor, cellBeyond}
 
 pub false-true : false ≡ true → ⊥
 false-true e = let z : _≡_ {A = ℕ} 0 1 = cc in omega arith
 
-both-true : (a b : Bool) → both a b ≡ true → (a ≡ true) × (b ≡ true)
+both-true : (a b : Bool) → (a && b) ≡ true → (a ≡ true) × (b ≡ true)
 both-true true b e = (refl, e)
 both-true false b e = absurd (false-true e)
 
-both-false : (a b : Bool) → both a b ≡ false → a ≡ true → b ≡ false
+both-false : (a b : Bool) → (a && b) ≡ false → a ≡ true → b ≡ false
 both-false true b e q = e
 both-false false b e q = absurd (false-true q)
-
--- ---- the test of two words
-same-words : (w v : List ℕ) → sameWord w v ≡ true → w ≡ v
-same-words [] [] e = refl
-same-words [] (y ∷ v) e = absurd (false-true e)
-same-words (x ∷ w) [] e = absurd (false-true e)
-same-words (x ∷ w) (y ∷ v) e =
-    let r = both-true (eqb x y) (sameWord w v) e in
-    let h : x ≡ y = eqb-true x y (r .0) in
-    let t : w ≡ v = same-words w v (r .1) in
-    cc
-
-same-itself : (w : List ℕ) → sameWord w w ≡ true
-same-itself [] = refl
-same-itself (x ∷ w) = rw (eq-eqb x x refl) (same-itself w)
-
-words-same : (w v : List ℕ) → w ≡ v → sameWord w v ≡ true
-words-same w v e = subst (λ (u : List ℕ). sameWord w u ≡ true) e (same-itself w)
 
 -- ---- the facet of cell c without position i
 module _ (d : ℕ) (cs : List (List ℕ)) (c i : ℕ) where
@@ -49,9 +32,9 @@ module _ (d : ℕ) (cs : List (List ℕ)) (c i : ℕ) where
       let f = facetAt (cellAt cs c) i in
       let c′ = cellBeyond d cs c f in
       let i′ = droppedFor d cs f c′ in
-      let r = both-true (not (eqb c′ c)) (ltb i′ (suc d)) (first-found (λ x. both (not (eqb x c)) (ltb (droppedFor d cs f x) (suc d))) (length cs) h) in
+      let r = both-true (not (eqb c′ c)) (ltb i′ (suc d)) (first-found (λ x. not (eqb x c) && ltb (droppedFor d cs f x) (suc d)) (length cs) h) in
       let l : i′ < suc d = ltb-true i′ (suc d) (r .1) in
-      let s : facetAt (cellAt cs c′) i′ ≡ f = same-words (facetAt (cellAt cs c′) i′) f (first-found (λ x. sameWord (facetAt (cellAt cs c′) x) f) (suc d) l) in
+      let s : facetAt (cellAt cs c′) i′ ≡ f = same-word (facetAt (cellAt cs c′) i′) f (first-found (λ x. sameWord (facetAt (cellAt cs c′) x) f) (suc d) l) in
       record {
         this = u;
         that = record { some = u .some; cell = h; place = omega arith };
@@ -67,8 +50,8 @@ module _ (d : ℕ) (cs : List (List ℕ)) (c i : ℕ) where
       go true q = ltb-true _ _ q
       go false q =
           let f = facetAt (cellAt cs c) i in
-          let n = first-full (λ x. both (not (eqb x c)) (ltb (droppedFor d cs f x) (suc d))) (length cs) (ltb-false _ _ q) c′ (u .that .cell) in
+          let n = first-full (λ x. not (eqb x c) && ltb (droppedFor d cs f x) (suc d)) (length cs) (ltb-false _ _ q) c′ (u .that .cell) in
           let a : not (eqb c′ c) ≡ true = ap not (ne-eqb c′ c (λ e. u .apart (sym e))) in
           let l : suc d ≤ droppedFor d cs f c′ = ltb-false _ _ (both-false (not (eqb c′ c)) (ltb (droppedFor d cs f c′) (suc d)) n a) in
           let s : sameWord (facetAt (cellAt cs c′) i′) f ≡ false = first-full (λ x. sameWord (facetAt (cellAt cs c′) x) f) (suc d) l i′ (omega (arith, u .that .place)) in
-          absurd (false-true (sym s ∙ words-same (facetAt (cellAt cs c′) i′) f (sym (u .one))))
+          absurd (false-true (sym s ∙ word-true (facetAt (cellAt cs c′) i′) f (sym (u .one))))

@@ -5,7 +5,8 @@ use mathlib.Core.Path.{_≡_, sym, subst}
 use Prim.Native.Nat.{ℕ, suc, _*_, _<_, _≤_}
 use lib.ListN.{length, getD}
 use Rattle.complex.specs.Facets.{slots}
-use Rattle.complex_mates.specs.Table.{none, MateTable, Across}
+use Rattle.lists.specs.Words.{none}
+use Rattle.complex_mates.specs.Table.{MateTable, Across}
 use Rattle.orientation_walk.specs.WorkSigns as walk
 use Rattle.orientation_walk.specs.WorkSteps as steps
 use Rattle.orientation_signs.specs.WorkFound.{Finding, Found}

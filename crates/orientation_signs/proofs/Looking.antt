@@ -14,7 +14,8 @@ use lib.Dec.{ltb}
 use lib.ListN.{length, getD, set}
 use lib.Seq.{getD-set-same, getD-set-other}
 use Rattle.complex.specs.Facets.{cellAt, facetAt, slots}
-use Rattle.complex_mates.specs.Table.{none, MateTable, Across}
+use Rattle.lists.specs.Words.{none}
+use Rattle.complex_mates.specs.Table.{MateTable, Across}
 use Rattle.complex_mates.proofs.Meeting.{slots-most, slots-dim}
 use Rattle.orientation_walk.specs.WorkSigns as walk
 use Rattle.orientation_walk.specs.WorkSigns.{turned}
@@ -27,7 +28,9 @@ use Rattle.multiindex.specs.Sign.{Sign, plus, minus}
 use Rattle.orientation_signs.specs.WorkFound.{signOf}
 use Rattle.orientation_signs.specs.Looks.{droppedFor, cellBeyond, signBeyond, Mark, unsigned, signed, given, signIn, Walk, at, conflict, looksIn, sameSign, finds, look, looksBelow, emptied, beginsAt, begins, walked, looksOf}
 use Rattle.orientation_signs.proofs.Beyond.{false-true, beyond-mates, mates-beyond}
-use Rattle.orientation_signs.proofs.Linking.{code, sign-code, turned-code, across-sign, row-in, row-div, row-mod, moved, rows-few, facet-row, mates-row}
+use Rattle.lists.proofs.Rows.{row-in, row-div, row-mod}
+use Rattle.complex_mates.proofs.Mated.{moved, rows-few, facet-row, mates-row}
+use Rattle.orientation_signs.proofs.Linking.{code, sign-code, turned-code, across-sign}
 
 -- the mark that the code's number stands for
 abbrev markOf : ℕ → Mark

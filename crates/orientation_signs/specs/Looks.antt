@@ -1,13 +1,12 @@
 -- How many facet looks the walk for coherent signs makes (document 02, K6): one for each facet of each cell taken off its stack, the lowest unsigned cell first, the last
 -- pushed first taken, facets in the order of positions dropped from last to first, up to and with the look that meets a conflict. Assumes nothing.
-use mathlib.Core.Bool.{Bool, true, false, not, cond}
+use mathlib.Core.Bool.{Bool, true, false, not, cond, _&&_}
 use mathlib.Core.List.{List, [], _∷_}
 use Prim.Native.Nat.{ℕ, zero, suc}
 use lib.Dec.{eqb, ltb}
 use lib.ListN.{length}
-use Rattle.lists.specs.Words.{firstWhere}
+use Rattle.lists.specs.Words.{sameWord, firstWhere}
 use Rattle.complex.specs.Facets.{cellAt, facetAt, slots}
-use Rattle.complex.specs.Skeleton.{both, sameWord}
 use Rattle.multiindex.specs.Sign.{Sign, plus, minus, opposite, times, induced}
 
 -- ---- across a facet
@@ -17,7 +16,7 @@ droppedFor d cs f c = firstWhere (λ i. sameWord (facetAt (cellAt cs c) i) f) (s
 
 -- the cell other than c that has the facet f; the number of cells where there is none
 abbrev pub cellBeyond : ℕ → List (List ℕ) → ℕ → List ℕ → ℕ
-cellBeyond d cs c f = firstWhere (λ c′. both (not (eqb c′ c)) (ltb (droppedFor d cs f c′) (suc d))) (length cs)
+cellBeyond d cs c f = firstWhere (λ c′. not (eqb c′ c) && ltb (droppedFor d cs f c′) (suc d)) (length cs)
 
 -- the sign beyond a facet: the products of cell sign and induced sign are opposite
 abbrev pub signBeyond : Sign → ℕ → ℕ → Sign
