@@ -10,11 +10,11 @@ Every call is the proved library's; nothing is kept between calls, and what is n
 <Refined by 2: 24 cells of dimension 2, 18 vertices, 12 of them new>
 """
 from .complex import Complex, Facets, NO_CELL, Order
-from .grid import Clash, Grid
+from .grid import Clash, Crossing, Grid
 from .refined import Births, Child, NO_VERTEX, Refined
 from .refused import Refused
 
-__all__ = ["Births", "Child", "Clash", "Complex", "Facets", "Grid", "NO_CELL", "NO_VERTEX", "Order", "Refined", "Refused", "refine"]
+__all__ = ["Births", "Child", "Clash", "Complex", "Crossing", "Facets", "Grid", "NO_CELL", "NO_VERTEX", "Order", "Refined", "Refused", "refine"]
 __version__ = "0.1.0"
 
 

@@ -24,6 +24,7 @@ SIGNATURES: Dict[str, str] = {
     "planner_moebius": "u32 f64 f64 u32&",
     "planner_quasi_uniform": "u32 u32 u32[] f64[] u32&",
     "planner_reduce": "u32 u32 u32[]",
+    "planner_crossing": "u32 u32 u32[] u32&",
     "planner_nvertices": "u32 u32[]",
     "planner_is_orientation_preserving": "u32 u32[]",
     "planner_cell_words": "u32 u32[] u32[&]" + ROOM,

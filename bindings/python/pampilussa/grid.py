@@ -21,6 +21,17 @@ class Clash(NamedTuple):
     second: float
 
 
+class Crossing(NamedTuple):
+    """How a grid point went across the seam; bit a of a set is axis a."""
+
+    vertex: int
+    """The glued vertex; NO_VERTEX past the last point."""
+    wrapped: int
+    """The closed axes on which the point was wrapped."""
+    reversed: int
+    """The axes that came out reversed: an odd number of the wrapped axes reflects them."""
+
+
 def gluing_code(gluing: str) -> int:
     """The number of a gluing that is written as bandsum writes it: O, P, or T with the digits of the reflected axes."""
     if gluing == "O":
@@ -207,6 +218,17 @@ class Grid:
         given = np.asarray(points)
         flat = numbers(given, "points")
         return np.array([self._ask("planner_reduce", int(v), self._axes) for v in flat], np.uint32).reshape(given.shape)
+
+    def crossing(self, point: int) -> Crossing:
+        """The glued vertex of a grid point, with the axes on which it was wrapped and those that came out reversed.
+
+        >>> import pampilussa as pa
+        >>> pa.Grid([(3, "T1"), (1, "O")]).crossing(7)
+        Crossing(vertex=0, wrapped=1, reversed=2)
+        """
+        sets = np.zeros(2, np.uint32)
+        vertex = self._ask("planner_crossing", whole(point, "the point"), self._axes, sets)
+        return Crossing(vertex, int(sets[0]), int(sets[1]))
 
     def _corners(self) -> int:
         """How many corners the words have, none where there are too many cells."""
