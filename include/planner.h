@@ -23,7 +23,8 @@
  * looked at.
  *
  * FLOATS are rounded to the nearest, as a program starts out; where the caller has set another rounding mode, lengths, shares and counts made
- * from sides follow it. STACK: a call takes less than 8 KB of the thread's stack, and nothing else but its lists.
+ * from sides follow it. STACK: a call takes less than 8 KB of the thread's stack, unless its text tells
+ * another number, and no memory but its lists.
  *
  * A CELL LIST is its dimension d and a list `words` of d+1 vertex numbers for each cell, in any order. n is the length of `words`.
  */
