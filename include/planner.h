@@ -100,6 +100,10 @@ uint64_t planner_reduce(uint32_t d, uint32_t v, const uint32_t *axes, size_t axe
  * refusal leaves them. Refused: 1, 9, 8, 3, 6. */
 uint64_t planner_crossing(uint32_t d, uint32_t v, const uint32_t *axes, size_t axes_len, uint32_t sets[2]);
 
+/* The glued vertex of each of the points, equal in every place to planner_reduce's; PLANNER_NO_VERTEX where one is past the last point. The grid is checked once.
+ * Returns 0; as many numbers are needed of glued as there are points, and an empty list succeeds. Refused: 1, 9, 8, 3, 6, 12 (glued). */
+uint64_t planner_swath(uint32_t d, const uint32_t *axes, size_t axes_len, const uint32_t *points, size_t points_len, uint32_t *glued, size_t glued_len);
+
 /* How many vertices there are after gluing. Refused: 1, 9, 8, 3, 6. */
 uint64_t planner_nvertices(uint32_t d, const uint32_t *axes, size_t axes_len);
 
