@@ -67,7 +67,6 @@ use Rattle.grid_chained_laws.specs.Plane.{planeOf, PlaneLaw}
 use Rattle.grid_chained_laws.proofs.Words.{wordBy, words-tab, words-each, cells-are}
 use Rattle.grid_chained_laws.proofs.Words as Words
 
-
 -- ---- three numbers in order
 
 abbrev sumOf : List ℕ → ℕ
@@ -427,14 +426,20 @@ module _ (j : ℕ) (large : 2 ≤ j) (third-axis : Axis) (s : Sides) where
       met-even : met g (boxAt g k) (0 ∷ 1 ∷ []) ≡ pt x y ∷ pt (x + 1) y ∷ pt (x + 1) (y + 1) ∷ []
       unfolding met
       met-even =
-          rw (point-at (boxAt g k) x y ex ey, point-at (stepAlong 0 (boxAt g k)) (x + 1) y (ap (λ (z : ℕ). z + 1) ex) (add-zero _ ∙ ey),
-          point-at (stepAlong 1 (stepAlong 0 (boxAt g k))) (x + 1) (y + 1) (add-zero _ ∙ ap (λ (z : ℕ). z + 1) ex) (ap (λ (z : ℕ). z + 1) (add-zero _ ∙ ey)))
+          rw (
+            point-at (boxAt g k) x y ex ey,
+            point-at (stepAlong 0 (boxAt g k)) (x + 1) y (ap (λ (z : ℕ). z + 1) ex) (add-zero _ ∙ ey),
+            point-at (stepAlong 1 (stepAlong 0 (boxAt g k))) (x + 1) (y + 1) (add-zero _ ∙ ap (λ (z : ℕ). z + 1) ex) (ap (λ (z : ℕ). z + 1) (add-zero _ ∙ ey)),
+          )
 
       met-odd : met g (boxAt g k) (1 ∷ 0 ∷ []) ≡ pt x y ∷ pt x (y + 1) ∷ pt (x + 1) (y + 1) ∷ []
       unfolding met
       met-odd =
-          rw (point-at (boxAt g k) x y ex ey, point-at (stepAlong 1 (boxAt g k)) x (y + 1) (add-zero _ ∙ ex) (ap (λ (z : ℕ). z + 1) ey),
-          point-at (stepAlong 0 (stepAlong 1 (boxAt g k))) (x + 1) (y + 1) (ap (λ (z : ℕ). z + 1) (add-zero _ ∙ ex)) (add-zero _ ∙ ap (λ (z : ℕ). z + 1) ey))
+          rw (
+            point-at (boxAt g k) x y ex ey,
+            point-at (stepAlong 1 (boxAt g k)) x (y + 1) (add-zero _ ∙ ex) (ap (λ (z : ℕ). z + 1) ey),
+            point-at (stepAlong 0 (stepAlong 1 (boxAt g k))) (x + 1) (y + 1) (ap (λ (z : ℕ). z + 1) (add-zero _ ∙ ex)) (add-zero _ ∙ ap (λ (z : ℕ). z + 1) ey),
+          )
 
     -- ---- the two boxes
     by-one : (x : ℕ) → x / 1 ≡ x
