@@ -6,8 +6,7 @@
  * is then its place, counted from 0, and otherwise the answer: a count, a vertex, or 1 and 0 for yes and no. Two calls answer a count with a
  * yes beside it: planner_count(r) is the count, planner_yes(r) is 1 for yes.
  *
- * LISTS are a pointer and a length in elements, one after the other. A list may be empty, and its pointer must still be one that may be
- * read or written that often. Lists that are written must not overlap any other list of the call. The order of parameters is: numbers, lists
+ * LISTS are a pointer and a length in elements, one after the other. A list may be empty, and its pointer is then not looked at: NULL will do. Lists that are written must not overlap any other list of the call. The order of parameters is: numbers, lists
  * that are read, result lists, working lists, arrays of fixed length.
  *
  * RESULT LISTS get exactly as many elements as the meaning of the call says, from the start; what lies past them keeps its values. A
@@ -19,8 +18,13 @@
  *
  * A GRID is its dimension d, a list `axes` with two numbers for each axis, its count of cells and its gluing, and a list `sides` where the
  * call reads them. A gluing is PLANNER_OPEN, PLANNER_PERIODIC or PLANNER_TWISTED(mask), where bit j of the mask is set if axis j is
- * reflected. An axis that is not in the list has no cells (refused with 8), a side that is not there is 0 (refused with 10). What stands
- * past d is not looked at.
+ * reflected. Of the other numbers 1 to 255 are open and 257 to 511 periodic. An axis that is not in the list has no cells (refused with 8),
+ * one whose count is in the list and whose gluing is not is open, a side that is not there is 0 (refused with 10). What stands past d is not
+ * looked at.
+ *
+ * FLOATS are rounded to the nearest, as a program starts out; where the caller has set another rounding mode, lengths, shares and counts made
+ * from sides follow it. STACK: a call takes less than 8 KB of the thread's stack, unless its text tells
+ * another number, and no memory but its lists.
  *
  * A CELL LIST is its dimension d and a list `words` of d+1 vertex numbers for each cell, in any order. n is the length of `words`.
  */
@@ -29,6 +33,8 @@
 
 #include <stddef.h>
 #include <stdint.h>
+
+#define PLANNER_VERSION "0.1.0"
 
 #ifdef __cplusplus
 extern "C" {
@@ -68,20 +74,20 @@ enum {
 
 #define PLANNER_OPEN 0u
 #define PLANNER_PERIODIC 256u
-#define PLANNER_TWISTED(mask) (512u + (uint32_t)(uint8_t)(mask))
+#define PLANNER_TWISTED(mask) (512u + (uint32_t)(mask))
 #define PLANNER_NO_VERTEX 4294967295u
 #define PLANNER_NO_CELL 4294967295u
 
 /* The makers write count and gluing of the three axes to axes[6], those past d as 0 and PLANNER_OPEN; the grid's sides are the caller's. They
  * return 0. A refusal leaves axes as it was. */
 
-/* n cells on every axis, all periodic. Refused: 1, 10, 8 (n under 3), 3, 6. */
+/* n cells on every axis, all periodic. Refused: 1, 10, 8 (n under 3), 3. */
 uint64_t planner_torus(uint32_t d, uint32_t n, const double *sides, size_t sides_len, uint32_t axes[6]);
 
-/* n cells on both axes; axis 0 reflects axis 1, axis 1 is periodic. Refused: 1 (d other than 2), 10, 8 (n under 3), 3, 6. */
+/* n cells on both axes; axis 0 reflects axis 1, axis 1 is periodic. Refused: 1 (d other than 2), 10, 8 (n under 3), 3. */
 uint64_t planner_klein(uint32_t d, uint32_t n, const double *sides, size_t sides_len, uint32_t axes[6]);
 
-/* Axis 0 reflects axis 1, axis 1 is open; counts from the sides, n cells on the longer one, at least 3 and 1. Refused: 10, 3, 6. */
+/* Axis 0 reflects axis 1, axis 1 is open; counts from the sides, n cells on the longer one, at least 3 and 1. Refused: 10, 3. */
 uint64_t planner_moebius(uint32_t n, double circumference, double width, uint32_t axes[6]);
 
 /* These gluings; counts from the sides, n cells on the longest, at least 3 on a closed axis and 1 on an open one. Refused: 1, 10, 9, 3 (n above
@@ -96,6 +102,10 @@ uint64_t planner_reduce(uint32_t d, uint32_t v, const uint32_t *axes, size_t axe
  * that of the axes that came out reversed (an odd number of the wrapped axes reflects them). Bit a of a mask is axis a. Both are 0 where v is past the last point. A
  * refusal leaves them. Refused: 1, 9, 8, 3, 6. */
 uint64_t planner_crossing(uint32_t d, uint32_t v, const uint32_t *axes, size_t axes_len, uint32_t sets[2]);
+
+/* The glued vertex of each of the points, equal in every place to planner_reduce's; PLANNER_NO_VERTEX where one is past the last point. The grid is checked once.
+ * Returns 0; as many numbers are needed of glued as there are points, and an empty list succeeds. Refused: 1, 9, 8, 3, 6, 12 (glued). */
+uint64_t planner_swath(uint32_t d, const uint32_t *axes, size_t axes_len, const uint32_t *points, size_t points_len, uint32_t *glued, size_t glued_len);
 
 /* How many vertices there are after gluing. Refused: 1, 9, 8, 3, 6. */
 uint64_t planner_nvertices(uint32_t d, const uint32_t *axes, size_t axes_len);
@@ -234,8 +244,8 @@ uint64_t planner_child_of(
     uint32_t number, const uint32_t *parents, size_t parents_len, const double *jacobians, size_t jacobians_len, const int32_t *wholes, size_t wholes_len,
     double jacobian[9], int32_t whole[9]);
 
-/* The birth of that number, counted from the first new vertex on. Returns how many coarse vertices support it; vertices gets these, weights their weights over r and shares
- * weight times (1/r), with 4294967295, 0 and 0.0 past them. Refused: 1 where d is more than 3, 12 where a list has none of that number; then the arrays keep their
+/* The birth of that number, counted from the first new vertex on. Returns how many coarse vertices support it, those before the first 4294967295 of its row;
+ * vertices gets the d+1 numbers of its row, weights and shares theirs, and 4294967295, 0 and 0.0 past these. Refused: 1 where d is more than 3, 12 where a list has none of that number; then the arrays keep their
  * values. */
 uint64_t planner_birth_of(
     uint32_t d, uint32_t number, const uint32_t *birth_vertices, size_t birth_vertices_len, const uint32_t *birth_weights, size_t birth_weights_len,

@@ -26,6 +26,7 @@ mod orientation;
 mod raw;
 mod refinement;
 mod seam;
+mod swath;
 
 pub use answer::Refusal;
 pub use complex::{border, cells, edges, facets, induced_orientation, ordering, orient_by, orientation, Facet, Ordered, Side};
