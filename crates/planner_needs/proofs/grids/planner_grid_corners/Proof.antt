@@ -1,10 +1,10 @@
--- `planner_needs::grids::planner_corners` meets its contract: the grid is the one given, and the answer is the count's. Assumes nothing.
+-- `planner_needs::grids::planner_grid_corners` meets its contract: the grid is the one given, and the answer is the count's. Assumes nothing.
 use borrow.Author.Needs.{needs}
 use mathlib.Core.Path.{ap, _∙_}
 use Rattle.planner_passing.specs.Said.{countedCode}
 use Rattle.planner_needs.specs.Needs.{cornersSaid}
-use Rattle.planner_needs.proofs.grids.planner_corners.Statement.{statement}
-use Rattle.planner_needs.proofs.grids.planner_corners.Tie as tie
+use Rattle.planner_needs.proofs.grids.planner_grid_corners.Statement.{statement}
+use Rattle.planner_needs.proofs.grids.planner_grid_corners.Tie as tie
 
 plain-requires : tie.Need-plain-requires
 plain-requires c κs = search needs
