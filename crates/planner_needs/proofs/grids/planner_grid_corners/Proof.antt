@@ -18,5 +18,5 @@ counted-requires c κs = search needs
 returns : tie.Need-returns
 returns c = c .counted .ensures ∙ ap countedCode (c .before .corners-of .ensures ∙ ap cornersSaid (c .before .before .plain .ensures))
 
-pub planner-corners-spec : {M : Type 1} → statement M
-planner-corners-spec = tie.close (tie.spec plain-requires corners-of-requires counted-requires returns)
+pub planner-grid-corners-spec : {M : Type 1} → statement M
+planner-grid-corners-spec = tie.close (tie.spec plain-requires corners-of-requires counted-requires returns)
