@@ -39,7 +39,7 @@ GRID_CALLS = ["reduce", "crossing", "swath", "nvertices", "is_orientation_preser
               "chained_nvertices", "chained_classes", "chained_closed_classes", "chained_cell_words"]
 LIST_CALLS = ["cells", "edges", "facets", "border", "orientation", "orientation_looks", "orient_by", "ordering", "induced_orientation"]
 REFINE_CALLS = ["refine", "refine_with"]
-NOT_IN_RUST = {"crossing", "edge_length_sq", "orientation_looks", "chained_nvertices", "chained_classes", "chained_closed_classes", "chained_cell_words"}
+NOT_IN_RUST = {"chained_nvertices", "chained_classes", "chained_closed_classes", "chained_cell_words", "crossing", "edge_length_sq", "orientation_looks"}
 RUST_CALL = {"swath": "reduce"}                                 # all points in a loop
 CONSTANT = {"nvertices", "is_orientation_preserving"}          # made a thousand times in one run: they do not grow
 

@@ -27,7 +27,7 @@ impl Grid {
     /// ```
     pub fn chained_reduce(&self, v: GridVertex) -> Result<Option<ClassVertex>, Refusal> {
         let (d, axes) = self.codes();
-        let mut room = vec![0; self.corners()];
+        let mut room = vec![0; self.corners_before_six()];
         let class = said(unsafe { raw::planner_chained_reduce(d, v.0, axes.as_ptr(), axes.len(), room.as_mut_ptr(), room.len()) })?;
         Ok((class != u32::MAX).then_some(ClassVertex(class)))
     }
@@ -43,7 +43,7 @@ impl Grid {
     /// ```
     pub fn chained_nvertices(&self) -> Result<u32, Refusal> {
         let (d, axes) = self.codes();
-        let mut room = vec![0; self.corners()];
+        let mut room = vec![0; self.corners_before_six()];
         said(unsafe { raw::planner_chained_nvertices(d, axes.as_ptr(), axes.len(), room.as_mut_ptr(), room.len()) })
     }
 
@@ -84,13 +84,13 @@ impl Grid {
     /// ```
     pub fn chained_cell_words(&self) -> Result<Vec<u32>, Refusal> {
         let (d, axes) = self.codes();
-        let n = self.corners();
+        let n = self.corners_before_six();
         listed(raw::planner_chained_cell_words, d, &axes, n, d as usize + 1, [d as usize * n, n, n, n])
     }
 
     fn classed(&self, call: Classing) -> Result<Vec<ClassVertex>, Refusal> {
         let (d, axes) = self.codes();
-        let n = self.corners();
+        let n = self.corners_before_six();
         let (mut classes, mut room) = (vec![0; n], vec![0; n]);
         said(unsafe { call(d, axes.as_ptr(), axes.len(), classes.as_mut_ptr(), classes.len(), room.as_mut_ptr(), room.len()) })?;
         let points = self.axes.iter().map(|a| a.cells as usize + 1).product();

@@ -28,7 +28,7 @@ use Rattle.grid_words.specs.Cells.{flatWords}
 use Rattle.grid_mesh.specs.Words.{gridNeed}
 use Rattle.grid_mesh.specs.Words as First
 use Rattle.grid_mesh.proofs.Steps.{words-many}
-use Rattle.grid_laws.proofs.Seven.{untangled-never-seven}
+use Rattle.grid_mesh.proofs.Seven.{untangled-never-seven}
 use Rattle.grid_chained.specs.Shape.{shapeOf}
 use Rattle.grid_chained.specs.Classing.{at, Classes}
 use Rattle.grid_chained.proofs.Taken.{shape-fine, shape-six, shape-other}

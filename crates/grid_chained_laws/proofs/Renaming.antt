@@ -18,7 +18,7 @@ use Rattle.complex.specs.Facets.{cellAt, facetAt, Mates, Crowded}
 use Rattle.complex_cells.proofs.Words.{Word, Each, Rising, In, each-in, each-of, in-at, at-in}
 use Rattle.complex_cells.proofs.Order.{Colex, colex-irr, order-rising, order-from, order-has}
 use Rattle.complex_cells.proofs.Strict.{sort-strict}
-use Rattle.grid_laws.proofs.Members.{sort-mem, mem-sort, Rises, one-word, facet-mem, mem-facet, one-facet}
+use Rattle.grid_mesh.proofs.Members.{sort-mem, mem-sort, Rises, one-word, facet-mem, mem-facet, one-facet}
 
 -- ---- members of a renamed word, and renamed words
 mem-to : (f : ℕ → ℕ) (a : ℕ) (w : List ℕ) → Mem a w → Mem (f a) (map f w)

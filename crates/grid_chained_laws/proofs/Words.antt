@@ -38,7 +38,7 @@ use Rattle.grid_words.proofs.Listed.{listed, cell-length}
 use Rattle.grid_words.proofs.Listed as Grids
 use Rattle.grid_words.proofs.Good.{row-apart, words-count}
 use Rattle.grid_mesh.specs.Words.{gluedCells}
-use Rattle.grid_laws.proofs.Seven.{untangled-never-seven}
+use Rattle.grid_mesh.proofs.Seven.{untangled-never-seven}
 use Rattle.grid_chained.specs.Classing.{Classing}
 use Rattle.grid_chained.specs.Laws.{Renamed}
 use Rattle.grid_chained.proofs.BothModes.{both-modes}

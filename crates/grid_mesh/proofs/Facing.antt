@@ -17,7 +17,7 @@ use Rattle.quotient.specs.Shape.{cellsOn, closedAt, checkOf}
 use Rattle.quotient.proofs.Laws.{lt-or-ge}
 use Rattle.quotient.proofs.Onto.{three-cells}
 use Rattle.quotient.proofs.Boxes.{End}
-use Rattle.grid_laws.proofs.Folding.{vertexBy, Begins, ends-agree, corner-same}
+use Rattle.grid_mesh.proofs.Folding.{vertexBy, Begins, ends-agree, corner-same}
 
 -- ---- how two boxes lie on an axis: 1 where the first is at its last cell and the second at its first, 2 the other way round, 0 else
 abbrev pub sideOf : Bool → ℕ → ℕ → ℕ → ℕ

@@ -33,9 +33,9 @@ use Rattle.grid_words.proofs.Corners.{corners-apart}
 use Rattle.grid_words.proofs.Flat.{to-tab, of-tab}
 use Rattle.grid_words.proofs.Listed.{words-tab, word-length}
 use Rattle.grid_words.proofs.Good.{word-at, row-apart, words-count}
 use Rattle.grid_mesh.specs.Words.{gluedCells}
 use Rattle.grid_mesh.proofs.Steps.{words-many}
-use Rattle.grid_laws.proofs.Members.{sort-mem, mem-sort, Rises, one-word, one-facet}
+use Rattle.grid_mesh.proofs.Members.{sort-mem, mem-sort, Rises, one-word, one-facet}
 
 -- the word of cell number x
 abbrev pub wordNo : Grid → ℕ → List ℕ

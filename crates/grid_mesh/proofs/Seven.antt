@@ -15,12 +15,14 @@ use lib.Seq.{ext-getD}
 use Rattle.refusal.specs.declared.Answer.the-variants.{Fine}
 use Rattle.lists.proofs.Members.{Mem, Mem-of}
 use Rattle.multiindex.specs.Sort.{sortWord}
+use Rattle.lists.specs.Rows.{rows}
+use Rattle.complex.specs.Cells as Complex
 use Rattle.complex.specs.Facets.{cellAt, facetAt, Crowded}
 use Rattle.complex_cells.proofs.Words.{Word, Each, Rising}
-use Rattle.complex_cells.proofs.Order.{Colex, colex-irr}
+use Rattle.complex_cells.proofs.Order.{Colex, colex-irr, order-rising}
 use Rattle.quotient.specs.declared.Grid.{Grid}
-use Rattle.quotient.specs.Fold.{product, factorial, member}
-use Rattle.quotient.specs.Shape.{cellsOn, pointsOn, maskAt, checkOf, cellCount}
+use Rattle.quotient.specs.Fold.{member}
+use Rattle.quotient.specs.Shape.{pointsOn, maskAt, checkOf, cellCount}
 use Rattle.quotient.specs.Chain.{Untangled}
 use Rattle.quotient.proofs.Taken.{taken-low}
 use Rattle.quotient.proofs.Radix.{number-same}
@@ -28,14 +30,12 @@ use Rattle.grid_words.specs.Cells.{boxAt, flatWords}
 use Rattle.grid_words.specs.WorkNumbered.{eachBox, cellNo, cornerOf}
 use Rattle.grid_words.proofs.Corners.{dim, box-lt}
 use Rattle.grid_words.proofs.Listed.{cell-length, cell-before}
 use Rattle.grid_mesh.specs.Words.{gluedCells}
-use Rattle.skeleton.proofs.Laws.{cells-rising}
-use Rattle.grid_laws.proofs.Turns.{up, three, up-each, up-sum}
-use Rattle.grid_laws.proofs.Members.{facet-mem, mem-facet}
-use Rattle.grid_laws.proofs.Words.{wordNo, vertexNo, corner-one, corner-mem, mem-corner, sorted-rises, sorted-long, word-of, OneFacet}
-use Rattle.grid_laws.proofs.Twice.{At, at-of, chain, vertex-at, two-words}
-use Rattle.grid_laws.proofs.Count.{cells-number}
-use Rattle.grid_laws.proofs.Seams.{MatchedBut, AgreeBut, agree-or-across}
+use Rattle.grid_mesh.proofs.Turns.{up, three, up-each, up-sum}
+use Rattle.grid_mesh.proofs.Members.{facet-mem, mem-facet}
+use Rattle.grid_mesh.proofs.Words.{wordNo, vertexNo, corner-one, corner-mem, mem-corner, sorted-rises, sorted-long, word-of, OneFacet}
+use Rattle.grid_mesh.proofs.Twice.{At, at-of, chain, vertex-at, two-words}
+use Rattle.grid_mesh.proofs.Seams.{MatchedBut, AgreeBut, agree-or-across}
 
 -- ---- a rising list by number
 each-at : (P : Word → Type 0) (xs : List Word) (i : ℕ) → Each P xs → i < length xs → P (getD xs i [])
@@ -48,6 +48,10 @@ rising-at R [] i j p h l = absurd (let z : ⊥ = omega arith in z)
 rising-at R (x ∷ xs) i zero p h l = absurd (let z : ⊥ = omega arith in z)
 rising-at R (x ∷ xs) zero (suc j) p h l = each-at (R x) xs j (p .0) (omega arith)
 rising-at R (x ∷ xs) (suc i) (suc j) p h l = rising-at R xs i j (p .1) (omega arith) (omega arith)
+
+cells-rising : (d : ℕ) (ws : List ℕ) → Rising (Colex (d + 1)) (Complex.cellsOf d ws)
+unfolding Complex.cellsOf
+cells-rising d ws = order-rising (d + 1) (rows (d + 1) ws)
 
 module _ (g : Grid) (fine : checkOf g ≡ Fine) where
   -- no cell stands twice in the list
@@ -226,15 +230,12 @@ module _ (g : Grid) (fine : checkOf g ≡ Fine) where
         (λ q. cells-apart (w .cell) (w .second) (w .one .this .cell) (w .other .that .cell) (w .other .apart) (ex ∙ ap (λ (n : ℕ). sortWord (wordNo g n)) q ∙ sym ez))
         (λ q. cells-apart (w .first) (w .second) (w .one .that .cell) (w .other .that .cell) (w .apart) (ey ∙ ap (λ (n : ℕ). sortWord (wordNo g n)) q ∙ sym ez))
 
-    -- so no two words sort to one cell, and there are d! cells for each box
+    -- so no two words sort to one cell
     pub words-apart : (x y : ℕ) → x < y → y < cellCount g → sortWord (wordNo g x) ≡ sortWord (wordNo g y) → ⊥
     words-apart x y h l e = untangled-never-seven (two-words g fine x y h l e)
 
-    pub untangled-number : length (gluedCells g) ≡ factorial (g .d) * product (cellsOn g) (g .d)
-    untangled-number = cells-number g fine untangled-never-seven
-
 -- ---- a grid that reflects nothing, every axis open or periodic
-none-reflected : (m k : ℕ) → m ≡ 0 → member m k ≡ false
+pub none-reflected : (m k : ℕ) → m ≡ 0 → member m k ≡ false
 none-reflected m k e = rw (e, zero-div (2 ^ k))
 
 pub plain-untangled : (g : Grid) → ((a : ℕ) → a < g .d → maskAt g a ≡ 0) → Untangled g

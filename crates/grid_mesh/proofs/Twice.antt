@@ -27,12 +27,12 @@ use Rattle.grid_words.specs.Cells.{boxesOf, boxAt}
 use Rattle.grid_words.specs.WorkNumbered.{eachBox, cellNo, cornerOf}
 use Rattle.grid_words.proofs.Corners.{dim, box-lt, some-order, orders-factorial, turn-lt, corner-point}
 use Rattle.grid_words.proofs.Listed.{cell-length, cell-rising, cell-before}
 use Rattle.grid_mesh.specs.Words.{gluedCells}
-use Rattle.grid_laws.proofs.Turns.{up, kinds, earliness, Turned, turn, Parted, Later, place, up-most, up-none, up-each, up-rises}
-use Rattle.grid_laws.proofs.Folding.{cornerBy, vertexBy}
-use Rattle.grid_laws.proofs.Facing.{side, sides-few, side-self, Chain, Matched, Faced, one-point, up-or-down, not-parted}
-use Rattle.grid_laws.proofs.Members.{one-word}
-use Rattle.grid_laws.proofs.Words.{wordNo, vertexNo, corner-one, OneFacet, same-cell, cell-same, crowd}
+use Rattle.grid_mesh.proofs.Turns.{up, kinds, earliness, Turned, turn, Parted, Later, place, up-most, up-none, up-each, up-rises}
+use Rattle.grid_mesh.proofs.Folding.{cornerBy, vertexBy}
+use Rattle.grid_mesh.proofs.Facing.{side, sides-few, side-self, Chain, Matched, Faced, one-point, up-or-down, not-parted}
+use Rattle.grid_mesh.proofs.Members.{one-word}
+use Rattle.grid_mesh.proofs.Words.{wordNo, vertexNo, corner-one, OneFacet, same-cell, cell-same, crowd}
 
 module _ (g : Grid) (fine : checkOf g ≡ Fine) where
   -- ---- cells by box and order

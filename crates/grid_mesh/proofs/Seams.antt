@@ -20,8 +20,8 @@ use Rattle.quotient.specs.Reduce.{coordAt, wrappedAt, flipsAt}
 use Rattle.quotient.specs.Chain.{Untangled}
 use Rattle.quotient.proofs.Taken.{taken-low}
 use Rattle.quotient.proofs.Onto.{three-cells}
-use Rattle.grid_laws.proofs.Folding.{cornerBy, vertexBy, Begins, corner-coord, fold-one, AtEnds, coord-ends}
-use Rattle.grid_laws.proofs.Facing.{Chain}
+use Rattle.grid_mesh.proofs.Folding.{cornerBy, vertexBy, Begins, corner-coord, fold-one, AtEnds, coord-ends}
+use Rattle.grid_mesh.proofs.Facing.{Chain}
 
 -- each corner of the one chain but i has the vertex of a corner of the other but j
 pub record MatchedBut (g : Grid) (p q : ℕ → ℕ) (u w : ℕ → ℕ → ℕ) (i j : ℕ) : Type 0 where
