@@ -44,6 +44,8 @@ SIGNATURES: Dict[str, str] = {
     "planner_induced_orientation": "u32 u32[] u32[]" + ROOM,
     "planner_refine": "u32 u32 u32[]" + REFINED,
     "planner_refine_with": "u32 u32 u32[] u32[]" + REFINED,
+    "planner_write_mesh": "u32 u32[] u32[] u32[] u8[&]" + ROOM,
+    "planner_read_mesh": "u8[] u32[&] u32[&] u32[&]" + ROOM + " u32&",
     "planner_child_of": "u32 u32[] f64[] i32[] f64& i32&",
     "planner_birth_of": "u32 u32 u32[] u32[] f64[] u32& u32& f64&",
 }
