@@ -31,7 +31,7 @@ SIGNATURES: Dict[str, str] = {
     "planner_triangulate_ordered": "u32 u32[] u32[&] u32[&]" + ROOM,
     "planner_edge_lengths_sq": "u32 u32[] f64[] f64[&]" + ROOM,
     "planner_edge_length_sq": "u32 u32 u32 u32[] f64[] f64&",
-    "planner_corners": "u32 u32[]",
+    "planner_grid_corners": "u32 u32[]",
     "planner_swath": "u32 u32[] u32[] u32[&]",
     "planner_cells": "u32 u32[] u32[&]" + ROOM,
     "planner_edges": "u32 u32[] u32[&]" + ROOM,

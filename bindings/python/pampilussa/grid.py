@@ -234,7 +234,7 @@ class Grid:
     def _need(self, name: str) -> List[int]:
         """How long the lists of that call must be; nothing is needed for a grid that the call refuses."""
         try:
-            corners = self._ask("planner_corners", self._axes)
+            corners = self._ask("planner_grid_corners", self._axes)
         except Refused:
             corners = 0
         return needed(name, self.d, corners)
