@@ -72,6 +72,8 @@ def too_many_cells(place: int, about: Any) -> str:
 
 def vertex_twice(place: int, about: Any) -> str:
     d = about["d"]
+    if "words" not in about:
+        return "word %d of the glued grid names a class twice" % place
     word = [int(v) for v in about["words"][place * (d + 1):(place + 1) * (d + 1)]]
     twice = next((v for v in word if word.count(v) > 1), word[0])
     return "word %d is %s, which names vertex %d twice; a cell needs %d different vertices" % (place, tuple(word), twice, d + 1)

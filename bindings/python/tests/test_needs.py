@@ -31,4 +31,4 @@ def test_needs():
 def test_corners():
     for line in ("1 3 P", "2 3 T1 1 O", "3 2 O 3 P 4 P", "2 64 P 32 P"):
         grid = pa.Grid.parse(line)
-        assert library.call("planner_corners", grid.d, grid._axes) == grid.words().size
+        assert library.call("planner_grid_corners", grid.d, grid._axes) == grid.words().size
