@@ -33,7 +33,7 @@ use Rattle.grid_words.proofs.Corners.{some-cell, corner-lt}
 use Rattle.grid_words.proofs.Flat.{to-tab, of-tab}
 use Rattle.grid_words.proofs.Listed.{cell-length, words-tab}
 use Rattle.grid_mesh.specs.Words.{gluedCells}
-use Rattle.grid_laws.proofs.Words.{wordNo, words-each, glued-are}
+use Rattle.grid_mesh.proofs.Words.{wordNo, words-each, glued-are}
 use Rattle.file_geojson.specs.File.{cellNumber, meshNumber}
 use Rattle.file_geojson.specs.Kind.{bandGrid}
 use Rattle.file_geojson.proofs.Places.{RowCell, Before, top-within, row-before, Turn, on, third, second, first, turn-within, turn-one, turn-to, turn-back, InRow, in-row-lower, in-row-upper}

@@ -20,7 +20,7 @@ use Rattle.quotient.specs.declared.Glue.{Glue}
 use Rattle.quotient.specs.declared.Glue.the-variants.{Open, Periodic, Twisted}
 use Rattle.quotient.specs.Shape.{axisOf, closedOf, maskOf, maskAt, checkOf}
 use Rattle.grid_mesh.specs.Words.{gluedCells, gridNeed}
-use Rattle.grid_laws.proofs.Seven.{plain-never-seven}
+use Rattle.grid_mesh.proofs.Seven.{plain-never-seven}
 use Rattle.file_geojson.specs.Kind.{bandGrid, fromPole, latitudesFit}
 use Rattle.file_geojson.specs.Promise.{bandFile, Drawn, other, beyond, short, drawn, GeoEnd, crowded, plain, GeoJson}
 use Rattle.file_geojson.proofs.Poles.{poles-apart, fitting-of, between, north-above, south-below}
