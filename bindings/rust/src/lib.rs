@@ -20,6 +20,7 @@
 
 mod answer;
 mod complex;
+mod dropped;
 mod grid;
 mod orientation;
 mod raw;
@@ -28,6 +29,7 @@ mod seam;
 
 pub use answer::Refusal;
 pub use complex::{border, cells, edges, facets, induced_orientation, ordering, orient_by, orientation, Facet, Ordered, Side};
+pub use dropped::{drop_cells, Kept};
 pub use orientation::{orientation_looks, Coherence};
 pub use grid::{Axis, EdgeLength, Gluing, GluedVertex, Grid, GridVertex, Triangulated};
 pub use refinement::{refine, refine_with, Birth, Child, Refined};
