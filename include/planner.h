@@ -67,7 +67,8 @@ enum {
     PLANNER_BAD_ORDER = 16,         /* order words not one for each cell, no more */
     PLANNER_FILE_ENDS = 20,         /* a mesh file ends inside a record, or before the record that ends it */
     PLANNER_UNKNOWN_KIND = 21,      /* a mesh file has a record of an unknown kind */
-    PLANNER_BAD_FILE = 22           /* a mesh file has a wrong length, order, count, field or birth, or bytes after its end */
+    PLANNER_BAD_FILE = 22,          /* a mesh file has a wrong length, order, count, field or birth, or bytes after its end */
+    PLANNER_NO_SUCH_CELL = 23       /* a set of cells names one that is not there */
 };
 
 /* ---- grids */
@@ -228,6 +229,17 @@ uint64_t planner_ordering(
 uint64_t planner_induced_orientation(
     uint32_t d, const uint32_t *words, size_t n, const uint32_t *order, size_t order_len, uint32_t *keys, size_t keys_len, uint32_t *rows, size_t rows_len,
     uint32_t *spare, size_t spare_len, uint32_t *counts, size_t counts_len);
+
+/* ---- cells dropped from a mesh */
+
+/* The words of the cells that do not go, in the order given and by new vertex numbers; `gone` names cells by their places in planner_cells' list, in any order, and a place
+ * given twice counts once. Vertices that no word has any more are freed; the others are numbered without gaps in their old order, and old has the old number of each.
+ * Returns how many words stay, a word given twice counted twice: d+1 times as many numbers are needed of kept. vertices[0] gets how many vertices they have, the length
+ * needed of old; a refusal leaves it as it was. Refused: 1, 2, 3, 4, 6, 5, 12 (working lists), 7, 23 (a place past the last cell), 2 (all cells would go), 12 (kept,
+ * old). Working lists as planner_cells. */
+uint64_t planner_drop_cells(
+    uint32_t d, const uint32_t *words, size_t n, const uint32_t *gone, size_t gone_len, uint32_t *kept, size_t kept_len, uint32_t *old, size_t old_len,
+    uint32_t *keys, size_t keys_len, uint32_t *rows, size_t rows_len, uint32_t *spare, size_t spare_len, uint32_t *counts, size_t counts_len, uint32_t vertices[1]);
 
 /* ---- refinement: every cell is cut into r^d children, along a word of its vertices
  *

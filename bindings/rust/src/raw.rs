@@ -43,4 +43,5 @@ extern "C" {
     pub fn planner_need_orient_by(d: u32, n: usize, need: *mut usize);
     pub fn planner_need_ordering(d: u32, n: usize, need: *mut usize);
     pub fn planner_need_induced_orientation(d: u32, n: usize, need: *mut usize);
+    pub fn planner_drop_cells(d: u32, words: *const u32, words_len: usize, gone: *const u32, gone_len: usize, kept: *mut u32, kept_len: usize, old: *mut u32, old_len: usize, keys: *mut u32, keys_len: usize, rows: *mut u32, rows_len: usize, spare: *mut u32, spare_len: usize, counts: *mut u32, counts_len: usize, vertices: *mut u32) -> u64;
 }
