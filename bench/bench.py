@@ -38,7 +38,10 @@ REFINED = [("1-D, 2,047 edges, R 2", words_of(2047, O), 2, words_of(511, O), 2),
 GRID_CALLS = ["reduce", "nvertices", "is_orientation_preserving", "cell_words", "triangulate_ordered", "edge_lengths_sq", "edge_length_sq"]
 LIST_CALLS = ["cells", "edges", "facets", "border", "orientation", "orientation_looks", "orient_by", "ordering", "induced_orientation"]
 REFINE_CALLS = ["refine", "refine_with"]
-NOT_IN_RUST = {"edge_length_sq", "orientation_looks"}
+# both paths where the table has the pattern: dimensions 2 and 3 refined by 4, set to refined by 2
+BY_STEPS = [("one triangle, R 4", listed(2, [(0, 1, 2)]), 4, listed(2, [(0, 1, 2)]), 2), ("one tetrahedron, R 4", listed(3, [(0, 1, 2, 3)]), 4, listed(3, [(0, 1, 2, 3)]), 2)]
+STEP_CALLS = ["corners", "corners_stepping", "refine", "refine_by_steps"]
+NOT_IN_RUST = {"edge_length_sq", "orientation_looks", "corners", "corners_stepping", "refine_by_steps"}
 CONSTANT = {"nvertices", "is_orientation_preserving"}          # made a thousand times in one run: they do not grow
 
 
@@ -91,6 +94,9 @@ def cases():
             yield call, name, Case(call, whole), Case(call, quarter)
     for name, whole, r, quarter, s in REFINED:
         for call in REFINE_CALLS:
+            yield call, name, Case(call, whole, r), Case(call, quarter, s)
+    for name, whole, r, quarter, s in BY_STEPS:
+        for call in STEP_CALLS:
             yield call, name, Case(call, whole, r), Case(call, quarter, s)
 
 

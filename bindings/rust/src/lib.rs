@@ -22,6 +22,7 @@ mod answer;
 mod complex;
 mod grid;
 mod orientation;
+mod pattern;
 mod raw;
 mod refinement;
 
@@ -29,4 +30,5 @@ pub use answer::Refusal;
 pub use complex::{border, cells, edges, facets, induced_orientation, ordering, orient_by, orientation, Facet, Ordered, Side};
 pub use orientation::{orientation_looks, Coherence};
 pub use grid::{Axis, EdgeLength, Gluing, GluedVertex, Grid, GridVertex, Triangulated};
-pub use refinement::{refine, refine_with, Birth, Child, Refined};
+pub use pattern::{corners, corners_stepping};
+pub use refinement::{refine, refine_by_steps, refine_with, refine_with_by_steps, Birth, Child, Refined};
