@@ -89,6 +89,11 @@ uint64_t planner_quasi_uniform(uint32_t d, uint32_t n, const uint32_t *gluings, 
 /* The glued vertex of grid point v; PLANNER_NO_VERTEX where v is past the last point. Refused: 1, 9, 8, 3, 6. */
 uint64_t planner_reduce(uint32_t d, uint32_t v, const uint32_t *axes, size_t axes_len);
 
+/* The same vertex, and where v crossed the seam: sets[0] gets the mask of the closed axes on which it was wrapped (its coordinate as given is their last), sets[1]
+ * that of the axes that came out reversed (an odd number of the wrapped axes reflects them). Bit a of a mask is axis a. Both are 0 where v is past the last point. A
+ * refusal leaves them. Refused: 1, 9, 8, 3, 6. */
+uint64_t planner_crossing(uint32_t d, uint32_t v, const uint32_t *axes, size_t axes_len, uint32_t sets[2]);
+
 /* How many vertices there are after gluing. Refused: 1, 9, 8, 3, 6. */
 uint64_t planner_nvertices(uint32_t d, const uint32_t *axes, size_t axes_len);
 

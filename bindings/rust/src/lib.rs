@@ -25,6 +25,7 @@ mod orientation;
 mod pattern;
 mod raw;
 mod refinement;
+mod seam;
 
 pub use answer::Refusal;
 pub use complex::{border, cells, edges, facets, induced_orientation, ordering, orient_by, orientation, Facet, Ordered, Side};
@@ -32,3 +33,4 @@ pub use orientation::{orientation_looks, Coherence};
 pub use grid::{Axis, EdgeLength, Gluing, GluedVertex, Grid, GridVertex, Triangulated};
 pub use pattern::{corners, corners_stepping};
 pub use refinement::{refine, refine_by_steps, refine_with, refine_with_by_steps, Birth, Child, Refined};
+pub use seam::Crossing;

@@ -14,7 +14,8 @@ use Rattle.quotient.specs.declared.Glue.{Glue}
 use Rattle.quotient.specs.declared.Glue.the-variants.{Open, Periodic, Twisted}
 use Rattle.quotient.specs.declared.Grid.{Grid}
 use Rattle.quotient.specs.Fold.{member, some, count}
-use Rattle.quotient.specs.Shape.{noAxis, setSize}
+use Rattle.quotient.specs.Shape.{noAxis}
+use Rattle.quotient.proofs.Sets.{sizeOf}
 use Rattle.quotient.proofs.Laws.{some-true}
 use Rattle.refusal.specs.Table.{badDimension, unreadable}
 use Rattle.refusal.specs.Limits.{mostDimension}
@@ -71,7 +72,7 @@ count-most (b ∷ r) =
 
 -- ---- a set: at most eight digits. A digit that is new makes the set larger by one: one test that antt computes over the 256 masks and eight digits
 unchanged : ℕ → ℕ → Bool
-unchanged m j = cond (member m j) false (not (eqb (setSize (m + 2 ^ j)) (suc (setSize m)) && ltb (m + 2 ^ j) 256))
+unchanged m j = cond (member m j) false (not (eqb (sizeOf (m + 2 ^ j)) (suc (sizeOf m)) && ltb (m + 2 ^ j) 256))
 
 some-unchanged : ℕ → Bool
 some-unchanged m = some (unchanged m) 8
@@ -92,12 +93,12 @@ both true true e = (refl, refl)
 both true false e = absurd (false≢true e)
 both false b e = absurd (false≢true e)
 
-grown : (m j : ℕ) → m < 256 → j < 8 → member m j ≡ false → (setSize (m + 2 ^ j) ≡ suc (setSize m)) × (m + 2 ^ j < 256)
+grown : (m j : ℕ) → m < 256 → j < 8 → member m j ≡ false → (sizeOf (m + 2 ^ j) ≡ suc (sizeOf m)) × (m + 2 ^ j < 256)
 unfolding unchanged some-unchanged
 grown m j h l e =
     let t : unchanged m j ≡ false = none (unchanged m) 8 j (none some-unchanged 256 m computed h) l in
-    let u : not (eqb (setSize (m + 2 ^ j)) (suc (setSize m)) && ltb (m + 2 ^ j) 256) ≡ false = ap (λ (b : Bool). cond b false (not (eqb (setSize (m + 2 ^ j)) (suc (setSize m)) && ltb (m + 2 ^ j) 256))) (sym e) ∙ t in
-    let v = both (eqb (setSize (m + 2 ^ j)) (suc (setSize m))) (ltb (m + 2 ^ j) 256) (not-false _ u) in
+    let u : not (eqb (sizeOf (m + 2 ^ j)) (suc (sizeOf m)) && ltb (m + 2 ^ j) 256) ≡ false = ap (λ (b : Bool). cond b false (not (eqb (sizeOf (m + 2 ^ j)) (suc (sizeOf m)) && ltb (m + 2 ^ j) 256))) (sym e) ∙ t in
+    let v = both (eqb (sizeOf (m + 2 ^ j)) (suc (sizeOf m))) (ltb (m + 2 ^ j) 256) (not-false _ u) in
     (eqb-true _ _ (v .0), ltb-true _ _ (v .1))
 
 count-bound : (p : ℕ → Bool) (n : ℕ) → count p n ≤ n
@@ -112,18 +113,18 @@ count-bound p (suc n) = step (p n) (count-bound p n)
 axis-digit : (b : ℕ) → isAxisDigit b ≡ true → b - zeroDigit < 8
 axis-digit b e = let l : b ≤ 55 = leb-true _ _ (both (leb 48 b) (leb b 55) e .1) in omega arith
 
-set-most : (m : ℕ) (bs : List ℕ) → m < 256 → AtMost (8 - setSize m) bs (setFrom m bs)
+set-most : (m : ℕ) (bs : List ℕ) → m < 256 → AtMost (8 - sizeOf m) bs (setFrom m bs)
 unfolding setFrom
 set-most m [] h = omega arith
 set-most m (b ∷ r) h =
-    if-most (8 - setSize m) (b ∷ r) (isAxisDigit b) (cond (member m (b - zeroDigit)) nothing (setFrom (m + 2 ^ (b - zeroDigit)) r)) (front m (b ∷ r))
-    (λ e. if-most (8 - setSize m) (b ∷ r) (member m (b - zeroDigit)) nothing (setFrom (m + 2 ^ (b - zeroDigit)) r) (λ f. tt)
+    if-most (8 - sizeOf m) (b ∷ r) (isAxisDigit b) (cond (member m (b - zeroDigit)) nothing (setFrom (m + 2 ^ (b - zeroDigit)) r)) (front m (b ∷ r))
+    (λ e. if-most (8 - sizeOf m) (b ∷ r) (member m (b - zeroDigit)) nothing (setFrom (m + 2 ^ (b - zeroDigit)) r) (λ f. tt)
     (λ f.
     let j = b - zeroDigit in
     let w = grown m j h (axis-digit b e) f in
-    let z : setSize (m + 2 ^ j) ≤ 8 = count-bound (member (m + 2 ^ j)) 8 in
-    weaker (1 + (8 - setSize (m + 2 ^ j))) (8 - setSize m) (b ∷ r) (setFrom (m + 2 ^ j) r) (omega (arith, w .0))
-    (further 1 (8 - setSize (m + 2 ^ j)) (b ∷ r) r (setFrom (m + 2 ^ j) r) (omega arith) (set-most (m + 2 ^ j) r (w .1)))))
+    let z : sizeOf (m + 2 ^ j) ≤ 8 = count-bound (member (m + 2 ^ j)) 8 in
+    weaker (1 + (8 - sizeOf (m + 2 ^ j))) (8 - sizeOf m) (b ∷ r) (setFrom (m + 2 ^ j) r) (omega (arith, w .0))
+    (further 1 (8 - sizeOf (m + 2 ^ j)) (b ∷ r) r (setFrom (m + 2 ^ j) r) (omega arith) (set-most (m + 2 ^ j) r (w .1)))))
     (λ e. omega arith)
 
 -- ---- an axis, the grid

@@ -25,6 +25,7 @@ use grid_sides::Sides;
 use grid_sides::Steps;
 use quotient::GluedVertex;
 use quotient::Grid;
+use quotient::GridVertex;
 use refusal::Answer;
 use refusal::Counted;
 use refusal::Room;
@@ -178,9 +179,11 @@ fn visits_edge(grid: Grid, a: u32, b: u32, r: usize) -> bool
     requires { ⌜ (checkOf grid ≡ Fine) × (r < visitsOf grid) ⌝ }
     ensures { λ x. ⌜ x ≡ visitsEdge grid a b r ⌝ }
 {
-    let p = grid.vertex(from_at(grid, r));
-    let q = grid.vertex(to_at(grid, r));
-    same_ends(a, b, p, q)
+    let begins = grid.crossed(GridVertex(from_at(grid, r)));
+    let ends = grid.crossed(GridVertex(to_at(grid, r)));
+    let p = begins.vertex;
+    let q = ends.vertex;
+    same_ends(a, b, p.0, q.0)
 }
 
 // What is known of an edge after one value more.
@@ -245,9 +248,13 @@ fn end_vertex(grid: Grid, i: usize) -> u32
     ensures { λ r. ⌜ r ≡ endOf grid i ⌝ }
 {
     if i % 2 == 0 {
-        grid.vertex(from_at(grid, i / 2))
+        let c = grid.crossed(GridVertex(from_at(grid, i / 2)));
+        let p = c.vertex;
+        p.0
     } else {
-        grid.vertex(to_at(grid, i / 2))
+        let c = grid.crossed(GridVertex(to_at(grid, i / 2)));
+        let p = c.vertex;
+        p.0
     }
 }
 

@@ -15,6 +15,7 @@ ghost use Rattle.grid_words.specs.Cells.{boxAt, flatWords};
 ghost use Rattle.grid_words.specs.WorkNumbered.{strideOf, cornerOf};
 use multiindex::permutation;
 use quotient::Grid;
+use quotient::GridVertex;
 
 // How many boxes a grid has that is taken.
 fn boxes(grid: Grid) -> usize
@@ -103,7 +104,9 @@ pub fn grid_words(grid: Grid, words: &mut [u32])
     let mut i = 0;
     while i < words.len() {
         let v = corner(grid, i / n, i % n);
-        words[i] = grid.vertex(v as u32);
+        let c = grid.crossed(GridVertex(v as u32));
+        let p = c.vertex;
+        words[i] = p.0;
         i += 1;
     }
 }

@@ -5,13 +5,14 @@ use mathlib.Core.List.{List}
 use lib.Ieee.{Float}
 use Rattle.quotient.specs.declared.Grid.{Grid}
 use Rattle.quotient.specs.declared.Made.{Made}
+use Rattle.quotient.specs.declared.Reduced.{Reduced}
 use Rattle.refusal.specs.declared.Counted.{Counted}
 use Rattle.grid_mesh.specs.Words.{CellWords}
 use Rattle.grid_order.specs.declared.Triangulated.{Triangulated}
 use Rattle.grid_order.specs.Promise.{TriangulateOrdered}
 use Rattle.grid_lengths.specs.declared.EdgeLength.{EdgeLength}
 use Rattle.grid_lengths.specs.Lengths.{EdgeLengths}
-use Rattle.planner_passing.specs.Said.{Said, countedCode, madeCode, madeAxes, triangulatedCode, lengthCode, lengthSquares}
+use Rattle.planner_passing.specs.Said.{Said, reducedCode, reducedSets, countedCode, madeCode, madeAxes, triangulatedCode, lengthCode, lengthSquares}
 
 -- an answer that is the call's, on a value that is the one given
 pub called : {A B : Type 0} (code : B → ℕ) (f : A → B) {r : ℕ} {b : B} {a given : A} → r ≡ code b → b ≡ f a → a ≡ given → r ≡ code (f given)
@@ -20,6 +21,10 @@ called code f e h k = e ∙ ap code (h ∙ ap f k)
 -- a maker's answer and axes, where its answer is that of the one that is asked for
 pub made-as : (s asked : Made) {r : ℕ} (axes : List ℕ) {after : List ℕ} → (r ≡ madeCode s) × (after ≡ madeAxes s axes) → s ≡ asked → (r ≡ madeCode asked) × (after ≡ madeAxes asked axes)
 made-as s asked axes h k = (h .0 ∙ ap madeCode k, h .1 ∙ ap (λ (x : Made). madeAxes x axes) k)
+
+-- a point's vertex and sets, likewise
+pub crossed-as : (s asked : Reduced) {r : ℕ} (sets : List ℕ) {after : List ℕ} → (r ≡ reducedCode s) × (after ≡ reducedSets s sets) → s ≡ asked → (r ≡ reducedCode asked) × (after ≡ reducedSets asked sets)
+crossed-as s asked sets h k = (h .0 ∙ ap reducedCode k, h .1 ∙ ap (λ (x : Reduced). reducedSets x sets) k)
 
 -- a grid's words, where the grid is the one given
 pub words-said : {g given : Grid} {r : ℕ} {a : Counted} {words words′ keys keys′ rows rows′ spare spare′ counts counts′ : List ℕ}

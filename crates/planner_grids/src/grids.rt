@@ -9,7 +9,7 @@ ghost use Rattle.quotient.specs.Shape.{parityOf, nverticesOf};
 ghost use Rattle.quotient.specs.Makers.{torusOf, kleinOf, quasiOf, bandOf};
 ghost use Rattle.grid_mesh.specs.Words.{CellWords};
 ghost use Rattle.grid_order.specs.Promise.{TriangulateOrdered};
-ghost use Rattle.planner_passing.specs.Said.{Said, reducedCode, parityCode, countedCode, madeCode, madeAxes, triangulatedCode};
+ghost use Rattle.planner_passing.specs.Said.{Said, reducedCode, reducedSets, parityCode, countedCode, madeCode, madeAxes, triangulatedCode};
 ghost use Rattle.planner_passing.specs.Given.{plainGiven, vertexGiven, sidesGiven, gluesGiven};
 
 // The glued number of grid point v, 4294967295 where v is past the last point. Refused: 1, 9, 8, 3, 6.
@@ -19,6 +19,17 @@ pub extern "C" fn planner_reduce(d: u32, v: u32, axes: &[u32]) -> u64
 {
     let g = given::plain(d, axes);
     said::reduced(g.reduce(GridVertex(v)))
+}
+
+// The glued number of grid point v; the axes on which it was wrapped, and those that came out reversed, go to the list as masks. 4294967295 and two empty sets where v
+// is past the last point. Refused: 1, 9, 8, 3, 6.
+#[no_mangle]
+pub extern "C" fn planner_crossing(d: u32, v: u32, axes: &[u32], sets: &mut [u32; 2]) -> u64
+    ensures { λ r. ⌜ r ≡ reducedCode (reduceOf (plainGiven d (now (axes .entry))) (vertexGiven v)) ⌝ }
+    ensures { λ _. ⌜ now (sets .exit) ≡ reducedSets (reduceOf (plainGiven d (now (axes .entry))) (vertexGiven v)) (now (sets .entry)) ⌝ }
+{
+    let g = given::plain(d, axes);
+    said::crossed(g.reduce(GridVertex(v)), sets)
 }
 
 // 1 where every axis reflects an even number of axes, else 0. Refused: 1, 9, 8, 3, 6.

@@ -16,6 +16,9 @@ use Rattle.quotient.specs.declared.Axis.{Axis}
 use Rattle.quotient.specs.declared.Grid.{Grid}
 use Rattle.quotient.specs.declared.Made.{Made}
 use Rattle.quotient.specs.declared.Made.the-variants.{Taken, Refused}
+use Rattle.quotient.specs.declared.Crossing.{Crossing}
+use Rattle.quotient.specs.declared.Reduced.{Reduced}
+use Rattle.quotient.specs.declared.Reduced.the-variants as Reduced
 use Rattle.grid_lengths.specs.declared.EdgeLength.{EdgeLength}
 use Rattle.grid_lengths.specs.declared.EdgeLength.the-variants as EdgeLength
 use Rattle.orientation.specs.declared.Coherence.{Coherence}
@@ -25,7 +28,7 @@ use Rattle.refusal.specs.declared.Answer.{Answer}
 use Rattle.refusal.specs.declared.Answer.the-variants as Answer
 use Rattle.refine_results.specs.declared.Refinement.{Refinement}
 use Rattle.refine_results.specs.declared.Refinement.the-variants as Refinement
-use Rattle.planner_passing.specs.Said.{refusedCode, coherenceCode, coherenceLooks, madeCode, madeAxes, lengthCode, lengthSquares, refinedCode, refinedVertices, answerCode, answerList}
+use Rattle.planner_passing.specs.Said.{refusedCode, coherenceCode, coherenceLooks, reducedCode, reducedSets, madeCode, madeAxes, lengthCode, lengthSquares, refinedCode, refinedVertices, answerCode, answerList}
 use Rattle.planner_passing.specs.Given.{glueOf, axisGiven, sidesGiven, gridGiven, entry, sideGiven, gluesGiven, glueCode, axesOf}
 
 -- a list's element does not turn on what stands past its end
@@ -91,6 +94,14 @@ pub axes-made : (g : Grid) {a b c : ℕ} → a ≡ glueCode (g .first .glue) →
     → g .first .count ∷ a ∷ g .second .count ∷ b ∷ g .third .count ∷ c ∷ [] ≡ axesOf g
 unfolding axesOf
 axes-made g e f h = rw (e, f, h)
+
+pub crossed-refused : (s : Reduced) {n p r : ℕ} (sets : List ℕ) → s ≡ Reduced.Refused n p → r ≡ refusedCode n p → (r ≡ reducedCode s) × (sets ≡ reducedSets s sets)
+unfolding reducedSets
+crossed-refused s sets e h = (h ∙ sym (ap reducedCode e), sym (ap (λ (x : Reduced). reducedSets x sets) e))
+
+pub crossed-at : (s : Reduced) {c : Crossing} (sets : List ℕ) → s ≡ Reduced.At c → (c .vertex .0 ≡ reducedCode s) × (c .wrapped ∷ c .reversed ∷ [] ≡ reducedSets s sets)
+unfolding reducedSets
+crossed-at s sets e = (sym (ap reducedCode e), sym (ap (λ (x : Reduced). reducedSets x sets) e))
 
 pub made-refused : (s : Made) {n p r : ℕ} (axes : List ℕ) → s ≡ Refused n p → r ≡ refusedCode n p → (r ≡ madeCode s) × (axes ≡ madeAxes s axes)
 unfolding madeCode madeAxes

@@ -3,7 +3,7 @@ use mathlib.Core.Path.{_≡_}
 use Prim.Native.Nat.{ℕ, _+_, _*_}
 use Rattle.refusal.specs.declared.Counted.{Counted}
 use Rattle.refusal.specs.declared.Counted.the-variants as Counted
-use mathlib.Core.List.{List}
+use mathlib.Core.List.{List, [], _∷_}
 use lib.Ieee.{Float}
 use lib.ListN.{set}
 use Rattle.refusal.specs.declared.Verdict.{Verdict}
@@ -12,7 +12,7 @@ use Rattle.quotient.specs.declared.Made.{Made}
 use Rattle.quotient.specs.declared.Made.the-variants as Made
 use Rattle.quotient.specs.declared.Parity.{Parity}
 use Rattle.quotient.specs.declared.Parity.the-variants as Parity
-use Rattle.quotient.specs.declared.GluedVertex.{GluedVertex}
+use Rattle.quotient.specs.declared.Crossing.{Crossing}
 use Rattle.quotient.specs.declared.Reduced.{Reduced}
 use Rattle.quotient.specs.declared.Reduced.the-variants as Reduced
 use Rattle.orientation.specs.declared.Coherence.{Coherence}
@@ -63,8 +63,13 @@ parityCode (Parity.Refused number place) = refusedCode number place
 
 -- the number of a glued vertex
 abbrev pub reducedCode : Reduced → ℕ
-reducedCode (Reduced.At v) = v .0
+reducedCode (Reduced.At c) = c .vertex .0
 reducedCode (Reduced.Refused number place) = refusedCode number place
+
+-- the sets that are handed out, the wrapped axes and the reversed ones; on a refusal what stood there
+unfoldable pub reducedSets : Reduced → List ℕ → List ℕ
+reducedSets (Reduced.At c) sets = c .wrapped ∷ c .reversed ∷ []
+reducedSets (Reduced.Refused number place) sets = sets
 
 -- 0 where a grid was made
 unfoldable pub madeCode : Made → ℕ

@@ -16,7 +16,7 @@ use refusal::NO_SIGNS;
 use refusal::Verdict;
 ghost use mathlib.Core.Path.{_≡_};
 ghost use Prim.Native.Nat.{_+_, _*_};
-ghost use Rattle.planner_passing.specs.Said.{refusedCode, countedCode, coherenceCode, coherenceLooks, verdictCode, parityCode, reducedCode, madeCode, madeAxes, orderedCode, triangulatedCode, lengthCode, lengthSquares, refinedCode, refinedVertices, answerCode, answerList};
+ghost use Rattle.planner_passing.specs.Said.{refusedCode, countedCode, coherenceCode, coherenceLooks, verdictCode, parityCode, reducedCode, reducedSets, madeCode, madeAxes, orderedCode, triangulatedCode, lengthCode, lengthSquares, refinedCode, refinedVertices, answerCode, answerList};
 
 // A refusal.
 pub fn refused(number: u32, place: u32) -> u64
@@ -80,8 +80,26 @@ pub fn reduced(said: Reduced) -> u64
     ensures { λ r. ⌜ r ≡ reducedCode said ⌝ }
 {
     match said {
-        Reduced::At(v) => v.0 as u64,
+        Reduced::At(c) => {
+            let v = c.vertex;
+            v.0 as u64
+        }
         Reduced::Refused(number, place) => refused(number, place),
+    }
+}
+
+// A reduced vertex, and the wrapped and the reversed axes go to the list. A refusal leaves the list as it was.
+pub fn crossed(said: Reduced, sets: &mut [u32; 2]) -> u64
+    ensures { λ r. ⌜ r ≡ reducedCode said ⌝ }
+    ensures { λ _. ⌜ now (sets .exit) ≡ reducedSets said (now (sets .entry)) ⌝ }
+{
+    match said {
+        Reduced::Refused(number, place) => refused(number, place),
+        Reduced::At(c) => {
+            *sets = [c.wrapped as u32, c.reversed as u32];
+            let v = c.vertex;
+            v.0 as u64
+        }
     }
 }
 

@@ -1,9 +1,8 @@
 -- The table of refusals, case by case: what the tests on the way say of a grid decides its answer. Assumes nothing.
-use mathlib.Core.Path.{_≡_, refl, sym, ap, subst, _∙_}
-use mathlib.Core.Bool.{Bool, true, false, cond}
+use mathlib.Core.Path.{_≡_, refl}
+use mathlib.Core.Bool.{true, false}
 use Prim.Native.Nat.{ℕ, _+_, _≤_, _<_, min}
 use native.Mathlib.Omega.{arith}
-use lib.Dec.{ltb}
 use borrow.Author.Tests.{lt-ltb, le-ltb}
 use Rattle.quotient.specs.declared.Grid.{Grid}
 use Rattle.refusal.specs.declared.Answer.{Answer}
@@ -16,44 +15,66 @@ use Rattle.refusal.specs.declared.Counted.the-variants as Counted
 use Rattle.refusal.specs.Table.{badDimension, tooManyCells, tooManyVertices, shortAxisNumber, badReflectionNumber, badSide}
 use Rattle.refusal.specs.Limits.{mostDimension, mostCells, mostVertices}
 use Rattle.grid_sides.specs.Counts.{firstBad}
-use Rattle.quotient.specs.Shape.{reflectsOdd, parityOf, shapeCheck, checkOf, sidesCheckOf, nverticesOf, badReflection, shortAxis, cellCount, verticesOf}
+use Rattle.quotient.specs.Shape.{reflectsOdd, parityOf, shapeCheck, countedAfter, checkOf, sidesCheckOf, nverticesOf, badReflection, shortAxis, cellCount, verticesOf}
+use Rattle.quotient.specs.Work.{shapeCount}
 
 -- ---- from 9 on
 module _ (g : Grid) (b : ℕ) (eb : b ≡ badReflection g) where
-  pub is-9 : b < g .d → Refused badReflectionNumber b ≡ shapeCheck g
+  pub is-9 : b < g .d → Counted.Refused badReflectionNumber b ≡ shapeCount g
   is-9 h = rw (← eb, lt-ltb _ _ h)
 
   module _ (hb : g .d ≤ b) (s : ℕ) (es : s ≡ shortAxis g) where
-    pub is-8 : s < g .d → Refused shortAxisNumber s ≡ shapeCheck g
+    pub is-8 : s < g .d → Counted.Refused shortAxisNumber s ≡ shapeCount g
     is-8 h = rw (← eb, le-ltb _ _ hb, ← es, lt-ltb _ _ h)
 
     module _ (hs : g .d ≤ s) (n : ℕ) (en : n ≡ min (cellCount g) (mostCells + 1)) where
-      pub is-3 : mostCells < n → Refused tooManyCells 0 ≡ shapeCheck g
+      pub is-3 : mostCells < n → Counted.Refused tooManyCells 0 ≡ shapeCount g
       is-3 h = let m : mostCells < cellCount g = omega arith in rw (← eb, le-ltb _ _ hb, ← es, le-ltb _ _ hs, lt-ltb _ _ m)
 
       module _ (hn : n ≤ mostCells) (k : ℕ) (ek : k ≡ min (verticesOf g) (mostVertices + 1)) where
         cells-fine : cellCount g ≤ mostCells
         cells-fine = omega arith
 
-        pub is-6 : mostVertices < k → Refused tooManyVertices 0 ≡ shapeCheck g
+        pub is-6 : mostVertices < k → Counted.Refused tooManyVertices 0 ≡ shapeCount g
         is-6 h = let m : mostVertices < verticesOf g = omega arith in rw (← eb, le-ltb _ _ hb, ← es, le-ltb _ _ hs, le-ltb _ _ cells-fine, lt-ltb _ _ m)
 
-        pub is-fine : k ≤ mostVertices → Fine ≡ shapeCheck g
-        is-fine h = let m : verticesOf g ≤ mostVertices = omega arith in rw (← eb, le-ltb _ _ hb, ← es, le-ltb _ _ hs, le-ltb _ _ cells-fine, le-ltb _ _ m)
+        -- within the limit the count is not capped
+        pub is-count : k ≤ mostVertices → Counted.Count k ≡ shapeCount g
+        is-count h =
+            let m : verticesOf g ≤ mostVertices = omega arith in
+            let e : k ≡ verticesOf g = omega arith in
+            rw (← eb, le-ltb _ _ hb, ← es, le-ltb _ _ hs, le-ltb _ _ cells-fine, le-ltb _ _ m, e)
+
+-- ---- what a count says of the check before it
+pub check-refused : (a : Answer) (x n p : ℕ) → Counted.Refused n p ≡ countedAfter a (Counted.Count x) → Refused n p ≡ a
+check-refused Fine x n p e = absurd (let z : _≡_ {A = ℕ} 0 1 = cc in let w : ⊥ = omega arith in w)
+check-refused (Refused m q) x n p e = cc
+
+pub check-fine : (a : Answer) (x n : ℕ) → Counted.Count n ≡ countedAfter a (Counted.Count x) → Fine ≡ a
+check-fine Fine x n e = refl
+check-fine (Refused m q) x n e = absurd (let z : _≡_ {A = ℕ} 0 1 = cc in let w : ⊥ = omega arith in w)
 
 -- ---- before it
 module _ (g : Grid) where
-  pub is-1 : g .d < 1 → Refused badDimension 0 ≡ checkOf g
-  unfolding checkOf
+  pub is-1 : g .d < 1 → Counted.Refused badDimension 0 ≡ nverticesOf g
+  unfolding nverticesOf checkOf
   is-1 h = rw (lt-ltb _ _ h)
 
-  pub is-1-too : 1 ≤ g .d → mostDimension < g .d → Refused badDimension 0 ≡ checkOf g
-  unfolding checkOf
+  pub is-1-too : 1 ≤ g .d → mostDimension < g .d → Counted.Refused badDimension 0 ≡ nverticesOf g
+  unfolding nverticesOf checkOf
   is-1-too l h = rw (le-ltb _ _ l, lt-ltb _ _ h)
 
-  pub is-rest : 1 ≤ g .d → g .d ≤ mostDimension → (a : Answer) → a ≡ shapeCheck g → a ≡ checkOf g
-  unfolding checkOf
+  pub is-rest : 1 ≤ g .d → g .d ≤ mostDimension → (a : Counted) → a ≡ shapeCount g → a ≡ nverticesOf g
+  unfolding nverticesOf checkOf
   is-rest l u a e = rw (le-ltb _ _ l, le-ltb _ _ u) e
+
+  pub count-refused : (n p : ℕ) → Counted.Refused n p ≡ nverticesOf g → Refused n p ≡ checkOf g
+  unfolding nverticesOf
+  count-refused n p e = check-refused (checkOf g) (verticesOf g) n p e
+
+  pub count-fine : (n : ℕ) → Counted.Count n ≡ nverticesOf g → Fine ≡ checkOf g
+  unfolding nverticesOf
+  count-fine n e = check-fine (checkOf g) (verticesOf g) n e
 
   pub sides-1 : g .d < 1 → Refused badDimension 0 ≡ sidesCheckOf g
   unfolding sidesCheckOf
@@ -71,16 +92,6 @@ module _ (g : Grid) where
     pub sides-rest : g .d ≤ b → (a : Answer) → a ≡ shapeCheck g → a ≡ sidesCheckOf g
     unfolding sidesCheckOf
     sides-rest h a e = rw (le-ltb _ _ l, le-ltb _ _ u, ← eb, le-ltb _ _ h) e
-
--- ---- the number of vertices
-module _ (g : Grid) where
-  pub count-refused : (n p : ℕ) → Refused n p ≡ checkOf g → Counted.Refused n p ≡ nverticesOf g
-  unfolding nverticesOf
-  count-refused n p e = rw (← e)
-
-  pub count-is : (n : ℕ) → Fine ≡ checkOf g → n ≡ verticesOf g → Counted.Count n ≡ nverticesOf g
-  unfolding nverticesOf
-  count-is n e h = rw (← e, h)
 
 -- ---- orientation
 module _ (g : Grid) where

@@ -1,14 +1,12 @@
 -- What is known of a grid that is taken: `checkOf g ≡ Fine`. Assumes nothing.
-use mathlib.Core.Path.{_≡_, refl, sym, ap, subst, _∙_}
+use mathlib.Core.Path.{_≡_, refl, sym, subst, _∙_}
 use mathlib.Core.Bool.{Bool, true, false, cond}
 use mathlib.Core.Logic.{⊎-elim}
-use Prim.Native.Nat.{ℕ, zero, suc, _+_, _-_, _*_, _/_, _%_, _≤_, _<_}
-use native.Mathlib.Nat.{mod-lt, div-one, div-div-eq-div-mul, div-eq-of-lt, div-lt-iff-lt-mul, one-mul, le-trans, add-zero}
-use native.Mathlib.Numerals.{add-one}
+use Prim.Native.Nat.{ℕ, zero, suc, _+_, _*_, _/_, _%_, _≤_, _<_}
+use native.Mathlib.Nat.{mod-lt, div-one, div-div-eq-div-mul, div-eq-of-lt, div-lt-iff-lt-mul, one-mul, mul-le-mul-right, le-trans, add-zero}
 use native.Mathlib.Omega.{arith}
 use lib.Dec.{ltb, leb}
 use borrow.Author.Tests.{ltb-false, le-leb, lt-leb}
-use Rattle.quotient.specs.declared.Axis.{Axis}
 use Rattle.quotient.specs.declared.Grid.{Grid}
 use Rattle.refusal.specs.declared.Answer.{Answer}
 use Rattle.refusal.specs.declared.Answer.the-variants.{Fine, Refused}
@@ -17,12 +15,13 @@ use Rattle.refusal.specs.Table.{badDimension, tooManyCells, tooManyVertices, sh
 use Rattle.refusal.specs.Limits.{mostDimension, mostCells, mostVertices}
 use Rattle.refusal.proofs.Chain.{refuse-fine}
 use Rattle.grid_sides.specs.Counts.{firstBad}
-use Rattle.quotient.specs.Fold.{product, firstFrom}
-use Rattle.quotient.specs.Shape.{axisOf, closedOf, closedFloor, openFloor, tooFew, fallsShort, closedAt, cellsOn, gluedOn, pointsOn, badReflection, shortAxis, cellCount, verticesOf, shapeCheck, checkOf, sidesCheckOf}
+use Rattle.quotient.specs.Fold.{product}
+use Rattle.quotient.specs.Shape.{closedFloor, openFloor, fallsShort, closedAt, cellsOn, gluedOn, pointsOn, badReflection, shortAxis, cellCount, verticesOf, shapeCheck, checkOf, sidesCheckOf}
 use Rattle.quotient.specs.declared.GridVertex.{GridVertex}
+use Rattle.quotient.specs.declared.Crossing.{Crossing}
 use Rattle.quotient.specs.declared.Reduced.{Reduced}
 use Rattle.quotient.specs.declared.Reduced.the-variants as Reduced
-use Rattle.quotient.specs.Reduce.{restAt, reflectedBy, flipsAt, foldedAt, numberTo, noVertex, vertexOf, reduceOf}
+use Rattle.quotient.specs.Reduce.{restAt, reflectedBy, flipsAt, foldedAt, crossingOf, reduceOf}
 use Rattle.quotient.proofs.Laws.{none-found, product-mono, product-pos, product-more, place, lt-or-ge}
 use Rattle.quotient.proofs.Points.{coord-le, turn-le}
 
@@ -110,23 +109,35 @@ module _ (g : Grid) (fine : checkOf g ≡ Fine) where
       subst (λ (x : ℕ). x ≤ mostVertices) (product-more (gluedOn g) k)
       (le-trans (product-mono (gluedOn g) (g .d) (k + 1) (omega arith) glued-pos) taken-vertices)
 
-  pub folded-lt : (v k : ℕ) → k < g .d → foldedAt g v k < gluedOn g k
-  folded-lt v k h = below (closedAt g k) (reflectedBy g v k (g .d)) (cellsOn g k) (reflected-le g v k (g .d)) (ltb-false _ _ (enough k h))
+  -- no axis has more cells than there are vertices
+  pub few-cells : (k : ℕ) → k < g .d → cellsOn g k ≤ mostVertices
+  unfolding product
+  few-cells k h =
+      let one : 1 ≤ product (gluedOn g) k = product-mono (gluedOn g) k 0 (omega arith) (λ i l. glued-pos i (omega arith)) in
+      le-trans (fewer (closedAt g k) (cellsOn g k)) (le-trans (grow (product (gluedOn g) k) (gluedOn g k) one) (room k h))
+    where
+      fewer : (b : Bool) (n : ℕ) → n ≤ cond b n (n + 1)
+      fewer true n = omega arith
+      fewer false n = omega arith
+
+      grow : (p x : ℕ) → 1 ≤ p → x ≤ p * x
+      grow p x l = subst (λ (z : ℕ). z ≤ p * x) (one-mul x) (mul-le-mul-right x l)
+
+  -- a coordinate of at most n is within its place once a closed axis has taken it modulo n
+  pub within-place : (k c : ℕ) → k < g .d → c ≤ cellsOn g k → cond (closedAt g k) (c % cellsOn g k) c < gluedOn g k
+  within-place k c h l = below (closedAt g k) c (cellsOn g k) l (ltb-false _ _ (enough k h))
     where
       below : (b : Bool) (c n : ℕ) → c ≤ n → cond b closedFloor openFloor ≤ n → cond b (c % n) c < cond b n (n + 1)
       below true c n l e = mod-lt c (omega arith)
       below false c n l e = omega arith
 
--- one coordinate more in the number
-pub number-more : (g : Grid) (v k s x f r : ℕ) → s ≡ product (gluedOn g) k → x ≡ numberTo g v k → f ≡ foldedAt g v k → r ≡ x + s * f → r ≡ numberTo g v (k + 1)
-unfolding numberTo
-number-more g v k s x f r hs hx hf hr = rw (add-one k, hr, hx, hs, hf)
+  pub folded-lt : (v k : ℕ) → k < g .d → foldedAt g v k < gluedOn g k
+  folded-lt v k h = within-place k (reflectedBy g v k (g .d)) h (reflected-le g v k (g .d))
 
--- and it stays within the places, which stay within the vertices
-pub number-room : (g : Grid) → checkOf g ≡ Fine → (v k s x f p : ℕ) → k < g .d → s ≡ product (gluedOn g) k → x < s → f ≡ foldedAt g v k → p ≡ gluedOn g k
+-- a digit more stays within the places, which stay within the vertices
+pub number-room : (g : Grid) → checkOf g ≡ Fine → (k s x f p : ℕ) → k < g .d → s ≡ product (gluedOn g) k → x < s → f < gluedOn g k → p ≡ gluedOn g k
     → (x + s * f < s * p) × (s * p ≤ mostVertices)
-number-room g fine v k s x f p h hs hx hf hp =
-    (place x s f p hx (rw (hf, hp) (folded-lt g fine v k h)), rw (hs, hp) (room g fine k h))
+number-room g fine k s x f p h hs hx hf hp = (place x s f p hx (rw hp hf), rw (hs, hp) (room g fine k h))
 
 -- ---- past the last point
 pub rest-is : (g : Grid) (v k : ℕ) → restAt g v k ≡ v / product (pointsOn g) k
@@ -151,18 +162,11 @@ outside g v k n =
     (lt-or-ge v (product (pointsOn g) k))
 
 -- ---- the answer
-module _ (g : Grid) (v : ℕ) where
-  pub vertex-inside : (n : ℕ) → restAt g v (g .d) ≡ 0 → n ≡ numberTo g v (g .d) → n ≡ vertexOf g v
-  vertex-inside n h q = rw (inside g v (g .d) h, q)
-
-  pub vertex-outside : (restAt g v (g .d) ≡ 0 → ⊥) → noVertex ≡ vertexOf g v
-  vertex-outside h = rw (outside g v (g .d) h)
-
 module _ (g : Grid) (v : GridVertex) where
   pub reduced-refused : (n p : ℕ) → Refused n p ≡ checkOf g → Reduced.Refused n p ≡ reduceOf g v
   unfolding reduceOf
   reduced-refused n p e = rw (← e)
 
-  pub reduced-at : (n : ℕ) → Fine ≡ checkOf g → n ≡ vertexOf g (v .0) → Reduced.At (record { 0 = n }) ≡ reduceOf g v
+  pub reduced-at : (c : Crossing) → Fine ≡ checkOf g → c ≡ crossingOf g (v .0) → Reduced.At c ≡ reduceOf g v
   unfolding reduceOf
-  reduced-at n e q = rw (← e, q)
+  reduced-at c e q = rw (← e, q)

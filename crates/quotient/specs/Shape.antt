@@ -18,7 +18,7 @@ use Rattle.refusal.specs.Limits.{mostDimension, mostCells, mostVertices}
 use Rattle.grid_sides.specs.Counts.{firstBad}
 use Rattle.quotient.specs.declared.Parity.{Parity}
 use Rattle.quotient.specs.declared.Parity.the-variants as Parity
-use Rattle.quotient.specs.Fold.{least, product, factorial, member, some, count}
+use Rattle.quotient.specs.Fold.{least, product, factorial, member, some, oddCount}
 
 -- no axis: what stands past the third
 abbrev pub noAxis : Axis
@@ -139,12 +139,9 @@ nverticesOf g = countedAfter (checkOf g) (Counted.Count (verticesOf g))
 
 -- ---- orientation
 
--- how many axes the set of the mask m has, and whether that number is odd
-abbrev pub setSize : ℕ → ℕ
-setSize m = count (member m) 8
-
+-- the set of the mask m has an odd number of axes
 unfoldable pub oddSet : ℕ → Bool
-oddSet m = eqb (setSize m % 2) 1
+oddSet m = oddCount (member m) 8
 
 abbrev pub reflectsOdd : Grid → ℕ → Bool
 reflectsOdd g i = oddSet (maskAt g i)

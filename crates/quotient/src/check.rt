@@ -2,22 +2,20 @@
 ghost use mathlib.Core.Path.{_≡_};
 ghost use Prim.Native.Nat.{_+_, _*_, _≤_, _<_, _^_, min};
 ghost use Rattle.refusal.specs.Limits.{mostCells, mostVertices};
-ghost use Rattle.quotient.specs.Shape.{reflectsBadly, fallsShort, cellCount, verticesOf, badReflection, shortAxis, shapeCheck, checkOf, sidesCheckOf, nverticesOf};
+ghost use Rattle.quotient.specs.Shape.{reflectsBadly, fallsShort, cellCount, verticesOf, badReflection, shortAxis, checkOf, sidesCheckOf, nverticesOf};
+ghost use Rattle.quotient.specs.Work.{shapeCount};
 use crate::Grid;
+use crate::Sizes;
 use crate::mask;
 use refusal::Answer;
 use refusal::Counted;
 
 // The product, or `cap` where it is larger.
 fn capped(a: usize, b: usize, cap: usize) -> usize
-    requires { ⌜ (a ≤ cap) × (cap < 2 ^ 32) ⌝ }
+    requires { ⌜ (a ≤ cap) × (cap < 2 ^ 31) × (b ≤ 2 ^ 32) ⌝ }
     ensures { λ r. ⌜ r ≡ min (a * b) cap ⌝ }
 {
-    let mut c = cap;
-    if b < cap {
-        c = b;
-    }
-    let p = a * c;
+    let p = a * b;
     if p < cap { p } else { cap }
 }
 
@@ -70,70 +68,70 @@ impl Grid {
         d
     }
 
-    // The number of cells, or one more than the limit where it is larger.
-    fn cells(self) -> usize
-        ensures { λ r. ⌜ r ≡ min (cellCount self) (mostCells + 1) ⌝ }
+    // The numbers of cells and of vertices after gluing, each at most one more than its limit.
+    fn sizes(self) -> Sizes
+        ensures { λ r. ⌜ (r .cells ≡ min (cellCount self) (mostCells + 1)) × (r .vertices ≡ min (verticesOf self) (mostVertices + 1)) ⌝ }
     {
         let d = self.d;
-        let mut p = 1usize;
+        let mut cells = 1usize;
+        let mut vertices = 1usize;
         let mut i = 0u32;
         while i < d {
             let a = self.axis(i);
-            let q = capped(p, a.count as usize, refusal::MOST_CELLS + 1);
+            let q = capped(cells, a.count as usize, refusal::MOST_CELLS + 1);
+            vertices = capped(vertices, self.glued_on(i), refusal::MOST_VERTICES + 1);
             i += 1;
-            p = capped(q, i as usize, refusal::MOST_CELLS + 1);
+            cells = capped(q, i as usize, refusal::MOST_CELLS + 1);
         }
-        p
+        Sizes { cells, vertices }
     }
 
-    // The number of vertices after gluing, or one more than the limit where it is larger.
-    fn vertices(self) -> usize
-        ensures { λ r. ⌜ r ≡ min (verticesOf self) (mostVertices + 1) ⌝ }
-    {
-        let d = self.d;
-        let mut p = 1usize;
-        let mut i = 0u32;
-        while i < d {
-            p = capped(p, self.glued_on(i), refusal::MOST_VERTICES + 1);
-            i += 1;
-        }
-        p
-    }
-
-    // The checks from 9 on: 9, 8, 3 and 6, in this order.
-    fn check_shape(self) -> Answer
-        ensures { λ r. ⌜ r ≡ shapeCheck self ⌝ }
+    // How many vertices the grid has after gluing, in a dimension that is taken; 9, 8, 3 and 6 are refused, in this order.
+    fn shape(self) -> Counted
+        ensures { λ r. ⌜ r ≡ shapeCount self ⌝ }
     {
         let d = self.d;
         let b = self.bad_reflection();
         if b < d {
-            return Answer::Refused(refusal::BAD_REFLECTION, b);
+            return Counted::Refused(refusal::BAD_REFLECTION, b);
         }
         let s = self.short_axis();
         if s < d {
-            return Answer::Refused(refusal::SHORT_AXIS, s);
+            return Counted::Refused(refusal::SHORT_AXIS, s);
         }
-        if refusal::MOST_CELLS < self.cells() {
-            return Answer::Refused(refusal::TOO_MANY_CELLS, 0);
+        let n = self.sizes();
+        if refusal::MOST_CELLS < n.cells {
+            return Counted::Refused(refusal::TOO_MANY_CELLS, 0);
         }
-        if refusal::MOST_VERTICES < self.vertices() {
-            return Answer::Refused(refusal::TOO_MANY_VERTICES, 0);
+        if refusal::MOST_VERTICES < n.vertices {
+            return Counted::Refused(refusal::TOO_MANY_VERTICES, 0);
         }
-        Answer::Fine
+        Counted::Count(n.vertices as u32)
+    }
+
+    // How many vertices the grid has after gluing; 1, 9, 8, 3 and 6 are refused, in this order.
+    pub fn nvertices(self) -> Counted
+        ensures { λ r. ⌜ r ≡ nverticesOf self ⌝ }
+    {
+        let d = self.d;
+        if d < 1 {
+            return Counted::Refused(refusal::BAD_DIMENSION, 0);
+        }
+        if refusal::MOST_DIMENSION < d {
+            return Counted::Refused(refusal::BAD_DIMENSION, 0);
+        }
+        self.shape()
     }
 
     // Whether the grid is taken where its sides are not asked for: 1, 9, 8, 3 and 6, in this order.
     pub fn check(self) -> Answer
         ensures { λ r. ⌜ r ≡ checkOf self ⌝ }
     {
-        let d = self.d;
-        if d < 1 {
-            return Answer::Refused(refusal::BAD_DIMENSION, 0);
+        let c = self.nvertices();
+        match c {
+            Counted::Refused(n, p) => Answer::Refused(n, p),
+            Counted::Count(_) => Answer::Fine,
         }
-        if refusal::MOST_DIMENSION < d {
-            return Answer::Refused(refusal::BAD_DIMENSION, 0);
-        }
-        self.check_shape()
     }
 
     // Whether the grid is taken with its sides: 1, 10, 9, 8, 3 and 6, in this order.
@@ -152,17 +150,10 @@ impl Grid {
         if b < d {
             return Answer::Refused(refusal::BAD_SIDE, b);
         }
-        self.check_shape()
-    }
-
-    // How many vertices the grid has after gluing; 1, 9, 8, 3 and 6 are refused.
-    pub fn nvertices(self) -> Counted
-        ensures { λ r. ⌜ r ≡ nverticesOf self ⌝ }
-    {
-        let a = self.check();
-        match a {
-            Answer::Refused(n, p) => Counted::Refused(n, p),
-            Answer::Fine => Counted::Count(self.vertices() as u32),
+        let c = self.shape();
+        match c {
+            Counted::Refused(n, p) => Answer::Refused(n, p),
+            Counted::Count(_) => Answer::Fine,
         }
     }
 }

@@ -8,7 +8,7 @@
 // A grid is plain data that a caller fills in freely, so every call checks it again and answers with document 01's number and place where it is refused.
 // Entries past d are not looked at, and a set counts only on a twisted axis. In the order of the modules:
 //   check       `check` asks 1, 9, 8, 3, 6 and `check_with_sides` 1, 10, 9, 8, 3, 6; `nvertices` counts
-//   reduce      `reduce` leads from a grid point to its vertex
+//   reduce      `reduce` leads from a grid point to its vertex, and tells where it crossed the seam
 //   preserving  `is_orientation_preserving`
 //   makers      `torus`, `klein`, `quasi_uniform`, `moebius`
 pub mod check;
@@ -19,6 +19,10 @@ pub mod preserving;
 pub mod reduce;
 
 use grid_sides::Sides;
+use refusal::MOST_DIMENSION;
+
+// The most axes that a grid has.
+const AXES: usize = MOST_DIMENSION as usize;
 
 // How an axis's two ends are glued: not at all, by a shift, or by a shift that reflects a set of axes, given as a mask.
 pub enum Glue {
@@ -52,12 +56,33 @@ pub struct Glues {
 // The number of a point of the grid, axis 0 varying fastest.
 pub struct GridVertex(pub u32);
 
-// The number of a vertex after gluing. Only `reduce` leads from a grid point to its vertex.
+// The number of a vertex after gluing. Only `reduce`, and `crossed` below it, lead from a grid point to its vertex.
 pub struct GluedVertex(pub u32);
 
-// What `reduce` says: a point's vertex. 4294967295 stands for a number past the last grid point, and is no vertex.
+// How a point went across the seam: its vertex, the closed axes on which it was wrapped, and the axes that came out reversed, each set as a mask.
+pub struct Crossing {
+    pub vertex: GluedVertex,
+    pub wrapped: u8,
+    pub reversed: u8,
+}
+
+// How many cells and vertices a grid has, each at most one more than its limit.
+struct Sizes {
+    cells: usize,
+    vertices: usize,
+}
+
+// A grid point taken apart: its coordinates, what is left of its number above them, and the two sets of its crossing.
+struct Spread {
+    coordinates: [u32; AXES],
+    rest: u32,
+    wrapped: u8,
+    reversed: u8,
+}
+
+// What `reduce` says: a point's crossing. Past the last grid point 4294967295 stands for the vertex, and is none; both sets are empty there.
 pub enum Reduced {
-    At(GluedVertex),
+    At(Crossing),
     Refused(u32, u32),
 }
 

@@ -1,20 +1,61 @@
-// The vertex that a grid point becomes: the wrapped axes are found from the point as given, each turns the axes of its set round, closed coordinates are taken
-// modulo n, and the result is numbered in the glued shape.
+// The vertex that a grid point becomes, and where it crossed the seam. One pass over the axes takes the point apart: each axis is divided off once at most, and where the
+// point lies at a closed axis's far end, that axis is wrapped and its set is turned round. A second pass turns the reversed coordinates, takes the closed ones
+// modulo n, and numbers the result in the glued shape.
+//
+// Two wrapped axes that reflect one axis cancel, so the reversed set is the wrapped axes' sets, joined digit by digit where exactly one of two has it: `^`.
 ghost use mathlib.Core.Path.{_≡_};
 ghost use mathlib.Core.Bool.{cond};
-ghost use Prim.Native.Nat.{_-_, _<_, _≤_};
+ghost use Prim.Native.Nat.{ℕ, _-_, _/_, _<_, _≤_};
+ghost use lib.ListN.{getD};
 ghost use Rattle.refusal.specs.Limits.{mostVertices};
 ghost use Rattle.quotient.specs.Shape.{cellsOn, checkOf};
-ghost use Rattle.quotient.specs.Reduce.{restAt, coordAt, wrappedAt, flipsAt, reflectedBy, foldedAt, numberTo, noVertex, vertexOf, reduceOf};
+ghost use Rattle.quotient.specs.Reduce.{restAt, coordAt, crossingOf, reduceOf};
+ghost use Rattle.quotient.specs.Work.{endsAt, foldedBy, numberBy, Apart};
+use crate::Axis;
+use crate::Crossing;
 use crate::GluedVertex;
 use crate::Grid;
 use crate::GridVertex;
 use crate::Reduced;
+use crate::Spread;
 use crate::mask;
 use refusal::Answer;
 
 // What stands for a number past the last grid point: no vertex.
 pub const NO_VERTEX: u32 = 4294967295;
+
+impl Axis {
+    // Whether the axis is closed and coordinate c lies at its far end.
+    fn ends(self, c: u32) -> bool
+        ensures { λ r. ⌜ r ≡ endsAt self c ⌝ }
+    {
+        let g = self.glue;
+        if c == self.count { g.closed() } else { false }
+    }
+}
+
+// The whole part of x / p. Where x is below p nothing is divided: so it is on the last axis of every point inside the grid, and a division takes longest of all.
+fn whole_part(x: u32, p: u32) -> u32
+    requires { ⌜ 0 < p ⌝ }
+    ensures { λ r. ⌜ r ≡ x / p ⌝ }
+{
+    if x < p { 0 } else { x / p }
+}
+
+// The mask where the test passed, else the empty one.
+fn only(passed: bool, m: u8) -> u8
+    ensures { λ r. ⌜ r ≡ cond passed m 0 ⌝ }
+{
+    if passed { m } else { 0 }
+}
+
+// Coordinate c of an axis of n cells, from its other end where it is turned.
+fn turned(reversed: bool, n: u32, c: u32) -> u32
+    requires { ⌜ c ≤ n ⌝ }
+    ensures { λ r. ⌜ r ≡ cond reversed (n - c) c ⌝ }
+{
+    if reversed { n - c } else { c }
+}
 
 impl Grid {
     // What is left of the point's number v once the coordinates below axis k are taken off.
@@ -37,111 +78,101 @@ impl Grid {
         self.rest(v, k) % self.points_on(k)
     }
 
-    // Whether axis a is closed and point v lies at its far end.
-    fn wrapped(self, v: u32, a: u32) -> bool
-        ensures { λ r. ⌜ r ≡ wrappedAt self v a ⌝ }
-    {
-        let x = self.axis(a);
-        let g = x.glue;
-        let n = x.count as usize;
-        if g.closed() {
-            self.coordinate(v, a) == n
-        } else {
-            false
-        }
-    }
-
-    // Whether point v has axis k reflected by axis a. The set is asked first: most axes reflect nothing, and the point's coordinate takes divisions.
-    fn flips(self, v: u32, a: u32, k: u32) -> bool
-        ensures { λ r. ⌜ r ≡ flipsAt self v a k ⌝ }
-    {
-        let x = self.axis(a);
-        let g = x.glue;
-        if mask::member_of(g.mask(), k) {
-            self.wrapped(v, a)
-        } else {
-            false
-        }
-    }
-
-    // Coordinate c of axis k, which has n cells, after axis a.
-    fn turned(self, v: u32, a: u32, k: u32, n: usize, c: usize) -> usize
-        requires { ⌜ c ≤ n ⌝ }
-        ensures { λ r. ⌜ r ≡ cond (flipsAt self v a k) (n - c) c ⌝ }
-    {
-        if self.flips(v, a, k) { n - c } else { c }
-    }
-
-    // Coordinate k of point v once every wrapped axis has reflected.
-    fn reflected(self, v: u32, k: u32) -> usize
-        ensures { λ r. ⌜ (r ≡ reflectedBy self v k (self .d)) × (r ≤ cellsOn self k) ⌝ }
+    // Grid point v taken apart, in a grid that is taken.
+    fn spread(self, v: u32) -> Spread
+        requires { ⌜ checkOf self ≡ Answer.Fine ⌝ }
+        ensures { λ r. ⌜ Apart self v r ⌝ }
     {
         let d = self.d;
-        let x = self.axis(k);
-        let n = x.count as usize;
-        let mut c = self.coordinate(v, k);
-        let mut a = 0u32;
-        while a < d {
-            c = self.turned(v, a, k, n, c);
-            a += 1;
+        let mut coordinates = [0u32; crate::AXES];
+        let mut rest = v;
+        let mut wrapped = 0u8;
+        let mut reversed = 0u8;
+        let mut k = 0u32;
+        while k < d {
+            let a = self.axis(k);
+            let g = a.glue;
+            let p = a.count + 1;
+            let q = whole_part(rest, p);
+            let c = rest - q * p;
+            let ends = a.ends(c);
+            coordinates[k as usize] = c;
+            wrapped += only(ends, 1 << k);
+            reversed = reversed ^ only(ends, g.mask());
+            rest = q;
+            k += 1;
         }
-        c
+        Spread {
+            coordinates,
+            rest,
+            wrapped,
+            reversed,
+        }
     }
 
-    // Coordinate k of point v's vertex. A reflected coordinate is at most n, so only n itself changes modulo n.
-    fn folded(self, v: u32, k: u32) -> usize
-        ensures { λ r. ⌜ r ≡ foldedAt self v k ⌝ }
+    // Coordinate c of axis k after gluing: turned where the set of mask m has k, then modulo n. It is at most n, so only n itself changes modulo n.
+    fn folded(self, m: u8, k: u32, c: u32) -> u32
+        requires { ⌜ c ≤ cellsOn self k ⌝ }
+        ensures { λ r. ⌜ r ≡ foldedBy self m k c ⌝ }
     {
-        let x = self.axis(k);
-        let g = x.glue;
-        let n = x.count as usize;
-        let c = self.reflected(v, k);
-        if g.closed() {
-            if c == n { 0 } else { c }
-        } else {
-            c
-        }
+        let a = self.axis(k);
+        let t = turned(mask::member_of(m, k), a.count, c);
+        if a.ends(t) { 0 } else { t }
     }
 
-    // The number of point v's vertex, in a grid that is taken.
-    fn number(self, v: u32) -> usize
-        requires { ⌜ checkOf self ≡ Answer.Fine ⌝ }
-        ensures { λ r. ⌜ (r ≡ numberTo self v (self .d)) × (r < mostVertices) ⌝ }
+    // The number in the glued shape of the point with these coordinates, those of the mask m turned, in a grid that is taken.
+    fn number(self, m: u8, coordinates: [u32; crate::AXES]) -> usize
+        requires { ⌜ (checkOf self ≡ Answer.Fine) × ((k : ℕ) → k < self .d → getD coordinates k 0 ≤ cellsOn self k) ⌝ }
+        ensures { λ r. ⌜ (r ≡ numberBy self m coordinates) × (r < mostVertices) ⌝ }
     {
         let d = self.d;
         let mut s = 1usize;
         let mut x = 0usize;
         let mut k = 0u32;
         while k < d {
-            x = x + s * self.folded(v, k);
+            let f = self.folded(m, k, coordinates[k as usize]);
+            x = x + s * (f as usize);
             s = s * self.glued_on(k);
             k += 1;
         }
         x
     }
 
-    // The number of the vertex that grid point v becomes, in a grid that is taken; NO_VERTEX past the last point. For the crates above.
-    pub fn vertex(self, v: u32) -> u32
+    // The crossing of grid point v in a grid that is taken: its vertex with both sets; NO_VERTEX with empty sets past the last point. For the crates above.
+    pub fn crossed(self, v: GridVertex) -> Crossing
         requires { ⌜ checkOf self ≡ Answer.Fine ⌝ }
-        ensures { λ r. ⌜ r ≡ vertexOf self v ⌝ }
+        ensures { λ r. ⌜ r ≡ crossingOf self (v .0) ⌝ }
     {
-        let d = self.d;
-        if self.rest(v, d) == 0 {
-            self.number(v) as u32
+        let w = v.0;
+        let s = self.spread(w);
+        if s.rest == 0 {
+            let coordinates = s.coordinates;
+            let reversed = s.reversed;
+            let vertex = GluedVertex(self.number(reversed, coordinates) as u32);
+            Crossing {
+                vertex,
+                wrapped: s.wrapped,
+                reversed,
+            }
         } else {
-            NO_VERTEX
+            let vertex = GluedVertex(NO_VERTEX);
+            Crossing {
+                vertex,
+                wrapped: 0,
+                reversed: 0,
+            }
         }
     }
 
-    // The vertex that grid point v becomes, NO_VERTEX past the last point; 1, 9, 8, 3 and 6 are refused.
+    // The vertex that grid point v becomes, with the axes on which it was wrapped and those that came out reversed; NO_VERTEX with empty sets past the last point.
+    // 1, 9, 8, 3 and 6 are refused.
     pub fn reduce(self, v: GridVertex) -> Reduced
         ensures { λ r. ⌜ r ≡ reduceOf self v ⌝ }
     {
         let a = self.check();
-        let w = v.0;
         match a {
             Answer::Refused(n, p) => Reduced::Refused(n, p),
-            Answer::Fine => Reduced::At(GluedVertex(self.vertex(w))),
+            Answer::Fine => Reduced::At(self.crossed(v)),
         }
     }
 }

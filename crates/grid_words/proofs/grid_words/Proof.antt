@@ -11,6 +11,7 @@ use native.Mathlib.Numerals.{add-one}
 use Rattle.grid_words.specs.Cells.{flatWords}
 use Rattle.grid_words.proofs.Corners.{dim, corner-lt, points-few}
 use Rattle.grid_words.proofs.Listed.{words-long, words-turn}
+use Rattle.quotient.proofs.Crossings.{crossing-vertex}
 use Rattle.grid_words.proofs.grid_words.Statement.{statement}
 use Rattle.grid_words.proofs.grid_words.Tie as tie
 
@@ -38,11 +39,11 @@ rem-corner c = omega arith
 corner-requires : tie.Need-corner-requires Inv-loop μ-loop
 corner-requires c κs = let s = c .before .before .before .before in (s .pre .0, let h : c .before .loop .i % (s .args .grid .d + 1) < s .args .grid .d + 1 = mod-lt (c .before .loop .i) (omega arith) in omega arith)
 
-cast-vertex : tie.Need-cast-vertex Inv-loop μ-loop
-cast-vertex c = let s = c .before .before .before .before .before in let g = s .args .grid in let i = c .before .before .loop .i in let h : i % (g .d + 1) < g .d + 1 = mod-lt i (omega arith) in omega (arith, c .corner .ensures, corner-lt g (s .pre .0) (i / (g .d + 1)) (i % (g .d + 1)) (omega arith), points-few g (s .pre .0) (g .d) (le-refl (g .d)))
+cast-t12 : tie.Need-cast-t12 Inv-loop μ-loop
+cast-t12 c = let s = c .before .before .before .before .before in let g = s .args .grid in let i = c .before .before .loop .i in let h : i % (g .d + 1) < g .d + 1 = mod-lt i (omega arith) in omega (arith, c .corner .ensures, corner-lt g (s .pre .0) (i / (g .d + 1)) (i % (g .d + 1)) (omega arith), points-few g (s .pre .0) (g .d) (le-refl (g .d)))
 
-vertex-requires : tie.Need-vertex-requires Inv-loop μ-loop
-vertex-requires c κs = c .before .before .before .before .before .pre .0
+crossed-requires : tie.Need-crossed-requires Inv-loop μ-loop
+crossed-requires c κs = c .before .before .before .before .before .pre .0
 
 mul-words : tie.Need-mul-words Inv-loop μ-loop
 mul-words c = search needs
@@ -58,11 +59,11 @@ loop-less c = search needs
 
 loop-again : tie.Need-loop-again Inv-loop μ-loop
 loop-again c =
-    let l = c .before .before .before in
+    let l = c .before .before .before .before in
     let s = l .before .before .before in
     let g = s .args .grid in
     let h : l .loop .i < length (s .args .words .now) = omega arith in
-    let e = words-turn g (s .pre .0) (l .loop .i) _ _ (omega (arith, s .pre .1)) (c .before .corner .ensures) (c .vertex .ensures) in
+    let e = words-turn g (s .pre .0) (l .loop .i) _ _ (omega (arith, s .pre .1)) (c .before .before .corner .ensures) (crossing-vertex _ _ _ (c .before .crossed .ensures)) in
     (search needs, rw (l .loop .inv .1, e) (store _ _ _ (omega (arith, words-long g (s .pre .0), s .pre .1)) h), simp length-set (l .loop .inv .2))
 
 same-length : tie.Need-same-length Inv-loop μ-loop
@@ -87,8 +88,8 @@ grid-words-spec =
     div-corner
     rem-corner
     corner-requires
-    cast-vertex
-    vertex-requires
+    cast-t12
+    crossed-requires
     mul-words
     slice-write-words
     add-i
