@@ -43,6 +43,13 @@ __attribute__((noinline)) static uint64_t once(const char *call) {
         for (uint32_t v = 0; v < points; v++) sum += planner_crossing(d, v, AXES, sets) + sets[1];
         return sum >> 32;
     }
+    if (!strcmp(call, "swath")) {
+        size_t points = 1;
+        for (uint32_t a = 0; a < d; a++) points *= axes[2 * a] + 1;
+        if (more[points - 1] != points - 1)
+            for (uint32_t v = 0; v < points; v++) more[v] = v;
+        return planner_swath(d, AXES, more, points, OUT);
+    }
     if (!strcmp(call, "nvertices")) return planner_nvertices(d, AXES);
     if (!strcmp(call, "is_orientation_preserving")) return planner_is_orientation_preserving(d, AXES);
     if (!strcmp(call, "cell_words")) return planner_cell_words(d, AXES, OUT, ROOM);

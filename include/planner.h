@@ -6,8 +6,7 @@
  * is then its place, counted from 0, and otherwise the answer: a count, a vertex, or 1 and 0 for yes and no. Two calls answer a count with a
  * yes beside it: planner_count(r) is the count, planner_yes(r) is 1 for yes.
  *
- * LISTS are a pointer and a length in elements, one after the other. A list may be empty, and its pointer must still be one that may be
- * read or written that often. Lists that are written must not overlap any other list of the call. The order of parameters is: numbers, lists
+ * LISTS are a pointer and a length in elements, one after the other. A list may be empty, and its pointer is then not looked at: NULL will do. Lists that are written must not overlap any other list of the call. The order of parameters is: numbers, lists
  * that are read, result lists, working lists, arrays of fixed length.
  *
  * RESULT LISTS get exactly as many elements as the meaning of the call says, from the start; what lies past them keeps its values. A
@@ -19,8 +18,13 @@
  *
  * A GRID is its dimension d, a list `axes` with two numbers for each axis, its count of cells and its gluing, and a list `sides` where the
  * call reads them. A gluing is PLANNER_OPEN, PLANNER_PERIODIC or PLANNER_TWISTED(mask), where bit j of the mask is set if axis j is
- * reflected. An axis that is not in the list has no cells (refused with 8), a side that is not there is 0 (refused with 10). What stands
- * past d is not looked at.
+ * reflected. Of the other numbers 1 to 255 are open and 257 to 511 periodic. An axis that is not in the list has no cells (refused with 8),
+ * one whose count is in the list and whose gluing is not is open, a side that is not there is 0 (refused with 10). What stands past d is not
+ * looked at.
+ *
+ * FLOATS are rounded to the nearest, as a program starts out; where the caller has set another rounding mode, lengths, shares and counts made
+ * from sides follow it. STACK: a call takes less than 8 KB of the thread's stack, unless its text tells
+ * another number, and no memory but its lists.
  *
  * A CELL LIST is its dimension d and a list `words` of d+1 vertex numbers for each cell, in any order. n is the length of `words`.
  */
@@ -29,6 +33,8 @@
 
 #include <stddef.h>
 #include <stdint.h>
+
+#define PLANNER_VERSION "0.1.0"
 
 #ifdef __cplusplus
 extern "C" {
@@ -58,27 +64,30 @@ enum {
     PLANNER_NO_SIGNS = 13,          /* no coherent signs exist */
     PLANNER_BAD_SIGNS = 14,         /* sign list not one +1 or -1 for each cell */
     PLANNER_TWO_LENGTHS = 15,       /* some grid edge gets two lengths */
-    PLANNER_BAD_ORDER = 16          /* order words not one for each cell, no more */
+    PLANNER_BAD_ORDER = 16,         /* order words not one for each cell, no more */
+    PLANNER_FILE_ENDS = 20,         /* a mesh file ends inside a record, or before the record that ends it */
+    PLANNER_UNKNOWN_KIND = 21,      /* a mesh file has a record of an unknown kind */
+    PLANNER_BAD_FILE = 22           /* a mesh file has a wrong length, order, count, field or birth, or bytes after its end */
 };
 
 /* ---- grids */
 
 #define PLANNER_OPEN 0u
 #define PLANNER_PERIODIC 256u
-#define PLANNER_TWISTED(mask) (512u + (uint32_t)(uint8_t)(mask))
+#define PLANNER_TWISTED(mask) (512u + (uint32_t)(mask))
 #define PLANNER_NO_VERTEX 4294967295u
 #define PLANNER_NO_CELL 4294967295u
 
 /* The makers write count and gluing of the three axes to axes[6], those past d as 0 and PLANNER_OPEN; the grid's sides are the caller's. They
  * return 0. A refusal leaves axes as it was. */
 
-/* n cells on every axis, all periodic. Refused: 1, 10, 8 (n under 3), 3, 6. */
+/* n cells on every axis, all periodic. Refused: 1, 10, 8 (n under 3), 3. */
 uint64_t planner_torus(uint32_t d, uint32_t n, const double *sides, size_t sides_len, uint32_t axes[6]);
 
-/* n cells on both axes; axis 0 reflects axis 1, axis 1 is periodic. Refused: 1 (d other than 2), 10, 8 (n under 3), 3, 6. */
+/* n cells on both axes; axis 0 reflects axis 1, axis 1 is periodic. Refused: 1 (d other than 2), 10, 8 (n under 3), 3. */
 uint64_t planner_klein(uint32_t d, uint32_t n, const double *sides, size_t sides_len, uint32_t axes[6]);
 
-/* Axis 0 reflects axis 1, axis 1 is open; counts from the sides, n cells on the longer one, at least 3 and 1. Refused: 10, 3, 6. */
+/* Axis 0 reflects axis 1, axis 1 is open; counts from the sides, n cells on the longer one, at least 3 and 1. Refused: 10, 3. */
 uint64_t planner_moebius(uint32_t n, double circumference, double width, uint32_t axes[6]);
 
 /* These gluings; counts from the sides, n cells on the longest, at least 3 on a closed axis and 1 on an open one. Refused: 1, 10, 9, 3 (n above
@@ -93,6 +102,10 @@ uint64_t planner_reduce(uint32_t d, uint32_t v, const uint32_t *axes, size_t axe
  * that of the axes that came out reversed (an odd number of the wrapped axes reflects them). Bit a of a mask is axis a. Both are 0 where v is past the last point. A
  * refusal leaves them. Refused: 1, 9, 8, 3, 6. */
 uint64_t planner_crossing(uint32_t d, uint32_t v, const uint32_t *axes, size_t axes_len, uint32_t sets[2]);
+
+/* The glued vertex of each of the points, equal in every place to planner_reduce's; PLANNER_NO_VERTEX where one is past the last point. The grid is checked once.
+ * Returns 0; as many numbers are needed of glued as there are points, and an empty list succeeds. Refused: 1, 9, 8, 3, 6, 12 (glued). */
+uint64_t planner_swath(uint32_t d, const uint32_t *axes, size_t axes_len, const uint32_t *points, size_t points_len, uint32_t *glued, size_t glued_len);
 
 /* How many vertices there are after gluing. Refused: 1, 9, 8, 3, 6. */
 uint64_t planner_nvertices(uint32_t d, const uint32_t *axes, size_t axes_len);
@@ -259,12 +272,37 @@ uint64_t planner_child_of(
     uint32_t number, const uint32_t *parents, size_t parents_len, const double *jacobians, size_t jacobians_len, const int32_t *wholes, size_t wholes_len,
     double jacobian[9], int32_t whole[9]);
 
-/* The birth of that number, counted from the first new vertex on. Returns how many coarse vertices support it; vertices gets these, weights their weights over r and shares
- * weight times (1/r), with 4294967295, 0 and 0.0 past them. Refused: 1 where d is more than 3, 12 where a list has none of that number; then the arrays keep their
+/* The birth of that number, counted from the first new vertex on. Returns how many coarse vertices support it, those before the first 4294967295 of its row;
+ * vertices gets the d+1 numbers of its row, weights and shares theirs, and 4294967295, 0 and 0.0 past these. Refused: 1 where d is more than 3, 12 where a list has none of that number; then the arrays keep their
  * values. */
 uint64_t planner_birth_of(
     uint32_t d, uint32_t number, const uint32_t *birth_vertices, size_t birth_vertices_len, const uint32_t *birth_weights, size_t birth_weights_len,
     const double *birth_shares, size_t birth_shares_len, uint32_t vertices[4], uint32_t weights[4], double shares[4]);
+
+/* ---- mesh files: words and births as bytes, to be carried home and read again
+ *
+ * A file is records, all numbers little-endian: four bytes that count what follows them, two bytes of kind, and then
+ *   kind 1   the dimension and the number of cells, two bytes each: the first record
+ *   kind 2   one cell's word, four bytes a vertex: in the order of their cells (colex)
+ *   kind 3   one birth: its number in four bytes, R in two, the number of its pairs in two, and for each pair a vertex in four and a weight in two: by number
+ *   kind 4   nothing: the last record
+ * A birth has two or more pairs, vertices rising and below the first birth's number, positive weights with sum R, one R from 2 to 64 in the whole file; birth numbers run on
+ * to the last vertex. births has three numbers for each birth (number, R, how many pairs), pairs two for each pair (vertex, weight), those of one birth after those of the
+ * birth before it. Working lists of both calls, n corners of the words: keys max(1, d) * n, rows n, spare n, counts n. */
+
+/* Writes the file and returns how many bytes it has: 16 + (10 + 4 * d) * cells + 14 * births + 6 * pairs. Refused: 1, 2, 3, 4, 6, 5, 12 (working lists), 7, 22 (the lists
+ * break the rules of a file), 12 (bytes). */
+uint64_t planner_write_mesh(
+    uint32_t d, const uint32_t *words, size_t n, const uint32_t *births, size_t births_len, const uint32_t *pairs, size_t pairs_len, uint8_t *bytes, size_t bytes_len,
+    uint32_t *keys, size_t keys_len, uint32_t *rows, size_t rows_len, uint32_t *spare, size_t spare_len, uint32_t *counts, size_t counts_len);
+
+/* Reads a file and returns how many cells it has; shape gets the dimension and how many births and pairs there are. For any file words of bytes_len / 4, births of
+ * bytes_len / 8 and pairs of bytes_len / 3 numbers are long enough, keys of 3 * (bytes_len / 4) and rows, spare and counts of bytes_len / 4; no accepted file has more than
+ * 16,384 numbers in words, 12,288 in births and 524,288 in pairs. Refused: 20, 21, 22 as the bytes come, then 1, 2, 3, 4, 6, 5, 12 (working lists), 7, 12 (a result list). A
+ * refusal leaves shape as it was. The call takes 64 KB of stack. */
+uint64_t planner_read_mesh(
+    const uint8_t *bytes, size_t bytes_len, uint32_t *words, size_t words_len, uint32_t *births, size_t births_len, uint32_t *pairs, size_t pairs_len, uint32_t *keys,
+    size_t keys_len, uint32_t *rows, size_t rows_len, uint32_t *spare, size_t spare_len, uint32_t *counts, size_t counts_len, uint32_t shape[3]);
 
 #ifdef __cplusplus
 }

@@ -7,7 +7,7 @@ use crate::{raw, Refusal};
 #[derive(Clone, Copy, Debug, PartialEq, Eq, Hash, PartialOrd, Ord)]
 pub struct GridVertex(pub u32);
 
-/// A vertex after gluing. Only [`Grid::reduce`] and [`Grid::crossing`] lead from a [`GridVertex`] to it.
+/// A vertex after gluing. Only [`Grid::reduce`], [`Grid::crossing`] and [`Grid::swath`] lead from a [`GridVertex`] to it.
 #[derive(Clone, Copy, Debug, PartialEq, Eq, Hash, PartialOrd, Ord)]
 pub struct GluedVertex(pub u32);
 

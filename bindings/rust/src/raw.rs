@@ -8,6 +8,7 @@ extern "C" {
     pub fn planner_quasi_uniform(d: u32, n: u32, gluings: *const u32, gluings_len: usize, sides: *const f64, sides_len: usize, axes: *mut u32) -> u64;
     pub fn planner_reduce(d: u32, v: u32, axes: *const u32, axes_len: usize) -> u64;
     pub fn planner_crossing(d: u32, v: u32, axes: *const u32, axes_len: usize, sets: *mut u32) -> u64;
+    pub fn planner_swath(d: u32, axes: *const u32, axes_len: usize, points: *const u32, points_len: usize, glued: *mut u32, glued_len: usize) -> u64;
     pub fn planner_nvertices(d: u32, axes: *const u32, axes_len: usize) -> u64;
     pub fn planner_is_orientation_preserving(d: u32, axes: *const u32, axes_len: usize) -> u64;
     pub fn planner_cell_words(d: u32, axes: *const u32, axes_len: usize, words: *mut u32, words_len: usize, keys: *mut u32, keys_len: usize, rows: *mut u32, rows_len: usize, spare: *mut u32, spare_len: usize, counts: *mut u32, counts_len: usize) -> u64;

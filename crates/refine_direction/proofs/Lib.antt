@@ -1,0 +1,8 @@
+pub mod Ranks
+pub mod Parity
+pub mod Children
+pub mod Direction
+pub mod Stored
+pub mod Tested
+pub mod Figures
+pub mod Strip
