@@ -71,6 +71,9 @@ __attribute__((noinline)) static uint64_t once(const char *call) {
     if (!strcmp(call, "induced_orientation")) return planner_induced_orientation(d, WORDS, order, norder, ROOM);
     if (!strcmp(call, "drop_cells")) return planner_drop_cells(d, WORDS, second, nwords / (d + 1) / 2, OUT, more, MOST, ROOM, &total);
     if (!strcmp(call, "refine")) return planner_refine(d, r, WORDS, REFINED);
+    if (!strcmp(call, "refine_by_steps")) return planner_refine_by_steps(d, r, WORDS, REFINED);
+    if (!strcmp(call, "corners")) return planner_corners(d, r, OUT);
+    if (!strcmp(call, "corners_stepping")) return planner_corners_stepping(d, r, OUT);
     if (!strcmp(call, "refine_with")) return planner_refine_with(d, r, WORDS, order, norder, REFINED);
     fprintf(stderr, "unknown call %s\n", call);
     exit(1);
