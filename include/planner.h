@@ -67,7 +67,8 @@ enum {
     PLANNER_BAD_ORDER = 16,         /* order words not one for each cell, no more */
     PLANNER_FILE_ENDS = 20,         /* a mesh file ends inside a record, or before the record that ends it */
     PLANNER_UNKNOWN_KIND = 21,      /* a mesh file has a record of an unknown kind */
-    PLANNER_BAD_FILE = 22           /* a mesh file has a wrong length, order, count, field or birth, or bytes after its end */
+    PLANNER_BAD_FILE = 22,          /* a mesh file has a wrong length, order, count, field or birth, or bytes after its end */
+    PLANNER_NO_SUCH_CELL = 23       /* a set of cells names one that is not there */
 };
 
 /* ---- grids */
@@ -229,6 +230,17 @@ uint64_t planner_induced_orientation(
     uint32_t d, const uint32_t *words, size_t n, const uint32_t *order, size_t order_len, uint32_t *keys, size_t keys_len, uint32_t *rows, size_t rows_len,
     uint32_t *spare, size_t spare_len, uint32_t *counts, size_t counts_len);
 
+/* ---- cells dropped from a mesh */
+
+/* The words of the cells that do not go, in the order given and by new vertex numbers; `gone` names cells by their places in planner_cells' list, in any order, and a place
+ * given twice counts once. Vertices that no word has any more are freed; the others are numbered without gaps in their old order, and old has the old number of each.
+ * Returns how many words stay, a word given twice counted twice: d+1 times as many numbers are needed of kept. vertices[0] gets how many vertices they have, the length
+ * needed of old; a refusal leaves it as it was. Refused: 1, 2, 3, 4, 6, 5, 12 (working lists), 7, 23 (a place past the last cell), 2 (all cells would go), 12 (kept,
+ * old). Working lists as planner_cells. */
+uint64_t planner_drop_cells(
+    uint32_t d, const uint32_t *words, size_t n, const uint32_t *gone, size_t gone_len, uint32_t *kept, size_t kept_len, uint32_t *old, size_t old_len,
+    uint32_t *keys, size_t keys_len, uint32_t *rows, size_t rows_len, uint32_t *spare, size_t spare_len, uint32_t *counts, size_t counts_len, uint32_t vertices[1]);
+
 /* ---- refinement: every cell is cut into r^d children, along a word of its vertices
  *
  * Results, m children in the colex order of the refined cells and b births, the new vertices in the order of their numbers, which follow the coarse ones:
@@ -241,7 +253,7 @@ uint64_t planner_induced_orientation(
  *   birth_weights    (d+1) * b   their weights, whole numbers over r, then 0
  *   birth_shares     (d+1) * b   weight times (1/r), then 0.0
  *   vertices[0]                  how many vertices there are, coarse and new together
- * The call returns m. Refused: 1, 2, 3, 4, 6, 5, 12 (working lists), 7, 16 (planner_refine_with), 11 (r outside 1 to 64), 3 and 6 (of the refined complex), 12 (a result
+ * The call returns m. Refused: 1, 2, 3, 4, 6, 5, 12 (working lists), 7, 16 (planner_refine_with and its sibling below), 11 (r outside 1 to 64), 3 and 6 (of the refined complex), 12 (a result
  * list). Working lists, where c is the lesser of 4,096 and (n / (d + 1)) * r^d (r as 1 where it is outside 1 to 64) and k = c * (d + 1): cells n, along n,
  * pattern (d + 1) * k, keys 4 * n + 8 * k, rows n + k, spare n + k, counts n + k + 65, sorted k, firsts c, buckets 4,096. */
 
@@ -262,6 +274,34 @@ uint64_t planner_refine_with(
     size_t birth_shares_len, uint32_t *cells, size_t cells_len, uint32_t *along, size_t along_len, uint32_t *pattern, size_t pattern_len, uint32_t *keys, size_t keys_len,
     uint32_t *rows, size_t rows_len, uint32_t *spare, size_t spare_len, uint32_t *counts, size_t counts_len, uint32_t *sorted, size_t sorted_len, uint32_t *firsts,
     size_t firsts_len, uint32_t *buckets, size_t buckets_len, uint32_t vertices[1]);
+
+/* The same two with the pattern of a cell made by the stepping rule and never read from the table: they say and write what planner_refine and planner_refine_with do, on
+ * every input. */
+uint64_t planner_refine_by_steps(
+    uint32_t d, uint32_t r, const uint32_t *words, size_t n,
+    uint32_t *out_cells, size_t out_cells_len, uint32_t *out_words, size_t out_words_len, uint32_t *parents, size_t parents_len, double *jacobians, size_t jacobians_len,
+    int32_t *wholes, size_t wholes_len, uint32_t *birth_vertices, size_t birth_vertices_len, uint32_t *birth_weights, size_t birth_weights_len, double *birth_shares,
+    size_t birth_shares_len, uint32_t *cells, size_t cells_len, uint32_t *along, size_t along_len, uint32_t *pattern, size_t pattern_len, uint32_t *keys, size_t keys_len,
+    uint32_t *rows, size_t rows_len, uint32_t *spare, size_t spare_len, uint32_t *counts, size_t counts_len, uint32_t *sorted, size_t sorted_len, uint32_t *firsts,
+    size_t firsts_len, uint32_t *buckets, size_t buckets_len, uint32_t vertices[1]);
+
+uint64_t planner_refine_with_by_steps(
+    uint32_t d, uint32_t r, const uint32_t *words, size_t n, const uint32_t *order, size_t order_len,
+    uint32_t *out_cells, size_t out_cells_len, uint32_t *out_words, size_t out_words_len, uint32_t *parents, size_t parents_len, double *jacobians, size_t jacobians_len,
+    int32_t *wholes, size_t wholes_len, uint32_t *birth_vertices, size_t birth_vertices_len, uint32_t *birth_weights, size_t birth_weights_len, double *birth_shares,
+    size_t birth_shares_len, uint32_t *cells, size_t cells_len, uint32_t *along, size_t along_len, uint32_t *pattern, size_t pattern_len, uint32_t *keys, size_t keys_len,
+    uint32_t *rows, size_t rows_len, uint32_t *spare, size_t spare_len, uint32_t *counts, size_t counts_len, uint32_t *sorted, size_t sorted_len, uint32_t *firsts,
+    size_t firsts_len, uint32_t *buckets, size_t buckets_len, uint32_t vertices[1]);
+
+/* ---- the pattern of one cell: the corners of its children
+ *
+ * The children of a cell of dimension d refined by r, in the order in which a refinement visits them, their corners in the order of each child's word; a corner is d+1
+ * weights over the places of the cell's word, whole numbers over r. corners gets r^d * (d+1) * (d+1) numbers; the call returns r^d * (d+1), the number of corners. Refused:
+ * 1, 11 (r outside 1 to 64), 3 (r^d is more than the limit of cells), 12; then no number changes. */
+uint64_t planner_corners(uint32_t d, uint32_t r, uint32_t *corners, size_t corners_len);
+
+/* The same by the stepping rule alone, also for dimensions 2 and 3 refined by 2, 3 and 4, which planner_corners reads from a table: equal on every input. */
+uint64_t planner_corners_stepping(uint32_t d, uint32_t r, uint32_t *corners, size_t corners_len);
 
 /* ---- one child, one birth by number, read from the lists that a refinement handed out. (The word of cell number k of an order or a cell list is the d+1 numbers from
  * place k * (d+1) of its list on.) */
