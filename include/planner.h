@@ -18,9 +18,9 @@
  *
  * A GRID is its dimension d, a list `axes` with two numbers for each axis, its count of cells and its gluing, and a list `sides` where the
  * call reads them. A gluing is PLANNER_OPEN, PLANNER_PERIODIC or PLANNER_TWISTED(mask), where bit j of the mask is set if axis j is
- * reflected. Of the other numbers 1 to 255 are open and 257 to 511 periodic. An axis that is not in the list has no cells (refused with 8),
- * one whose count is in the list and whose gluing is not is open, a side that is not there is 0 (refused with 10). What stands past d is not
- * looked at.
+ * reflected. Of the other numbers 1 to 255 are open, 257 to 511 periodic, and from 768 on only the lowest byte counts as the mask. An axis
+ * that is not in the list has no cells (refused with 8), one whose count is in the list and whose gluing is not is open, a side that is not
+ * there is 0 (refused with 10). What stands past d is not looked at.
  *
  * FLOATS are rounded to the nearest, as a program starts out; where the caller has set another rounding mode, lengths, shares and counts made
  * from sides follow it. STACK: a call takes less than 8 KB of the thread's stack, unless its text tells
