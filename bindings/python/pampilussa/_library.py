@@ -44,6 +44,8 @@ SIGNATURES: Dict[str, str] = {
     "planner_refine_with": "u32 u32 u32[] u32[]" + REFINED,
     "planner_child_of": "u32 u32[] f64[] i32[] f64& i32&",
     "planner_birth_of": "u32 u32 u32[] u32[] f64[] u32& u32& f64&",
+    "planner_write_mesh": "u32 u32[] u32[] u32[] u8[&]" + ROOM,
+    "planner_read_mesh": "u8[] u32[&] u32[&] u32[&]" + ROOM + " u32&",
 }
 DTYPES = {"u8": np.uint8, "u32": np.uint32, "i32": np.int32, "f64": np.float64}
 NUMBERS = {"u32": ctypes.c_uint32, "i32": ctypes.c_int32, "f64": ctypes.c_double}

@@ -6,6 +6,7 @@ from typing import Any, Optional
 NAMES = {
     1: "BAD_DIMENSION", 2: "RAGGED_WORDS", 3: "TOO_MANY_CELLS", 4: "VERTEX_TWICE", 5: "UNUSED_NUMBER", 6: "TOO_MANY_VERTICES", 7: "CROWDED_FACET", 8: "SHORT_AXIS",
     9: "BAD_REFLECTION", 10: "BAD_SIDE", 11: "BAD_REFINEMENT", 12: "TOO_SHORT", 13: "NO_SIGNS", 14: "BAD_SIGNS", 15: "TWO_LENGTHS", 16: "BAD_ORDER",
+    20: "FILE_ENDS", 21: "UNKNOWN_KIND", 22: "BAD_FILE",
 }
 MOST_DIMENSION = 3
 MOST_CELLS = 4096
@@ -152,7 +153,22 @@ def bad_order(place: int, about: Any) -> str:
     return "the order's words are not one for each cell and no more: each cell needs exactly one word, its own vertices in some sequence"
 
 
+def file_ends(place: int, about: Any) -> str:
+    return "the file ends inside a record or before its last one; its end may be lost"
+
+
+def unknown_kind(place: int, about: Any) -> str:
+    return "the file has a record of a kind that is not known here; it may be no mesh file, or a later one"
+
+
+def bad_file(place: int, about: Any) -> str:
+    if "words" in about:
+        return "the mesh breaks the rules of a file: words in the order of their cells, births by number to the last vertex, rising pairs with positive weights that sum to R"
+    return "the file has a wrong length, order, count, field or birth, or bytes after its end"
+
+
 SENTENCES = {
     1: dimension, 2: ragged, 3: too_many_cells, 4: vertex_twice, 5: unused, 6: too_many_vertices, 7: crowded, 8: short_axis, 9: bad_reflection, 10: bad_side,
     11: bad_refinement, 12: too_short, 13: no_signs, 14: bad_signs, 15: two_lengths, 16: bad_order,
+    20: file_ends, 21: unknown_kind, 22: bad_file,
 }
