@@ -10,7 +10,7 @@ def of_header(text):
     """To each function of the header its types, as Rust writes them."""
     found = {}
     text = re.sub(r"/\*.*?\*/", " ", text, flags=re.S)
-    for name, given in re.findall(r"uint64_t\s+(planner_\w+)\s*\(([^)]*)\)\s*;", text):
+    for name, given in re.findall(r"(?:uint64_t|void)\s+(planner_\w+)\s*\(([^)]*)\)\s*;", text):
         types = []
         for piece in (" ".join(x.split()) for x in given.split(",")):
             kind = C_TYPES[piece.replace("const ", "").split()[0].rstrip("*")]
@@ -22,7 +22,7 @@ def of_header(text):
 
 def of_rust(text):
     """The same from the Rust's declarations."""
-    return {name: [x.split(":")[1].strip() for x in given.split(",") if x.strip()] for name, given in re.findall(r"pub fn (planner_\w+)\s*\(([^)]*)\)\s*->\s*u64;", text, flags=re.S)}
+    return {name: [x.split(":")[1].strip() for x in given.split(",") if x.strip()] for name, given in re.findall(r"pub fn (planner_\w+)\s*\(([^)]*)\)(?:\s*->\s*u64)?;", text, flags=re.S)}
 
 
 def main():

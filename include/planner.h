@@ -12,7 +12,7 @@
  * RESULT LISTS get exactly as many elements as the meaning of the call says, from the start; what lies past them keeps its values. A
  * refusal changes no result list. One that is too short is refused with 12.
  *
- * WORKING LISTS: keys, rows, spare, counts (ten lists for a refinement). A call says how many elements it needs of each; fewer are refused with 12. Their values before the
+ * WORKING LISTS: keys, rows, spare, counts (ten lists for a refinement). A call says how many elements it needs of each, and planner_need_... works it out; fewer are refused with 12. Their values before the
  * call do not matter. After the call what is needed of them is all zero, unless the call was refused before it tested them: then they are as
  * they were. What lies past the need is never touched.
  *
@@ -275,6 +275,27 @@ uint64_t planner_write_mesh(
 uint64_t planner_read_mesh(
     const uint8_t *bytes, size_t bytes_len, uint32_t *words, size_t words_len, uint32_t *births, size_t births_len, uint32_t *pairs, size_t pairs_len, uint32_t *keys,
     size_t keys_len, uint32_t *rows, size_t rows_len, uint32_t *spare, size_t spare_len, uint32_t *counts, size_t counts_len, uint32_t shape[3]);
+
+/* ---- how long the lists of a call must be
+ *
+ * Each function writes to need the lengths of a call's result lists and working lists, in the order of the call's parameters: of a result list the call never needs more, of
+ * a working list it needs just that. With lists of these lengths the call never says 12. d is the dimension and n the length of words; for a call on a grid n is the
+ * number that planner_corners says. Where a call with this d and n is refused with 1 or 3 before it looks at its lists, they are those for n = 0. */
+
+/* How many corners the words of a grid have: d+1 for each cell. Refused: 1, 9, 8, 3, 6. */
+uint64_t planner_corners(uint32_t d, const uint32_t *axes, size_t axes_len);
+
+void planner_need_cell_words(uint32_t d, size_t n, size_t need[5]);          /* words, keys, rows, spare, counts */
+void planner_need_triangulate_ordered(uint32_t d, size_t n, size_t need[6]); /* cells, order, keys, rows, spare, counts */
+void planner_need_edge_lengths_sq(uint32_t d, size_t n, size_t need[5]);     /* lengths, keys, rows, spare, counts */
+void planner_need_cells(uint32_t d, size_t n, size_t need[5]);               /* cells, keys, rows, spare, counts */
+void planner_need_edges(uint32_t d, size_t n, size_t need[5]);               /* edges, keys, rows, spare, counts */
+void planner_need_facets(uint32_t d, size_t n, size_t need[6]);              /* facets, table, keys, rows, spare, counts */
+void planner_need_border(uint32_t d, size_t n, size_t need[5]);              /* border, keys, rows, spare, counts */
+void planner_need_orientation(uint32_t d, size_t n, size_t need[5]);         /* signs, keys, rows, spare, counts; planner_orientation_looks too */
+void planner_need_orient_by(uint32_t d, size_t n, size_t need[4]);           /* keys, rows, spare, counts */
+void planner_need_ordering(uint32_t d, size_t n, size_t need[5]);            /* listed, keys, rows, spare, counts */
+void planner_need_induced_orientation(uint32_t d, size_t n, size_t need[4]); /* keys, rows, spare, counts */
 
 #ifdef __cplusplus
 }

@@ -3,10 +3,9 @@ from typing import Any, List, NamedTuple, Optional, Sequence, Tuple, Union
 
 import numpy as np
 
-from . import _room
-from ._library import call, numbers, room, whole
+from ._library import call, needed, numbers, room, whole
 from .complex import Complex
-from .refused import MOST_CELLS, MOST_DIMENSION
+from .refused import MOST_DIMENSION, Refused
 
 OPEN = 0
 PERIODIC = 256
@@ -217,7 +216,9 @@ class Grid:
             return self._ask("planner_reduce", whole(points, "the point"), self._axes)
         given = np.asarray(points)
         flat = numbers(given, "points")
-        return np.array([self._ask("planner_reduce", int(v), self._axes) for v in flat], np.uint32).reshape(given.shape)
+        glued = np.empty(flat.size, np.uint32)
+        self._ask("planner_swath", self._axes, flat, glued)
+        return glued.reshape(given.shape)
 
     def crossing(self, point: int) -> Crossing:
         """The glued vertex of a grid point, with the axes on which it was wrapped and those that came out reversed.
@@ -230,12 +231,13 @@ class Grid:
         vertex = self._ask("planner_crossing", whole(point, "the point"), self._axes, sets)
         return Crossing(vertex, int(sets[0]), int(sets[1]))
 
-    def _corners(self) -> int:
-        """How many corners the words have, none where there are too many cells."""
-        cells = int(np.prod([float(k) for k in range(1, self.d + 1)])) if 1 <= self.d <= MOST_DIMENSION else 0
-        for count, _ in self.axes:
-            cells = min(cells * count, MOST_CELLS + 1)
-        return cells * (self.d + 1) if cells <= MOST_CELLS else 0
+    def _need(self, name: str) -> List[int]:
+        """How long the lists of that call must be; nothing is needed for a grid that the call refuses."""
+        try:
+            corners = self._ask("planner_corners", self._axes)
+        except Refused:
+            corners = 0
+        return needed(name, self.d, corners)
 
     def words(self) -> np.ndarray:
         """The words of the grid's cells, d+1 glued vertices each, in the order of the sorted grid cells.
@@ -244,9 +246,9 @@ class Grid:
         >>> pa.Grid([(3, "P"), (1, "O")]).words().tolist()
         [[0, 1, 4], [0, 3, 4], [1, 2, 5], [1, 4, 5], [2, 0, 3], [2, 5, 3]]
         """
-        n = self._corners()
-        out = np.empty(n, np.uint32)
-        count = self._ask("planner_cell_words", self._axes, out, *room(_room.plain(self.d, n)))
+        most, *need = self._need("cell_words")
+        out = np.empty(most, np.uint32)
+        count = self._ask("planner_cell_words", self._axes, out, *room(need))
         return out[:count * (self.d + 1)].reshape(count, self.d + 1)
 
     def complex(self) -> Complex:
@@ -263,9 +265,9 @@ class Grid:
         >>> pa.Grid([(3, "T1"), (1, "O")]).triangulate_ordered()[1] is None
         True
         """
-        n = self._corners()
-        cells, order = np.empty(n, np.uint32), np.empty(n, np.uint32)
-        said = self._ask("planner_triangulate_ordered", self._axes, cells, order, *room(_room.ordered(self.d, n)))
+        most, most_order, *need = self._need("triangulate_ordered")
+        cells, order = np.empty(most, np.uint32), np.empty(most_order, np.uint32)
+        said = self._ask("planner_triangulate_ordered", self._axes, cells, order, *room(need))
         count, shape = said & 0x7FFFFFFF, (-1, self.d + 1)
         size = count * (self.d + 1)
         return cells[:size].reshape(shape), order[:size].reshape(shape) if said >> 31 else None
@@ -277,9 +279,9 @@ class Grid:
         >>> pa.Grid([(3, "P"), (1, "O")], sides=(3.0, 2.0)).edge_lengths_sq()[:3].tolist()
         [1.0, 1.0, 1.0]
         """
-        n = self._corners()
-        lengths = np.empty(self.d * n, np.float64)
-        count = self._ask("planner_edge_lengths_sq", self._axes, self._sides(), lengths, *room(_room.lengths(self.d, n)))
+        most, *need = self._need("edge_lengths_sq")
+        lengths = np.empty(most, np.float64)
+        count = self._ask("planner_edge_lengths_sq", self._axes, self._sides(), lengths, *room(need))
         return lengths[:count]
 
     def edge_length_sq(self, one: int, other: int) -> Union[float, Clash, None]:

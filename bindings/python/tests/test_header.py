@@ -7,14 +7,14 @@ import pampilussa.refused as refused
 import pytest
 
 HEADER = Path(__file__).resolve().parents[3] / "include" / "planner.h"
-TYPES = {"uint32_t": "u32", "int32_t": "i32", "double": "f64", "uint8_t": "u8"}
+TYPES = {"uint32_t": "u32", "int32_t": "i32", "double": "f64", "uint8_t": "u8", "size_t": "size"}
 
 
 def declared():
     """To each function of the header what it takes, written as SIGNATURES is."""
     text = re.sub(r"/\*.*?\*/", " ", HEADER.read_text(), flags=re.S)
     found = {}
-    for name, given in re.findall(r"uint64_t\s+(planner_\w+)\(([^)]*)\);", text):
+    for name, given in re.findall(r"(?:uint64_t|void)\s+(planner_\w+)\(([^)]*)\);", text):
         parts, pieces = [], [" ".join(x.split()) for x in given.split(",")]
         while pieces:
             piece = pieces.pop(0)

@@ -26,6 +26,18 @@ extern "C" {
     pub fn planner_edge_length_sq(d: u32, from: u32, to: u32, axes: *const u32, axes_len: usize, sides: *const f64, sides_len: usize, squares: *mut f64) -> u64;
     pub fn planner_refine(d: u32, r: u32, words: *const u32, words_len: usize, out_cells: *mut u32, out_cells_len: usize, out_words: *mut u32, out_words_len: usize, parents: *mut u32, parents_len: usize, jacobians: *mut f64, jacobians_len: usize, wholes: *mut i32, wholes_len: usize, birth_vertices: *mut u32, birth_vertices_len: usize, birth_weights: *mut u32, birth_weights_len: usize, birth_shares: *mut f64, birth_shares_len: usize, cells: *mut u32, cells_len: usize, along: *mut u32, along_len: usize, pattern: *mut u32, pattern_len: usize, keys: *mut u32, keys_len: usize, rows: *mut u32, rows_len: usize, spare: *mut u32, spare_len: usize, counts: *mut u32, counts_len: usize, sorted: *mut u32, sorted_len: usize, firsts: *mut u32, firsts_len: usize, buckets: *mut u32, buckets_len: usize, vertices: *mut u32) -> u64;
     pub fn planner_refine_with(d: u32, r: u32, words: *const u32, words_len: usize, order: *const u32, order_len: usize, out_cells: *mut u32, out_cells_len: usize, out_words: *mut u32, out_words_len: usize, parents: *mut u32, parents_len: usize, jacobians: *mut f64, jacobians_len: usize, wholes: *mut i32, wholes_len: usize, birth_vertices: *mut u32, birth_vertices_len: usize, birth_weights: *mut u32, birth_weights_len: usize, birth_shares: *mut f64, birth_shares_len: usize, cells: *mut u32, cells_len: usize, along: *mut u32, along_len: usize, pattern: *mut u32, pattern_len: usize, keys: *mut u32, keys_len: usize, rows: *mut u32, rows_len: usize, spare: *mut u32, spare_len: usize, counts: *mut u32, counts_len: usize, sorted: *mut u32, sorted_len: usize, firsts: *mut u32, firsts_len: usize, buckets: *mut u32, buckets_len: usize, vertices: *mut u32) -> u64;
+    pub fn planner_corners(d: u32, axes: *const u32, axes_len: usize) -> u64;
+    pub fn planner_need_cell_words(d: u32, n: usize, need: *mut usize);
+    pub fn planner_need_triangulate_ordered(d: u32, n: usize, need: *mut usize);
+    pub fn planner_need_edge_lengths_sq(d: u32, n: usize, need: *mut usize);
+    pub fn planner_need_cells(d: u32, n: usize, need: *mut usize);
+    pub fn planner_need_edges(d: u32, n: usize, need: *mut usize);
+    pub fn planner_need_facets(d: u32, n: usize, need: *mut usize);
+    pub fn planner_need_border(d: u32, n: usize, need: *mut usize);
+    pub fn planner_need_orientation(d: u32, n: usize, need: *mut usize);
+    pub fn planner_need_orient_by(d: u32, n: usize, need: *mut usize);
+    pub fn planner_need_ordering(d: u32, n: usize, need: *mut usize);
+    pub fn planner_need_induced_orientation(d: u32, n: usize, need: *mut usize);
     pub fn planner_write_mesh(d: u32, words: *const u32, words_len: usize, births: *const u32, births_len: usize, pairs: *const u32, pairs_len: usize, bytes: *mut u8, bytes_len: usize, keys: *mut u32, keys_len: usize, rows: *mut u32, rows_len: usize, spare: *mut u32, spare_len: usize, counts: *mut u32, counts_len: usize) -> u64;
     pub fn planner_read_mesh(bytes: *const u8, bytes_len: usize, words: *mut u32, words_len: usize, births: *mut u32, births_len: usize, pairs: *mut u32, pairs_len: usize, keys: *mut u32, keys_len: usize, rows: *mut u32, rows_len: usize, spare: *mut u32, spare_len: usize, counts: *mut u32, counts_len: usize, shape: *mut u32) -> u64;
 }
