@@ -53,6 +53,10 @@ __attribute__((noinline)) static uint64_t once(const char *call) {
     if (!strcmp(call, "nvertices")) return planner_nvertices(d, AXES);
     if (!strcmp(call, "is_orientation_preserving")) return planner_is_orientation_preserving(d, AXES);
     if (!strcmp(call, "cell_words")) return planner_cell_words(d, AXES, OUT, ROOM);
+    if (!strcmp(call, "chained_nvertices")) return planner_chained_nvertices(d, AXES, room[0], MOST);
+    if (!strcmp(call, "chained_classes")) return planner_chained_classes(d, AXES, OUT, room[0], MOST);
+    if (!strcmp(call, "chained_closed_classes")) return planner_chained_closed_classes(d, AXES, OUT, room[0], MOST);
+    if (!strcmp(call, "chained_cell_words")) return planner_chained_cell_words(d, AXES, OUT, ROOM);
     if (!strcmp(call, "triangulate_ordered")) return planner_triangulate_ordered(d, AXES, OUT, more, MOST, ROOM);
     if (!strcmp(call, "edge_lengths_sq")) return planner_edge_lengths_sq(d, AXES, sides, nsides, floats, MOST, ROOM);
     if (!strcmp(call, "edge_length_sq")) return planner_edge_length_sq(d, 0, 1, AXES, sides, nsides, squares);

@@ -139,6 +139,34 @@ uint64_t planner_edge_lengths_sq(
 uint64_t planner_edge_length_sq(
     uint32_t d, uint32_t from, uint32_t to, const uint32_t *axes, size_t axes_len, const double *sides, size_t sides_len, double squares[2]);
 
+/* ---- honest gluing: a second mode of a grid
+ *
+ * Grid points are one class exactly where a chain of gluing steps joins them: a step leads from a point with the last coordinate on a closed axis to the point with 0 there,
+ * and c replaced by count - c on the axes that this one reflects. Classes are numbered in the order of their least grid points. A class is neither a grid point nor a glued
+ * vertex of the calls above. Where no axis with a non-empty set is itself reflected both modes make the same classes under other numbers. Of the room n numbers are needed,
+ * d+1 for each cell, as in planner_cell_words; each call numbers the whole grid. */
+
+/* The class of grid point v; PLANNER_NO_VERTEX where v is past the last point. Refused: 1, 9, 8, 3, 12 (room), 6 (more than 4,096 classes). */
+uint64_t planner_chained_reduce(uint32_t d, uint32_t v, const uint32_t *axes, size_t axes_len, uint32_t *room, size_t room_len);
+
+/* How many classes there are. Refused: 1, 9, 8, 3, 12 (room), 6. */
+uint64_t planner_chained_nvertices(uint32_t d, const uint32_t *axes, size_t axes_len, uint32_t *room, size_t room_len);
+
+/* The class of each grid point. Returns how many classes there are; of classes as many numbers are needed as there are grid points, the product of count + 1 over the axes.
+ * Refused: 1, 9, 8, 3, 12 (room), 6, 12 (classes). */
+uint64_t planner_chained_classes(
+    uint32_t d, const uint32_t *axes, size_t axes_len, uint32_t *classes, size_t classes_len, uint32_t *room, size_t room_len);
+
+/* The same by an engine that closes the relation step by step. */
+uint64_t planner_chained_closed_classes(
+    uint32_t d, const uint32_t *axes, size_t axes_len, uint32_t *classes, size_t classes_len, uint32_t *room, size_t room_len);
+
+/* The words of the grid's cells, d+1 classes each, in the order of the sorted grid cells. Returns how many words there are; n numbers are needed of words. Refused: 1, 9,
+ * 8, 3, 12 (working lists), 6, 4 (a word names a class twice; place: the first such word), 7, 12 (words). Working lists: keys d * n, rows n, spare n, counts n. */
+uint64_t planner_chained_cell_words(
+    uint32_t d, const uint32_t *axes, size_t axes_len, uint32_t *words, size_t words_len, uint32_t *keys, size_t keys_len, uint32_t *rows, size_t rows_len,
+    uint32_t *spare, size_t spare_len, uint32_t *counts, size_t counts_len);
+
 /* ---- cell lists */
 
 /* The cells, d+1 vertices each, in colex order without repeats. Returns how many; d+1 times as many numbers are needed of cells. Refused: 1, 2, 3, 4, 6,
@@ -280,10 +308,10 @@ uint64_t planner_read_mesh(
  *
  * Each function writes to need the lengths of a call's result lists and working lists, in the order of the call's parameters: of a result list the call never needs more, of
  * a working list it needs just that. With lists of these lengths the call never says 12. d is the dimension and n the length of words; for a call on a grid n is the
- * number that planner_corners says. Where a call with this d and n is refused with 1 or 3 before it looks at its lists, they are those for n = 0. */
+ * number that planner_grid_corners says. Where a call with this d and n is refused with 1 or 3 before it looks at its lists, they are those for n = 0. */
 
 /* How many corners the words of a grid have: d+1 for each cell. Refused: 1, 9, 8, 3, 6. */
-uint64_t planner_corners(uint32_t d, const uint32_t *axes, size_t axes_len);
+uint64_t planner_grid_corners(uint32_t d, const uint32_t *axes, size_t axes_len);
 
 void planner_need_cell_words(uint32_t d, size_t n, size_t need[5]);          /* words, keys, rows, spare, counts */
 void planner_need_triangulate_ordered(uint32_t d, size_t n, size_t need[6]); /* cells, order, keys, rows, spare, counts */

@@ -11,11 +11,11 @@ Every call is the proved library's; nothing is kept between calls, and what is n
 """
 from .complex import Complex, Facets, NO_CELL, Order
 from .grid import Clash, Crossing, Grid
-from .mesh_file import Mesh, mesh_of, read_mesh, write_mesh
+from .mesh_file import Mesh, read_mesh, write_mesh
 from .refined import Births, Child, NO_VERTEX, Refined
 from .refused import Refused
 
-__all__ = ["Births", "Child", "Clash", "Complex", "Crossing", "Facets", "Grid", "Mesh", "NO_CELL", "NO_VERTEX", "Order", "Refined", "Refused", "mesh_of", "read_mesh", "refine", "write_mesh"]
+__all__ = ["Births", "Child", "Clash", "Complex", "Crossing", "Facets", "Grid", "Mesh", "NO_CELL", "NO_VERTEX", "Order", "Refined", "Refused", "read_mesh", "refine", "write_mesh"]
 __version__ = "0.1.0"
 
 

@@ -5,7 +5,7 @@ import numpy as np
 
 from ._library import call, needed, numbers, room, whole
 from .complex import Complex
-from .refused import MOST_DIMENSION, Refused
+from .refused import MOST_CELLS, MOST_DIMENSION, Refused
 
 OPEN = 0
 PERIODIC = 256
@@ -234,7 +234,7 @@ class Grid:
     def _need(self, name: str) -> List[int]:
         """How long the lists of that call must be; nothing is needed for a grid that the call refuses."""
         try:
-            corners = self._ask("planner_corners", self._axes)
+            corners = self._ask("planner_grid_corners", self._axes)
         except Refused:
             corners = 0
         return needed(name, self.d, corners)
@@ -249,6 +249,51 @@ class Grid:
         most, *need = self._need("cell_words")
         out = np.empty(most, np.uint32)
         count = self._ask("planner_cell_words", self._axes, out, *room(need))
+        return out[:count * (self.d + 1)].reshape(count, self.d + 1)
+
+    def _most(self) -> int:
+        """The corners of as many cells as are taken: room for every grid of honest gluing, whose classes may be fewer than the glued vertices."""
+        return MOST_CELLS * (self.d + 1)
+
+    def chained_classes(self) -> np.ndarray:
+        """Honest gluing: the class of each grid point, points in one class exactly where a chain of gluing steps joins them.
+
+        >>> import pampilussa as pa
+        >>> plane = pa.Grid([(4, "T1"), (4, "T0")])          # a projective plane: n * n + 1 classes
+        >>> int(plane.chained_classes().max()) + 1, plane.chained_nvertices, plane.nvertices
+        (17, 17, 16)
+        """
+        points = 1
+        for count, _ in self.axes:
+            points = min(points * (count + 1), 2 ** 24)
+        classes = np.empty(points, np.uint32)
+        self._ask("planner_chained_classes", self._axes, classes, *room([self._most()]))
+        return classes
+
+    @property
+    def chained_nvertices(self) -> int:
+        """Honest gluing: how many classes there are."""
+        return self._ask("planner_chained_nvertices", self._axes, *room([self._most()]))
+
+    def chained_reduce(self, point: int) -> int:
+        """Honest gluing: the class of a grid point; NO_VERTEX past the last point.
+
+        >>> import pampilussa as pa
+        >>> pa.Grid([(3, "P"), (1, "O")]).chained_reduce(7)
+        3
+        """
+        return self._ask("planner_chained_reduce", whole(point, "the point"), self._axes, *room([self._most()]))
+
+    def chained_words(self) -> np.ndarray:
+        """Honest gluing: the words of the grid's cells, d+1 classes each; a word that names a class twice is refused with 4.
+
+        >>> import pampilussa as pa
+        >>> pa.Grid([(3, "P"), (1, "O")]).chained_words().tolist() == pa.Grid([(3, "P"), (1, "O")]).words().tolist()
+        True
+        """
+        most, *need = needed("cell_words", self.d, self._most())
+        out = np.empty(most, np.uint32)
+        count = self._ask("planner_chained_cell_words", self._axes, out, *room(need))
         return out[:count * (self.d + 1)].reshape(count, self.d + 1)
 
     def complex(self) -> Complex:

@@ -8,6 +8,7 @@ from ._library import call, room, whole
 
 if TYPE_CHECKING:
     from .complex import Complex
+    from .mesh_file import Mesh
 
 NO_VERTEX = 0xFFFFFFFF
 
@@ -88,6 +89,12 @@ class Refined:
         jacobian, form = np.zeros(_room.FORM), np.zeros(_room.FORM, np.int32)
         parent = call("planner_child_of", k, self.parents, *self._forms, jacobian, form, short="there is no child %d; there are %d" % (k, len(self)))
         return Child(parent, self._square(jacobian)[0], self._square(form)[0])
+
+    def mesh(self) -> "Mesh":
+        """The children's words with the births, as a mesh file has them."""
+        from .mesh_file import Mesh
+        births = [{int(v): int(w) for v, w in zip(row, weights) if w} for row, weights in zip(self.births.vertices, self.births.weights)]
+        return Mesh(self.words, births, self.r if births else 0)
 
     def positions(self, coarse: Any) -> np.ndarray:
         """The position of every vertex, coarse ones as given (one row each), new ones by their shares; meant where no gluing lies between.

@@ -19,6 +19,7 @@
 #![warn(missing_docs)]
 
 mod answer;
+mod chained;
 mod complex;
 mod grid;
 mod mesh_file;
@@ -29,6 +30,7 @@ mod seam;
 mod swath;
 
 pub use answer::Refusal;
+pub use chained::ClassVertex;
 pub use complex::{border, cells, edges, facets, induced_orientation, ordering, orient_by, orientation, Facet, Ordered, Side};
 pub use orientation::{orientation_looks, Coherence};
 pub use grid::{Axis, EdgeLength, Gluing, GluedVertex, Grid, GridVertex, Triangulated};

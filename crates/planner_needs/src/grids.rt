@@ -24,7 +24,7 @@ fn corners_of(grid: Grid) -> Counted
 
 // How many corners the words of a grid have: d + 1 for each of its cells. Refused: 1, 9, 8, 3, 6.
 #[no_mangle]
-pub extern "C" fn planner_corners(d: u32, axes: &[u32]) -> u64
+pub extern "C" fn planner_grid_corners(d: u32, axes: &[u32]) -> u64
     ensures { λ r. ⌜ r ≡ countedCode (cornersSaid (plainGiven d (now (axes .entry)))) ⌝ }
 {
     let g = given::plain(d, axes);
