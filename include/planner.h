@@ -339,7 +339,7 @@ uint64_t planner_write_mesh(
 /* Reads a file and returns how many cells it has; shape gets the dimension and how many births and pairs there are. For any file words of bytes_len / 4, births of
  * bytes_len / 8 and pairs of bytes_len / 3 numbers are long enough, keys of 3 * (bytes_len / 4) and rows, spare and counts of bytes_len / 4; no accepted file has more than
  * 16,384 numbers in words, 12,288 in births and 524,288 in pairs. Refused: 20, 21, 22 as the bytes come, then 1, 2, 3, 4, 6, 5, 12 (working lists), 7, 12 (a result list). A
- * refusal leaves shape as it was. The call takes 64 KB of stack. */
+ * refusal leaves shape as it was. STACK: less than 72 KB. */
 uint64_t planner_read_mesh(
     const uint8_t *bytes, size_t bytes_len, uint32_t *words, size_t words_len, uint32_t *births, size_t births_len, uint32_t *pairs, size_t pairs_len, uint32_t *keys,
     size_t keys_len, uint32_t *rows, size_t rows_len, uint32_t *spare, size_t spare_len, uint32_t *counts, size_t counts_len, uint32_t shape[3]);
