@@ -39,9 +39,10 @@ GRID_CALLS = ["reduce", "crossing", "swath", "nvertices", "is_orientation_preser
               "chained_nvertices", "chained_classes", "chained_closed_classes", "chained_cell_words"]
 LIST_CALLS = ["cells", "edges", "facets", "border", "orientation", "orientation_looks", "orient_by", "ordering", "induced_orientation", "drop_cells"]
 REFINE_CALLS = ["refine", "refine_with"]
-NOT_IN_RUST = {"chained_nvertices", "chained_classes", "chained_closed_classes", "chained_cell_words", "crossing", "edge_length_sq", "orientation_looks", "drop_cells", "corners", "corners_stepping", "refine_by_steps"}
+NOT_IN_RUST = {"chained_nvertices", "chained_classes", "chained_closed_classes", "chained_cell_words", "crossing", "edge_length_sq", "orientation_looks", "drop_cells", "corners", "corners_stepping", "refine_by_steps", "geojson"}
 BY_STEPS = [("one triangle, R 4", listed(2, [(0, 1, 2)]), 4, listed(2, [(0, 1, 2)]), 2), ("one tetrahedron, R 4", listed(3, [(0, 1, 2, 3)]), 4, listed(3, [(0, 1, 2, 3)]), 2)]
 STEP_CALLS = ["corners", "corners_stepping", "refine", "refine_by_steps"]
+BANDS = [("band 2048 x 1", grid(2048, P, 1, O), grid(512, P, 1, O)), ("band 64 x 32", grid(64, P, 32, O), grid(32, P, 16, O))]
 RUST_CALL = {"swath": "reduce"}                                 # all points in a loop
 CONSTANT = {"nvertices", "is_orientation_preserving"}          # made a thousand times in one run: they do not grow
 
@@ -90,6 +91,8 @@ def cases():
     for name, whole, quarter in GRIDS:
         for call in GRID_CALLS:
             yield call, name, Case(call, whole), Case(call, quarter)
+    for name, whole, quarter in BANDS:
+        yield "geojson", name, Case("geojson", whole), Case("geojson", quarter)
     for name, whole, quarter in LISTS:
         for call in LIST_CALLS:
             yield call, name, Case(call, whole), Case(call, quarter)

@@ -65,6 +65,8 @@ enum {
     PLANNER_BAD_SIGNS = 14,         /* sign list not one +1 or -1 for each cell */
     PLANNER_TWO_LENGTHS = 15,       /* some grid edge gets two lengths */
     PLANNER_BAD_ORDER = 16,         /* order words not one for each cell, no more */
+    PLANNER_OTHER_GRID = 18,        /* no band: not two dimensions with axis 0 periodic and axis 1 open */
+    PLANNER_BAD_LATITUDES = 19,     /* south not below north, or either beyond 90 degrees */
     PLANNER_FILE_ENDS = 20,         /* a mesh file ends inside a record, or before the record that ends it */
     PLANNER_UNKNOWN_KIND = 21,      /* a mesh file has a record of an unknown kind */
     PLANNER_BAD_FILE = 22,          /* a mesh file has a wrong length, order, count, field or birth, or bytes after its end */
@@ -167,6 +169,21 @@ uint64_t planner_chained_closed_classes(
 uint64_t planner_chained_cell_words(
     uint32_t d, const uint32_t *axes, size_t axes_len, uint32_t *words, size_t words_len, uint32_t *keys, size_t keys_len, uint32_t *rows, size_t rows_len,
     uint32_t *spare, size_t spare_len, uint32_t *counts, size_t counts_len);
+
+/* ---- maps */
+
+/* The band of a grid of two dimensions, axis 0 periodic (a twist without axes is periodic) and axis 1 open, as an RFC 7946 GeoJSON file between two latitudes in whole
+ * degrees: a FeatureCollection with one Polygon for each grid cell, in the order of planner_cell_words. Grid points before gluing are drawn, column 0 at longitude -180,
+ * the last one at 180, so that no ring crosses the seam; the first row at south, the last at north. Positions are exact fractions to six decimals, halves away from zero;
+ * rings close, run counterclockwise and begin at their lowest grid vertex. A feature's "id" and its property "cell" are the cell's number in the mesh: its place in
+ * planner_cells' list, by which signs, parents and sets of cells count. With x the feature's place in the file and m twice the columns it is x + 1, but at the last three
+ * places of a row, x % m = m - 3, m - 2, m - 1: x + 2, x - x % m, x - 1. No spaces, one final line feed. Edges are straight in degrees (plate carree); at a pole one edge
+ * of a cell is a single point of the sphere.
+ * Returns how many bytes are written; 43 bytes and 276 for each cell are always enough. Sides are not read. Refused: 1, 9, 8, 3, 6, 12 (working lists), 7, 18, 19,
+ * 12 (bytes). Working lists, where the words have n numbers as in planner_cell_words: keys d * n, rows n, spare n, counts n. */
+uint64_t planner_geojson(
+    uint32_t d, int32_t south, int32_t north, const uint32_t *axes, size_t axes_len, uint8_t *bytes, size_t bytes_len, uint32_t *keys, size_t keys_len,
+    uint32_t *rows, size_t rows_len, uint32_t *spare, size_t spare_len, uint32_t *counts, size_t counts_len);
 
 /* ---- cell lists */
 

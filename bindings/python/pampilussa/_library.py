@@ -32,6 +32,7 @@ SIGNATURES: Dict[str, str] = {
     "planner_edge_lengths_sq": "u32 u32[] f64[] f64[&]" + ROOM,
     "planner_edge_length_sq": "u32 u32 u32 u32[] f64[] f64&",
     "planner_grid_corners": "u32 u32[]",
+    "planner_geojson": "u32 i32 i32 u32[] u8[&]" + ROOM,
     "planner_chained_reduce": "u32 u32 u32[] u32[&]",
     "planner_chained_nvertices": "u32 u32[] u32[&]",
     "planner_chained_classes": "u32 u32[] u32[&] u32[&]",

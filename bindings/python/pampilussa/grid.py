@@ -49,6 +49,15 @@ def gluing_text(code: int) -> str:
     return "P" if code < TWISTED else "T" + "".join(str(j) for j in range(8) if code >> j & 1)
 
 
+
+def _degrees(value: int) -> int:
+    """A whole number of 32 bits with its sign, or ValueError."""
+    number = int(value)
+    if number != value or not -2 ** 31 <= number < 2 ** 31:
+        raise ValueError("the latitude is %r; it must be a whole number of degrees" % (value,))
+    return number
+
+
 class Grid:
     """Boxes along up to three axes, the ends of each axis left open (O), joined (P), or joined with some axes turned over (T and their digits).
 
@@ -295,6 +304,19 @@ class Grid:
         out = np.empty(most, np.uint32)
         count = self._ask("planner_chained_cell_words", self._axes, out, *room(need))
         return out[:count * (self.d + 1)].reshape(count, self.d + 1)
+
+    def geojson(self, south: int, north: int) -> str:
+        """The band between two latitudes in whole degrees as an RFC 7946 GeoJSON file; a feature's id is its cell's row in `complex().cells`. Refused with 18 unless
+        axis 0 is periodic and axis 1 open, and with 19 where south is not below north or either beyond 90.
+
+        >>> import json, pampilussa as pa
+        >>> [f["id"] for f in json.loads(pa.Grid([(3, "P"), (1, "O")]).geojson(0, 60))["features"]]
+        [1, 2, 3, 5, 0, 4]
+        """
+        most, *need = self._need("cell_words")
+        out = np.empty(43 + 276 * (most // (self.d + 1)), np.uint8)
+        count = self._ask("planner_geojson", _degrees(south), _degrees(north), self._axes, out, *room(need))
+        return out[:count].tobytes().decode("ascii")
 
     def complex(self) -> Complex:
         """The grid's cells."""

@@ -22,6 +22,7 @@ mod answer;
 mod chained;
 mod complex;
 mod dropped;
+mod geojson;
 mod grid;
 mod mesh_file;
 mod orientation;

@@ -12,6 +12,7 @@ extern "C" {
     pub fn planner_nvertices(d: u32, axes: *const u32, axes_len: usize) -> u64;
     pub fn planner_is_orientation_preserving(d: u32, axes: *const u32, axes_len: usize) -> u64;
     pub fn planner_cell_words(d: u32, axes: *const u32, axes_len: usize, words: *mut u32, words_len: usize, keys: *mut u32, keys_len: usize, rows: *mut u32, rows_len: usize, spare: *mut u32, spare_len: usize, counts: *mut u32, counts_len: usize) -> u64;
+    pub fn planner_geojson(d: u32, south: i32, north: i32, axes: *const u32, axes_len: usize, bytes: *mut u8, bytes_len: usize, keys: *mut u32, keys_len: usize, rows: *mut u32, rows_len: usize, spare: *mut u32, spare_len: usize, counts: *mut u32, counts_len: usize) -> u64;
     pub fn planner_chained_reduce(d: u32, v: u32, axes: *const u32, axes_len: usize, room: *mut u32, room_len: usize) -> u64;
     pub fn planner_chained_nvertices(d: u32, axes: *const u32, axes_len: usize, room: *mut u32, room_len: usize) -> u64;
     pub fn planner_chained_classes(d: u32, axes: *const u32, axes_len: usize, classes: *mut u32, classes_len: usize, room: *mut u32, room_len: usize) -> u64;
