@@ -18,9 +18,9 @@
  *
  * A GRID is its dimension d, a list `axes` with two numbers for each axis, its count of cells and its gluing, and a list `sides` where the
  * call reads them. A gluing is PLANNER_OPEN, PLANNER_PERIODIC or PLANNER_TWISTED(mask), where bit j of the mask is set if axis j is
- * reflected. Of the other numbers 1 to 255 are open and 257 to 511 periodic. An axis that is not in the list has no cells (refused with 8),
- * one whose count is in the list and whose gluing is not is open, a side that is not there is 0 (refused with 10). What stands past d is not
- * looked at.
+ * reflected. Of the other numbers 1 to 255 are open, 257 to 511 periodic, and from 768 on only the lowest byte counts as the mask. An axis
+ * that is not in the list has no cells (refused with 8), one whose count is in the list and whose gluing is not is open, a side that is not
+ * there is 0 (refused with 10). What stands past d is not looked at.
  *
  * FLOATS are rounded to the nearest, as a program starts out; where the caller has set another rounding mode, lengths, shares and counts made
  * from sides follow it. STACK: a call takes less than 8 KB of the thread's stack, unless its text tells
@@ -65,9 +65,12 @@ enum {
     PLANNER_BAD_SIGNS = 14,         /* sign list not one +1 or -1 for each cell */
     PLANNER_TWO_LENGTHS = 15,       /* some grid edge gets two lengths */
     PLANNER_BAD_ORDER = 16,         /* order words not one for each cell, no more */
+    PLANNER_OTHER_GRID = 18,        /* no band: not two dimensions with axis 0 periodic and axis 1 open */
+    PLANNER_BAD_LATITUDES = 19,     /* south not below north, or either beyond 90 degrees */
     PLANNER_FILE_ENDS = 20,         /* a mesh file ends inside a record, or before the record that ends it */
     PLANNER_UNKNOWN_KIND = 21,      /* a mesh file has a record of an unknown kind */
-    PLANNER_BAD_FILE = 22           /* a mesh file has a wrong length, order, count, field or birth, or bytes after its end */
+    PLANNER_BAD_FILE = 22,          /* a mesh file has a wrong length, order, count, field or birth, or bytes after its end */
+    PLANNER_NO_SUCH_CELL = 23       /* a set of cells names one that is not there */
 };
 
 /* ---- grids */
@@ -167,6 +170,21 @@ uint64_t planner_chained_cell_words(
     uint32_t d, const uint32_t *axes, size_t axes_len, uint32_t *words, size_t words_len, uint32_t *keys, size_t keys_len, uint32_t *rows, size_t rows_len,
     uint32_t *spare, size_t spare_len, uint32_t *counts, size_t counts_len);
 
+/* ---- maps */
+
+/* The band of a grid of two dimensions, axis 0 periodic (a twist without axes is periodic) and axis 1 open, as an RFC 7946 GeoJSON file between two latitudes in whole
+ * degrees: a FeatureCollection with one Polygon for each grid cell, in the order of planner_cell_words. Grid points before gluing are drawn, column 0 at longitude -180,
+ * the last one at 180, so that no ring crosses the seam; the first row at south, the last at north. Positions are exact fractions to six decimals, halves away from zero;
+ * rings close, run counterclockwise and begin at their lowest grid vertex. A feature's "id" and its property "cell" are the cell's number in the mesh: its place in
+ * planner_cells' list, by which signs, parents and sets of cells count. With x the feature's place in the file and m twice the columns it is x + 1, but at the last three
+ * places of a row, x % m = m - 3, m - 2, m - 1: x + 2, x - x % m, x - 1. No spaces, one final line feed. Edges are straight in degrees (plate carree); at a pole one edge
+ * of a cell is a single point of the sphere.
+ * Returns how many bytes are written; 43 bytes and 276 for each cell are always enough. Sides are not read. Refused: 1, 9, 8, 3, 6, 12 (working lists), 7, 18, 19,
+ * 12 (bytes). Working lists, where the words have n numbers as in planner_cell_words: keys d * n, rows n, spare n, counts n. */
+uint64_t planner_geojson(
+    uint32_t d, int32_t south, int32_t north, const uint32_t *axes, size_t axes_len, uint8_t *bytes, size_t bytes_len, uint32_t *keys, size_t keys_len,
+    uint32_t *rows, size_t rows_len, uint32_t *spare, size_t spare_len, uint32_t *counts, size_t counts_len);
+
 /* ---- cell lists */
 
 /* The cells, d+1 vertices each, in colex order without repeats. Returns how many; d+1 times as many numbers are needed of cells. Refused: 1, 2, 3, 4, 6,
@@ -229,6 +247,17 @@ uint64_t planner_induced_orientation(
     uint32_t d, const uint32_t *words, size_t n, const uint32_t *order, size_t order_len, uint32_t *keys, size_t keys_len, uint32_t *rows, size_t rows_len,
     uint32_t *spare, size_t spare_len, uint32_t *counts, size_t counts_len);
 
+/* ---- cells dropped from a mesh */
+
+/* The words of the cells that do not go, in the order given and by new vertex numbers; `gone` names cells by their places in planner_cells' list, in any order, and a place
+ * given twice counts once. Vertices that no word has any more are freed; the others are numbered without gaps in their old order, and old has the old number of each.
+ * Returns how many words stay, a word given twice counted twice: d+1 times as many numbers are needed of kept. vertices[0] gets how many vertices they have, the length
+ * needed of old; a refusal leaves it as it was. Refused: 1, 2, 3, 4, 6, 5, 12 (working lists), 7, 23 (a place past the last cell), 2 (all cells would go), 12 (kept,
+ * old). Working lists as planner_cells. */
+uint64_t planner_drop_cells(
+    uint32_t d, const uint32_t *words, size_t n, const uint32_t *gone, size_t gone_len, uint32_t *kept, size_t kept_len, uint32_t *old, size_t old_len,
+    uint32_t *keys, size_t keys_len, uint32_t *rows, size_t rows_len, uint32_t *spare, size_t spare_len, uint32_t *counts, size_t counts_len, uint32_t vertices[1]);
+
 /* ---- refinement: every cell is cut into r^d children, along a word of its vertices
  *
  * Results, m children in the colex order of the refined cells and b births, the new vertices in the order of their numbers, which follow the coarse ones:
@@ -241,7 +270,7 @@ uint64_t planner_induced_orientation(
  *   birth_weights    (d+1) * b   their weights, whole numbers over r, then 0
  *   birth_shares     (d+1) * b   weight times (1/r), then 0.0
  *   vertices[0]                  how many vertices there are, coarse and new together
- * The call returns m. Refused: 1, 2, 3, 4, 6, 5, 12 (working lists), 7, 16 (planner_refine_with), 11 (r outside 1 to 64), 3 and 6 (of the refined complex), 12 (a result
+ * The call returns m. Refused: 1, 2, 3, 4, 6, 5, 12 (working lists), 7, 16 (planner_refine_with and its sibling below), 11 (r outside 1 to 64), 3 and 6 (of the refined complex), 12 (a result
  * list). Working lists, where c is the lesser of 4,096 and (n / (d + 1)) * r^d (r as 1 where it is outside 1 to 64) and k = c * (d + 1): cells n, along n,
  * pattern (d + 1) * k, keys 4 * n + 8 * k, rows n + k, spare n + k, counts n + k + 65, sorted k, firsts c, buckets 4,096. */
 
@@ -262,6 +291,34 @@ uint64_t planner_refine_with(
     size_t birth_shares_len, uint32_t *cells, size_t cells_len, uint32_t *along, size_t along_len, uint32_t *pattern, size_t pattern_len, uint32_t *keys, size_t keys_len,
     uint32_t *rows, size_t rows_len, uint32_t *spare, size_t spare_len, uint32_t *counts, size_t counts_len, uint32_t *sorted, size_t sorted_len, uint32_t *firsts,
     size_t firsts_len, uint32_t *buckets, size_t buckets_len, uint32_t vertices[1]);
+
+/* The same two with the pattern of a cell made by the stepping rule and never read from the table: they say and write what planner_refine and planner_refine_with do, on
+ * every input. */
+uint64_t planner_refine_by_steps(
+    uint32_t d, uint32_t r, const uint32_t *words, size_t n,
+    uint32_t *out_cells, size_t out_cells_len, uint32_t *out_words, size_t out_words_len, uint32_t *parents, size_t parents_len, double *jacobians, size_t jacobians_len,
+    int32_t *wholes, size_t wholes_len, uint32_t *birth_vertices, size_t birth_vertices_len, uint32_t *birth_weights, size_t birth_weights_len, double *birth_shares,
+    size_t birth_shares_len, uint32_t *cells, size_t cells_len, uint32_t *along, size_t along_len, uint32_t *pattern, size_t pattern_len, uint32_t *keys, size_t keys_len,
+    uint32_t *rows, size_t rows_len, uint32_t *spare, size_t spare_len, uint32_t *counts, size_t counts_len, uint32_t *sorted, size_t sorted_len, uint32_t *firsts,
+    size_t firsts_len, uint32_t *buckets, size_t buckets_len, uint32_t vertices[1]);
+
+uint64_t planner_refine_with_by_steps(
+    uint32_t d, uint32_t r, const uint32_t *words, size_t n, const uint32_t *order, size_t order_len,
+    uint32_t *out_cells, size_t out_cells_len, uint32_t *out_words, size_t out_words_len, uint32_t *parents, size_t parents_len, double *jacobians, size_t jacobians_len,
+    int32_t *wholes, size_t wholes_len, uint32_t *birth_vertices, size_t birth_vertices_len, uint32_t *birth_weights, size_t birth_weights_len, double *birth_shares,
+    size_t birth_shares_len, uint32_t *cells, size_t cells_len, uint32_t *along, size_t along_len, uint32_t *pattern, size_t pattern_len, uint32_t *keys, size_t keys_len,
+    uint32_t *rows, size_t rows_len, uint32_t *spare, size_t spare_len, uint32_t *counts, size_t counts_len, uint32_t *sorted, size_t sorted_len, uint32_t *firsts,
+    size_t firsts_len, uint32_t *buckets, size_t buckets_len, uint32_t vertices[1]);
+
+/* ---- the pattern of one cell: the corners of its children
+ *
+ * The children of a cell of dimension d refined by r, in the order in which a refinement visits them, their corners in the order of each child's word; a corner is d+1
+ * weights over the places of the cell's word, whole numbers over r. corners gets r^d * (d+1) * (d+1) numbers; the call returns r^d * (d+1), the number of corners. Refused:
+ * 1, 11 (r outside 1 to 64), 3 (r^d is more than the limit of cells), 12; then no number changes. */
+uint64_t planner_corners(uint32_t d, uint32_t r, uint32_t *corners, size_t corners_len);
+
+/* The same by the stepping rule alone, also for dimensions 2 and 3 refined by 2, 3 and 4, which planner_corners reads from a table: equal on every input. */
+uint64_t planner_corners_stepping(uint32_t d, uint32_t r, uint32_t *corners, size_t corners_len);
 
 /* ---- one child, one birth by number, read from the lists that a refinement handed out. (The word of cell number k of an order or a cell list is the d+1 numbers from
  * place k * (d+1) of its list on.) */
@@ -299,7 +356,7 @@ uint64_t planner_write_mesh(
 /* Reads a file and returns how many cells it has; shape gets the dimension and how many births and pairs there are. For any file words of bytes_len / 4, births of
  * bytes_len / 8 and pairs of bytes_len / 3 numbers are long enough, keys of 3 * (bytes_len / 4) and rows, spare and counts of bytes_len / 4; no accepted file has more than
  * 16,384 numbers in words, 12,288 in births and 524,288 in pairs. Refused: 20, 21, 22 as the bytes come, then 1, 2, 3, 4, 6, 5, 12 (working lists), 7, 12 (a result list). A
- * refusal leaves shape as it was. The call takes 64 KB of stack. */
+ * refusal leaves shape as it was. STACK: less than 72 KB. */
 uint64_t planner_read_mesh(
     const uint8_t *bytes, size_t bytes_len, uint32_t *words, size_t words_len, uint32_t *births, size_t births_len, uint32_t *pairs, size_t pairs_len, uint32_t *keys,
     size_t keys_len, uint32_t *rows, size_t rows_len, uint32_t *spare, size_t spare_len, uint32_t *counts, size_t counts_len, uint32_t shape[3]);

@@ -32,7 +32,18 @@ SIGNATURES: Dict[str, str] = {
     "planner_edge_lengths_sq": "u32 u32[] f64[] f64[&]" + ROOM,
     "planner_edge_length_sq": "u32 u32 u32 u32[] f64[] f64&",
     "planner_grid_corners": "u32 u32[]",
+    "planner_geojson": "u32 i32 i32 u32[] u8[&]" + ROOM,
+    "planner_chained_reduce": "u32 u32 u32[] u32[&]",
+    "planner_chained_nvertices": "u32 u32[] u32[&]",
+    "planner_chained_classes": "u32 u32[] u32[&] u32[&]",
+    "planner_chained_closed_classes": "u32 u32[] u32[&] u32[&]",
+    "planner_chained_cell_words": "u32 u32[] u32[&]" + ROOM,
     "planner_swath": "u32 u32[] u32[] u32[&]",
+    "planner_chained_reduce": "u32 u32 u32[] u32[&]",
+    "planner_chained_nvertices": "u32 u32[] u32[&]",
+    "planner_chained_classes": "u32 u32[] u32[&] u32[&]",
+    "planner_chained_closed_classes": "u32 u32[] u32[&] u32[&]",
+    "planner_chained_cell_words": "u32 u32[] u32[&]" + ROOM,
     "planner_cells": "u32 u32[] u32[&]" + ROOM,
     "planner_edges": "u32 u32[] u32[&]" + ROOM,
     "planner_facets": "u32 u32[] u32[&] u32[&]" + ROOM,
@@ -44,6 +55,11 @@ SIGNATURES: Dict[str, str] = {
     "planner_induced_orientation": "u32 u32[] u32[]" + ROOM,
     "planner_refine": "u32 u32 u32[]" + REFINED,
     "planner_refine_with": "u32 u32 u32[] u32[]" + REFINED,
+    "planner_drop_cells": "u32 u32[] u32[] u32[&] u32[&]" + ROOM + " u32&",
+    "planner_geojson": "u32 i32 i32 u32[] u8[&]" + ROOM,
+    "planner_corners": "u32 u32 u32[&]",
+    "planner_write_mesh": "u32 u32[] u32[] u32[] u8[&]" + ROOM,
+    "planner_read_mesh": "u8[] u32[&] u32[&] u32[&]" + ROOM + " u32&",
     "planner_child_of": "u32 u32[] f64[] i32[] f64& i32&",
     "planner_birth_of": "u32 u32 u32[] u32[] f64[] u32& u32& f64&",
 }
@@ -78,6 +94,15 @@ def loaded() -> ctypes.CDLL:
 
 _library: Any = None
 _functions: Dict[str, Callable[..., int]] = {}
+
+
+def has(name: str) -> bool:
+    """Whether the library that is found has this function; an older one may lack the newest."""
+    try:
+        function(name)
+    except AttributeError:
+        return False
+    return True
 
 
 def function(name: str) -> Callable[..., int]:

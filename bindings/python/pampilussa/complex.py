@@ -192,6 +192,20 @@ class Complex:
         words = numbers(order, "order")
         return self._call("induced_orientation", words, *room(self._need("induced_orientation")), order=words) == 1
 
+    def drop_cells(self, gone: Any) -> "Tuple[Complex, np.ndarray]":
+        """The complex without these cells (rows of cells), its vertices numbered without gaps in their old order, and the old number of each.
+
+        >>> import pampilussa as pa
+        >>> left, old = pa.Complex([[0, 1, 2], [1, 2, 3]]).drop_cells([0])
+        >>> left.cells.tolist(), old.tolist()
+        ([[0, 1, 2]], [1, 2, 3])
+        """
+        named = numbers(gone, "the cells to be dropped")
+        most, *need = self._need("cells")
+        kept, old, vertices = np.empty(most, np.uint32), np.empty(most, np.uint32), np.zeros(1, np.uint32)
+        count = self._call("drop_cells", named, kept, old, *room(need), vertices, gone=named, cells=self.ncells)
+        return Complex(kept[:count * (self.d + 1)], self.d), old[:int(vertices[0])]
+
     def refine(self, r: int, order: Any = None) -> Refined:
         """Every cell cut into r**d children, along its sorted vertices or along an order's word for it.
 

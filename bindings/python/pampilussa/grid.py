@@ -5,7 +5,7 @@ import numpy as np
 
 from ._library import call, needed, numbers, room, whole
 from .complex import Complex
-from .refused import MOST_DIMENSION, Refused
+from .refused import MOST_CELLS, MOST_DIMENSION, Refused
 
 OPEN = 0
 PERIODIC = 256
@@ -47,6 +47,15 @@ def gluing_text(code: int) -> str:
     if code < PERIODIC:
         return "O"
     return "P" if code < TWISTED else "T" + "".join(str(j) for j in range(8) if code >> j & 1)
+
+
+
+def _degrees(value: int) -> int:
+    """A whole number of 32 bits with its sign, or ValueError."""
+    number = int(value)
+    if number != value or not -2 ** 31 <= number < 2 ** 31:
+        raise ValueError("the latitude is %r; it must be a whole number of degrees" % (value,))
+    return number
 
 
 class Grid:
@@ -251,6 +260,64 @@ class Grid:
         count = self._ask("planner_cell_words", self._axes, out, *room(need))
         return out[:count * (self.d + 1)].reshape(count, self.d + 1)
 
+    def _most(self) -> int:
+        """The corners of as many cells as are taken: room for every grid of honest gluing, whose classes may be fewer than the glued vertices."""
+        return MOST_CELLS * (self.d + 1)
+
+    def chained_classes(self) -> np.ndarray:
+        """Honest gluing: the class of each grid point, points in one class exactly where a chain of gluing steps joins them.
+
+        >>> import pampilussa as pa
+        >>> plane = pa.Grid([(4, "T1"), (4, "T0")])          # a projective plane: n * n + 1 classes
+        >>> int(plane.chained_classes().max()) + 1, plane.chained_nvertices, plane.nvertices
+        (17, 17, 16)
+        """
+        points = 1
+        for count, _ in self.axes:
+            points = min(points * (count + 1), 2 ** 24)
+        classes = np.empty(points, np.uint32)
+        self._ask("planner_chained_classes", self._axes, classes, *room([self._most()]))
+        return classes
+
+    @property
+    def chained_nvertices(self) -> int:
+        """Honest gluing: how many classes there are."""
+        return self._ask("planner_chained_nvertices", self._axes, *room([self._most()]))
+
+    def chained_reduce(self, point: int) -> int:
+        """Honest gluing: the class of a grid point; NO_VERTEX past the last point.
+
+        >>> import pampilussa as pa
+        >>> pa.Grid([(3, "P"), (1, "O")]).chained_reduce(7)
+        3
+        """
+        return self._ask("planner_chained_reduce", whole(point, "the point"), self._axes, *room([self._most()]))
+
+    def chained_words(self) -> np.ndarray:
+        """Honest gluing: the words of the grid's cells, d+1 classes each; a word that names a class twice is refused with 4.
+
+        >>> import pampilussa as pa
+        >>> pa.Grid([(3, "P"), (1, "O")]).chained_words().tolist() == pa.Grid([(3, "P"), (1, "O")]).words().tolist()
+        True
+        """
+        most, *need = needed("cell_words", self.d, self._most())
+        out = np.empty(most, np.uint32)
+        count = self._ask("planner_chained_cell_words", self._axes, out, *room(need))
+        return out[:count * (self.d + 1)].reshape(count, self.d + 1)
+
+    def geojson(self, south: int, north: int) -> str:
+        """The band between two latitudes in whole degrees as an RFC 7946 GeoJSON file; a feature's id is its cell's row in `complex().cells`. Refused with 18 unless
+        axis 0 is periodic and axis 1 open, and with 19 where south is not below north or either beyond 90.
+
+        >>> import json, pampilussa as pa
+        >>> [f["id"] for f in json.loads(pa.Grid([(3, "P"), (1, "O")]).geojson(0, 60))["features"]]
+        [1, 2, 3, 5, 0, 4]
+        """
+        most, *need = self._need("cell_words")
+        out = np.empty(43 + 276 * (most // (self.d + 1)), np.uint8)
+        count = self._ask("planner_geojson", _degrees(south), _degrees(north), self._axes, out, *room(need))
+        return out[:count].tobytes().decode("ascii")
+
     def complex(self) -> Complex:
         """The grid's cells."""
         return Complex(self.words())
@@ -283,6 +350,20 @@ class Grid:
         lengths = np.empty(most, np.float64)
         count = self._ask("planner_edge_lengths_sq", self._axes, self._sides(), lengths, *room(need))
         return lengths[:count]
+
+    def geojson(self, south: int, north: int) -> bytes:
+        """The band as an RFC 7946 GeoJSON file, between two latitudes in whole degrees and once round the earth; axis 0 joined (P), axis 1 open (O).
+
+        One Polygon for each cell, none across 180 degrees; a feature's id is the cell's row in Complex.cells.
+        """
+        south, north = int(south), int(north)
+        if not -2 ** 31 <= south < 2 ** 31 or not -2 ** 31 <= north < 2 ** 31:
+            raise ValueError("a latitude is a whole number of degrees")
+        most, *need = self._need("cell_words")
+        cells = most // (self.d + 1)
+        out = np.empty(43 + 276 * cells, np.uint8)
+        size = call("planner_geojson", self.d, south, north, self._axes, out, *room(need), d=self.d, axes=self._axes, south=south, north=north)
+        return out[:size].tobytes()
 
     def edge_length_sq(self, one: int, other: int) -> Union[float, Clash, None]:
         """The squared length of the edge between two glued vertices, the two that clash first, or None where there is no such edge.
