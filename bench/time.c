@@ -10,10 +10,11 @@
 #define MOST 400000
 #define RUNS 1000
 
-static uint32_t axes[8], words[MOST], order[MOST];
+static uint32_t axes[8], words[MOST], order[MOST], second[MOST];          /* second: every second number */
 static int32_t signs[MOST], wholes[MOST];
 static double sides[4], floats[MOST], shares[MOST];
 static uint32_t out[MOST], more[MOST], parents[MOST], vertices[MOST], weights[MOST], room[10][MOST];
+static uint8_t bytes[4 * MOST];
 static size_t naxes, nsides, nwords, norder, nsigns;
 static uint32_t d, r;
 
@@ -53,9 +54,14 @@ __attribute__((noinline)) static uint64_t once(const char *call) {
     if (!strcmp(call, "nvertices")) return planner_nvertices(d, AXES);
     if (!strcmp(call, "is_orientation_preserving")) return planner_is_orientation_preserving(d, AXES);
     if (!strcmp(call, "cell_words")) return planner_cell_words(d, AXES, OUT, ROOM);
+    if (!strcmp(call, "chained_nvertices")) return planner_chained_nvertices(d, AXES, room[0], MOST);
+    if (!strcmp(call, "chained_classes")) return planner_chained_classes(d, AXES, OUT, room[0], MOST);
+    if (!strcmp(call, "chained_closed_classes")) return planner_chained_closed_classes(d, AXES, OUT, room[0], MOST);
+    if (!strcmp(call, "chained_cell_words")) return planner_chained_cell_words(d, AXES, OUT, ROOM);
     if (!strcmp(call, "triangulate_ordered")) return planner_triangulate_ordered(d, AXES, OUT, more, MOST, ROOM);
     if (!strcmp(call, "edge_lengths_sq")) return planner_edge_lengths_sq(d, AXES, sides, nsides, floats, MOST, ROOM);
     if (!strcmp(call, "edge_length_sq")) return planner_edge_length_sq(d, 0, 1, AXES, sides, nsides, squares);
+    if (!strcmp(call, "geojson")) return planner_geojson(d, -90, 90, AXES, bytes, sizeof bytes, ROOM);
     if (!strcmp(call, "cells")) return planner_cells(d, WORDS, OUT, ROOM);
     if (!strcmp(call, "edges")) return planner_edges(d, WORDS, OUT, ROOM);
     if (!strcmp(call, "facets")) return planner_facets(d, WORDS, OUT, more, MOST, ROOM);
@@ -65,6 +71,7 @@ __attribute__((noinline)) static uint64_t once(const char *call) {
     if (!strcmp(call, "orient_by")) return planner_orient_by(d, WORDS, signs, nsigns, ROOM);
     if (!strcmp(call, "ordering")) return planner_ordering(d, WORDS, order, norder, OUT, ROOM);
     if (!strcmp(call, "induced_orientation")) return planner_induced_orientation(d, WORDS, order, norder, ROOM);
+    if (!strcmp(call, "drop_cells")) return planner_drop_cells(d, WORDS, second, nwords / (d + 1) / 2, OUT, more, MOST, ROOM, &total);
     if (!strcmp(call, "refine")) return planner_refine(d, r, WORDS, REFINED);
     if (!strcmp(call, "refine_by_steps")) return planner_refine_by_steps(d, r, WORDS, REFINED);
     if (!strcmp(call, "corners")) return planner_corners(d, r, OUT);
@@ -92,6 +99,7 @@ static int rising(const void *a, const void *b) { return (*(const double *)a > *
 
 int main(int argc, char **argv) {
     char call[64];
+    for (uint32_t i = 0; i < MOST; i++) second[i] = 2 * i;
     int most = argc > 1 ? atoi(argv[1]) : RUNS;          /* 1: every call once, to count instructions */
     while (scanf("%63s %u %u", call, &d, &r) == 3) {
         static double t[RUNS];

@@ -1,4 +1,4 @@
-"""declared.py HEADER RAW: the raw declarations of the Rust crate against the C header: the same functions with the same types in the same order. The last line is
+"""declared.py HEADER FILE...: the raw declarations of the Rust crate against the C header: the same functions with the same types in the same order. The last line is
 'declared N functions, 0 differences'."""
 import re
 import sys
@@ -10,7 +10,7 @@ def of_header(text):
     """To each function of the header its types, as Rust writes them."""
     found = {}
     text = re.sub(r"/\*.*?\*/", " ", text, flags=re.S)
-    for name, given in re.findall(r"uint64_t\s+(planner_\w+)\s*\(([^)]*)\)\s*;", text):
+    for name, given in re.findall(r"(?:uint64_t|void)\s+(planner_\w+)\s*\(([^)]*)\)\s*;", text):
         types = []
         for piece in (" ".join(x.split()) for x in given.split(",")):
             kind = C_TYPES[piece.replace("const ", "").split()[0].rstrip("*")]
@@ -22,11 +22,11 @@ def of_header(text):
 
 def of_rust(text):
     """The same from the Rust's declarations."""
-    return {name: [x.split(":")[1].strip() for x in given.split(",") if x.strip()] for name, given in re.findall(r"pub fn (planner_\w+)\s*\(([^)]*)\)\s*->\s*u64;", text, flags=re.S)}
+    return {name: [x.split(":")[1].strip() for x in given.split(",") if x.strip()] for name, given in re.findall(r"\bfn (planner_\w+)\s*\(([^)]*)\)(?:\s*->\s*u64)?;", text, flags=re.S)}
 
 
 def main():
-    header, rust = of_header(open(sys.argv[1]).read()), of_rust(open(sys.argv[2]).read())
+    header, rust = of_header(open(sys.argv[1]).read()), of_rust("\n".join(open(path).read() for path in sys.argv[2:]))
     wrong = 0
     for name, types in sorted(rust.items()):
         if header.get(name) != types:

@@ -12,15 +12,15 @@
  * RESULT LISTS get exactly as many elements as the meaning of the call says, from the start; what lies past them keeps its values. A
  * refusal changes no result list. One that is too short is refused with 12.
  *
- * WORKING LISTS: keys, rows, spare, counts (ten lists for a refinement). A call says how many elements it needs of each; fewer are refused with 12. Their values before the
+ * WORKING LISTS: keys, rows, spare, counts (ten lists for a refinement). A call says how many elements it needs of each, and planner_need_... works it out; fewer are refused with 12. Their values before the
  * call do not matter. After the call what is needed of them is all zero, unless the call was refused before it tested them: then they are as
  * they were. What lies past the need is never touched.
  *
  * A GRID is its dimension d, a list `axes` with two numbers for each axis, its count of cells and its gluing, and a list `sides` where the
  * call reads them. A gluing is PLANNER_OPEN, PLANNER_PERIODIC or PLANNER_TWISTED(mask), where bit j of the mask is set if axis j is
- * reflected. Of the other numbers 1 to 255 are open and 257 to 511 periodic. An axis that is not in the list has no cells (refused with 8),
- * one whose count is in the list and whose gluing is not is open, a side that is not there is 0 (refused with 10). What stands past d is not
- * looked at.
+ * reflected. Of the other numbers 1 to 255 are open, 257 to 511 periodic, and from 768 on only the lowest byte counts as the mask. An axis
+ * that is not in the list has no cells (refused with 8), one whose count is in the list and whose gluing is not is open, a side that is not
+ * there is 0 (refused with 10). What stands past d is not looked at.
  *
  * FLOATS are rounded to the nearest, as a program starts out; where the caller has set another rounding mode, lengths, shares and counts made
  * from sides follow it. STACK: a call takes less than 8 KB of the thread's stack, unless its text tells
@@ -65,9 +65,12 @@ enum {
     PLANNER_BAD_SIGNS = 14,         /* sign list not one +1 or -1 for each cell */
     PLANNER_TWO_LENGTHS = 15,       /* some grid edge gets two lengths */
     PLANNER_BAD_ORDER = 16,         /* order words not one for each cell, no more */
+    PLANNER_OTHER_GRID = 18,        /* no band: not two dimensions with axis 0 periodic and axis 1 open */
+    PLANNER_BAD_LATITUDES = 19,     /* south not below north, or either beyond 90 degrees */
     PLANNER_FILE_ENDS = 20,         /* a mesh file ends inside a record, or before the record that ends it */
     PLANNER_UNKNOWN_KIND = 21,      /* a mesh file has a record of an unknown kind */
-    PLANNER_BAD_FILE = 22           /* a mesh file has a wrong length, order, count, field or birth, or bytes after its end */
+    PLANNER_BAD_FILE = 22,          /* a mesh file has a wrong length, order, count, field or birth, or bytes after its end */
+    PLANNER_NO_SUCH_CELL = 23       /* a set of cells names one that is not there */
 };
 
 /* ---- grids */
@@ -139,6 +142,49 @@ uint64_t planner_edge_lengths_sq(
 uint64_t planner_edge_length_sq(
     uint32_t d, uint32_t from, uint32_t to, const uint32_t *axes, size_t axes_len, const double *sides, size_t sides_len, double squares[2]);
 
+/* ---- honest gluing: a second mode of a grid
+ *
+ * Grid points are one class exactly where a chain of gluing steps joins them: a step leads from a point with the last coordinate on a closed axis to the point with 0 there,
+ * and c replaced by count - c on the axes that this one reflects. Classes are numbered in the order of their least grid points. A class is neither a grid point nor a glued
+ * vertex of the calls above. Where no axis with a non-empty set is itself reflected both modes make the same classes under other numbers. Of the room n numbers are needed,
+ * d+1 for each cell, as in planner_cell_words; each call numbers the whole grid. */
+
+/* The class of grid point v; PLANNER_NO_VERTEX where v is past the last point. Refused: 1, 9, 8, 3, 12 (room), 6 (more than 4,096 classes). */
+uint64_t planner_chained_reduce(uint32_t d, uint32_t v, const uint32_t *axes, size_t axes_len, uint32_t *room, size_t room_len);
+
+/* How many classes there are. Refused: 1, 9, 8, 3, 12 (room), 6. */
+uint64_t planner_chained_nvertices(uint32_t d, const uint32_t *axes, size_t axes_len, uint32_t *room, size_t room_len);
+
+/* The class of each grid point. Returns how many classes there are; of classes as many numbers are needed as there are grid points, the product of count + 1 over the axes.
+ * Refused: 1, 9, 8, 3, 12 (room), 6, 12 (classes). */
+uint64_t planner_chained_classes(
+    uint32_t d, const uint32_t *axes, size_t axes_len, uint32_t *classes, size_t classes_len, uint32_t *room, size_t room_len);
+
+/* The same by an engine that closes the relation step by step. */
+uint64_t planner_chained_closed_classes(
+    uint32_t d, const uint32_t *axes, size_t axes_len, uint32_t *classes, size_t classes_len, uint32_t *room, size_t room_len);
+
+/* The words of the grid's cells, d+1 classes each, in the order of the sorted grid cells. Returns how many words there are; n numbers are needed of words. Refused: 1, 9,
+ * 8, 3, 12 (working lists), 6, 4 (a word names a class twice; place: the first such word), 7, 12 (words). Working lists: keys d * n, rows n, spare n, counts n. */
+uint64_t planner_chained_cell_words(
+    uint32_t d, const uint32_t *axes, size_t axes_len, uint32_t *words, size_t words_len, uint32_t *keys, size_t keys_len, uint32_t *rows, size_t rows_len,
+    uint32_t *spare, size_t spare_len, uint32_t *counts, size_t counts_len);
+
+/* ---- maps */
+
+/* The band of a grid of two dimensions, axis 0 periodic (a twist without axes is periodic) and axis 1 open, as an RFC 7946 GeoJSON file between two latitudes in whole
+ * degrees: a FeatureCollection with one Polygon for each grid cell, in the order of planner_cell_words. Grid points before gluing are drawn, column 0 at longitude -180,
+ * the last one at 180, so that no ring crosses the seam; the first row at south, the last at north. Positions are exact fractions to six decimals, halves away from zero;
+ * rings close, run counterclockwise and begin at their lowest grid vertex. A feature's "id" and its property "cell" are the cell's number in the mesh: its place in
+ * planner_cells' list, by which signs, parents and sets of cells count. With x the feature's place in the file and m twice the columns it is x + 1, but at the last three
+ * places of a row, x % m = m - 3, m - 2, m - 1: x + 2, x - x % m, x - 1. No spaces, one final line feed. Edges are straight in degrees (plate carree); at a pole one edge
+ * of a cell is a single point of the sphere.
+ * Returns how many bytes are written; 43 bytes and 276 for each cell are always enough. Sides are not read. Refused: 1, 9, 8, 3, 6, 12 (working lists), 7, 18, 19,
+ * 12 (bytes). Working lists, where the words have n numbers as in planner_cell_words: keys d * n, rows n, spare n, counts n. */
+uint64_t planner_geojson(
+    uint32_t d, int32_t south, int32_t north, const uint32_t *axes, size_t axes_len, uint8_t *bytes, size_t bytes_len, uint32_t *keys, size_t keys_len,
+    uint32_t *rows, size_t rows_len, uint32_t *spare, size_t spare_len, uint32_t *counts, size_t counts_len);
+
 /* ---- cell lists */
 
 /* The cells, d+1 vertices each, in colex order without repeats. Returns how many; d+1 times as many numbers are needed of cells. Refused: 1, 2, 3, 4, 6,
@@ -200,6 +246,17 @@ uint64_t planner_ordering(
 uint64_t planner_induced_orientation(
     uint32_t d, const uint32_t *words, size_t n, const uint32_t *order, size_t order_len, uint32_t *keys, size_t keys_len, uint32_t *rows, size_t rows_len,
     uint32_t *spare, size_t spare_len, uint32_t *counts, size_t counts_len);
+
+/* ---- cells dropped from a mesh */
+
+/* The words of the cells that do not go, in the order given and by new vertex numbers; `gone` names cells by their places in planner_cells' list, in any order, and a place
+ * given twice counts once. Vertices that no word has any more are freed; the others are numbered without gaps in their old order, and old has the old number of each.
+ * Returns how many words stay, a word given twice counted twice: d+1 times as many numbers are needed of kept. vertices[0] gets how many vertices they have, the length
+ * needed of old; a refusal leaves it as it was. Refused: 1, 2, 3, 4, 6, 5, 12 (working lists), 7, 23 (a place past the last cell), 2 (all cells would go), 12 (kept,
+ * old). Working lists as planner_cells. */
+uint64_t planner_drop_cells(
+    uint32_t d, const uint32_t *words, size_t n, const uint32_t *gone, size_t gone_len, uint32_t *kept, size_t kept_len, uint32_t *old, size_t old_len,
+    uint32_t *keys, size_t keys_len, uint32_t *rows, size_t rows_len, uint32_t *spare, size_t spare_len, uint32_t *counts, size_t counts_len, uint32_t vertices[1]);
 
 /* ---- refinement: every cell is cut into r^d children, along a word of its vertices
  *
@@ -299,10 +356,31 @@ uint64_t planner_write_mesh(
 /* Reads a file and returns how many cells it has; shape gets the dimension and how many births and pairs there are. For any file words of bytes_len / 4, births of
  * bytes_len / 8 and pairs of bytes_len / 3 numbers are long enough, keys of 3 * (bytes_len / 4) and rows, spare and counts of bytes_len / 4; no accepted file has more than
  * 16,384 numbers in words, 12,288 in births and 524,288 in pairs. Refused: 20, 21, 22 as the bytes come, then 1, 2, 3, 4, 6, 5, 12 (working lists), 7, 12 (a result list). A
- * refusal leaves shape as it was. The call takes 64 KB of stack. */
+ * refusal leaves shape as it was. STACK: less than 72 KB. */
 uint64_t planner_read_mesh(
     const uint8_t *bytes, size_t bytes_len, uint32_t *words, size_t words_len, uint32_t *births, size_t births_len, uint32_t *pairs, size_t pairs_len, uint32_t *keys,
     size_t keys_len, uint32_t *rows, size_t rows_len, uint32_t *spare, size_t spare_len, uint32_t *counts, size_t counts_len, uint32_t shape[3]);
+
+/* ---- how long the lists of a call must be
+ *
+ * Each function writes to need the lengths of a call's result lists and working lists, in the order of the call's parameters: of a result list the call never needs more, of
+ * a working list it needs just that. With lists of these lengths the call never says 12. d is the dimension and n the length of words; for a call on a grid n is the
+ * number that planner_grid_corners says. Where a call with this d and n is refused with 1 or 3 before it looks at its lists, they are those for n = 0. */
+
+/* How many corners the words of a grid have: d+1 for each cell. Refused: 1, 9, 8, 3, 6. */
+uint64_t planner_grid_corners(uint32_t d, const uint32_t *axes, size_t axes_len);
+
+void planner_need_cell_words(uint32_t d, size_t n, size_t need[5]);          /* words, keys, rows, spare, counts */
+void planner_need_triangulate_ordered(uint32_t d, size_t n, size_t need[6]); /* cells, order, keys, rows, spare, counts */
+void planner_need_edge_lengths_sq(uint32_t d, size_t n, size_t need[5]);     /* lengths, keys, rows, spare, counts */
+void planner_need_cells(uint32_t d, size_t n, size_t need[5]);               /* cells, keys, rows, spare, counts */
+void planner_need_edges(uint32_t d, size_t n, size_t need[5]);               /* edges, keys, rows, spare, counts */
+void planner_need_facets(uint32_t d, size_t n, size_t need[6]);              /* facets, table, keys, rows, spare, counts */
+void planner_need_border(uint32_t d, size_t n, size_t need[5]);              /* border, keys, rows, spare, counts */
+void planner_need_orientation(uint32_t d, size_t n, size_t need[5]);         /* signs, keys, rows, spare, counts; planner_orientation_looks too */
+void planner_need_orient_by(uint32_t d, size_t n, size_t need[4]);           /* keys, rows, spare, counts */
+void planner_need_ordering(uint32_t d, size_t n, size_t need[5]);            /* listed, keys, rows, spare, counts */
+void planner_need_induced_orientation(uint32_t d, size_t n, size_t need[4]); /* keys, rows, spare, counts */
 
 #ifdef __cplusplus
 }

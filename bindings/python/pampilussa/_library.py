@@ -31,6 +31,19 @@ SIGNATURES: Dict[str, str] = {
     "planner_triangulate_ordered": "u32 u32[] u32[&] u32[&]" + ROOM,
     "planner_edge_lengths_sq": "u32 u32[] f64[] f64[&]" + ROOM,
     "planner_edge_length_sq": "u32 u32 u32 u32[] f64[] f64&",
+    "planner_grid_corners": "u32 u32[]",
+    "planner_geojson": "u32 i32 i32 u32[] u8[&]" + ROOM,
+    "planner_chained_reduce": "u32 u32 u32[] u32[&]",
+    "planner_chained_nvertices": "u32 u32[] u32[&]",
+    "planner_chained_classes": "u32 u32[] u32[&] u32[&]",
+    "planner_chained_closed_classes": "u32 u32[] u32[&] u32[&]",
+    "planner_chained_cell_words": "u32 u32[] u32[&]" + ROOM,
+    "planner_swath": "u32 u32[] u32[] u32[&]",
+    "planner_chained_reduce": "u32 u32 u32[] u32[&]",
+    "planner_chained_nvertices": "u32 u32[] u32[&]",
+    "planner_chained_classes": "u32 u32[] u32[&] u32[&]",
+    "planner_chained_closed_classes": "u32 u32[] u32[&] u32[&]",
+    "planner_chained_cell_words": "u32 u32[] u32[&]" + ROOM,
     "planner_cells": "u32 u32[] u32[&]" + ROOM,
     "planner_edges": "u32 u32[] u32[&]" + ROOM,
     "planner_facets": "u32 u32[] u32[&] u32[&]" + ROOM,
@@ -42,11 +55,23 @@ SIGNATURES: Dict[str, str] = {
     "planner_induced_orientation": "u32 u32[] u32[]" + ROOM,
     "planner_refine": "u32 u32 u32[]" + REFINED,
     "planner_refine_with": "u32 u32 u32[] u32[]" + REFINED,
+    "planner_drop_cells": "u32 u32[] u32[] u32[&] u32[&]" + ROOM + " u32&",
+    "planner_geojson": "u32 i32 i32 u32[] u8[&]" + ROOM,
+    "planner_corners": "u32 u32 u32[&]",
+    "planner_write_mesh": "u32 u32[] u32[] u32[] u8[&]" + ROOM,
+    "planner_read_mesh": "u8[] u32[&] u32[&] u32[&]" + ROOM + " u32&",
     "planner_child_of": "u32 u32[] f64[] i32[] f64& i32&",
     "planner_birth_of": "u32 u32 u32[] u32[] f64[] u32& u32& f64&",
 }
+# The functions that tell how long the lists of a call must be: how many lengths each writes.
+NEEDS: Dict[str, int] = {
+    "planner_need_cell_words": 5, "planner_need_triangulate_ordered": 6, "planner_need_edge_lengths_sq": 5, "planner_need_cells": 5, "planner_need_edges": 5,
+    "planner_need_facets": 6, "planner_need_border": 5, "planner_need_orientation": 5, "planner_need_orient_by": 4, "planner_need_ordering": 5,
+    "planner_need_induced_orientation": 4,
+}
+SIGNATURES.update((name, "u32 size size&") for name in NEEDS)
 DTYPES = {"u8": np.uint8, "u32": np.uint32, "i32": np.int32, "f64": np.float64}
-NUMBERS = {"u32": ctypes.c_uint32, "i32": ctypes.c_int32, "f64": ctypes.c_double}
+NUMBERS = {"size": ctypes.c_size_t, "u32": ctypes.c_uint32, "i32": ctypes.c_int32, "f64": ctypes.c_double}
 
 
 def places() -> List[str]:
@@ -71,6 +96,15 @@ _library: Any = None
 _functions: Dict[str, Callable[..., int]] = {}
 
 
+def has(name: str) -> bool:
+    """Whether the library that is found has this function; an older one may lack the newest."""
+    try:
+        function(name)
+    except AttributeError:
+        return False
+    return True
+
+
 def function(name: str) -> Callable[..., int]:
     """The library's function of that name, with its types."""
     global _library
@@ -84,7 +118,7 @@ def function(name: str) -> Callable[..., int]:
                 types += [ctypes.c_void_p, ctypes.c_size_t]
             else:
                 types.append(ctypes.c_void_p if part.endswith("&") else NUMBERS[part])
-        found.argtypes, found.restype = types, ctypes.c_uint64
+        found.argtypes, found.restype = types, None if name in NEEDS else ctypes.c_uint64
         _functions[name] = found
     return _functions[name]
 
@@ -103,6 +137,14 @@ def call(name: str, *given: Argument, **about: Any) -> int:
     if answer >> 32:
         raise Refused(answer >> 32, answer & 0xFFFFFFFF, **about)
     return answer & 0xFFFFFFFF
+
+
+def needed(call_name: str, d: int, n: int) -> List[int]:
+    """How long the lists of that call must be, in the order of its parameters, where the words have n corners."""
+    name = "planner_need_" + call_name
+    lengths = np.zeros(NEEDS[name], np.uintp)
+    function(name)(d, n, lengths.ctypes.data)
+    return [int(x) for x in lengths]
 
 
 def room(need: List[int]) -> List[np.ndarray]:

@@ -3,8 +3,7 @@ from typing import Any, List, NamedTuple, Optional, Tuple
 
 import numpy as np
 
-from . import _room
-from ._library import call, numbers, room, whole
+from ._library import call, needed, numbers, room, whole
 from .refined import Refined, refine
 from .refused import Refused
 
@@ -55,16 +54,24 @@ class Complex:
             d = shape[1] - 1
         self.d = whole(d, "d")
         self._words = numbers(words, "words")
-        self._n = _room.corners(self.d, self._words.size)
-        self._cells = self._listed("planner_cells", np.empty(self._n, np.uint32), self.d + 1, _room.plain(self.d, self._n))
+        self._cells = self._listed("cells", self.d + 1)
         self._cells.flags.writeable = False
 
     def __repr__(self) -> str:
         return "<Complex of dimension %d: %d cells, %d vertices>" % (self.d, self.ncells, self.nvertices)
 
-    def _listed(self, name: str, out: np.ndarray, stride: int, need: List[int], *more: np.ndarray, **about: Any) -> np.ndarray:
+    def _need(self, name: str) -> List[int]:
+        return needed(name, self.d, self._words.size)
+
+    def _call(self, name: str, *given: np.ndarray, **about: Any) -> int:
+        """A call on the words, whose refusals name them."""
+        return call("planner_" + name, self.d, self._words, *given, d=self.d, words=self._words, **about)
+
+    def _listed(self, name: str, stride: int, kind: Any = np.uint32) -> np.ndarray:
         """A call with one result list: the rows that it handed out."""
-        count = call(name, self.d, self._words, out, *room(need), *more, d=self.d, words=self._words, **about)
+        most, *need = self._need(name)
+        out = np.empty(most, kind)
+        count = self._call(name, out, *room(need))
         return out[:count * stride].reshape(count, stride)
 
     @property
@@ -94,8 +101,7 @@ class Complex:
         >>> pa.Complex([[2, 1, 0]]).edges().tolist()
         [[0, 1], [0, 2], [1, 2]]
         """
-        most = max(1, self.d) * self._n
-        return self._listed("planner_edges", np.empty(most, np.uint32), 2, _room.edges(self.d, self._n))
+        return self._listed("edges", 2)
 
     def facets(self) -> Facets:
         """The facets with their one or two cells. In dimension 0 there are none.
@@ -105,8 +111,9 @@ class Complex:
         >>> facets.vertices.tolist(), facets.cells[1].tolist(), facets.dropped[1].tolist()
         ([[0], [1], [2]], [0, 1], [0, 1])
         """
-        flat, table = np.empty(self.d * self._n, np.uint32), np.empty(4 * self._n, np.uint32)
-        count = call("planner_facets", self.d, self._words, flat, table, *room(_room.plain(self.d, self._n)), d=self.d, words=self._words)
+        flat_most, table_most, *need = self._need("facets")
+        flat, table = np.empty(flat_most, np.uint32), np.empty(table_most, np.uint32)
+        count = self._call("facets", flat, table, *room(need))
         rows = table[:4 * count].reshape(count, 2, 2)
         return Facets(flat[:self.d * count].reshape(count, self.d), rows[:, :, 0], rows[:, :, 1])
 
@@ -117,7 +124,7 @@ class Complex:
         >>> pa.Complex([[0, 1, 2], [1, 2, 3]]).border().tolist()
         [[0, 1], [0, 2], [1, 3], [2, 3]]
         """
-        return self._listed("planner_border", np.empty(self.d * self._n, np.uint32), self.d, _room.plain(self.d, self._n))
+        return self._listed("border", self.d)
 
     def orientation(self) -> np.ndarray:
         """One sign a cell, 1 or -1: coherent, 1 at the lowest cell of each piece. Refused with 13 exactly where no coherent signs exist.
@@ -129,8 +136,7 @@ class Complex:
         Traceback (most recent call last):
         pampilussa.refused.Refused: refused 13: no coherent signs exist: some way round turns left into right, as on a Moebius band
         """
-        out = np.empty(self.ncells, np.int32)
-        return self._listed("planner_orientation", out, 1, _room.plain(self.d, self._n)).reshape(-1)
+        return self._listed("orientation", 1, np.int32).reshape(-1)
 
     def orientation_looks(self) -> Tuple[Optional[np.ndarray], int]:
         """The signs, or None where there are none, and how many facets the walk that finds them looks at.
@@ -139,14 +145,15 @@ class Complex:
         >>> pa.Grid([(3, "P"), (1, "O")]).complex().orientation_looks()[1]
         18
         """
-        out, looks = np.empty(self.ncells, np.int32), np.zeros(1, np.uint32)
+        most, *need = self._need("orientation")
+        signs, looks = np.empty(most, np.int32), np.zeros(1, np.uint32)
         try:
-            signs = self._listed("planner_orientation_looks", out, 1, _room.plain(self.d, self._n), looks)
+            count = self._call("orientation_looks", signs, *room(need), looks)
         except Refused as refused:
             if refused.number != 13:
                 raise
             return None, int(looks[0])
-        return signs.reshape(-1), int(looks[0])
+        return signs[:count], int(looks[0])
 
     def orient_by(self, signs: Any) -> bool:
         """Whether these signs, one for each row of cells, are coherent; in dimension 0 never.
@@ -157,8 +164,7 @@ class Complex:
         (True, False)
         """
         given = np.ascontiguousarray(signs, np.int32).reshape(-1)
-        need = room(_room.plain(self.d, self._n))
-        return call("planner_orient_by", self.d, self._words, given, *need, d=self.d, words=self._words, signs=given, cells=self.ncells) == 1
+        return self._call("orient_by", given, *room(self._need("orient_by")), signs=given, cells=self.ncells) == 1
 
     def ordering(self, order: Any) -> Order:
         """The words of an order by cell, and whether they agree on every facet of two cells. An order has one word for each cell, in any order.
@@ -169,9 +175,9 @@ class Complex:
         False
         """
         words = numbers(order, "order")
-        listed = np.empty(self._n, np.uint32)
-        need = room(_room.ordered(self.d, self._n))
-        said = call("planner_ordering", self.d, self._words, words, listed, *need, d=self.d, words=self._words, order=words)
+        most, *need = self._need("ordering")
+        listed = np.empty(most, np.uint32)
+        said = self._call("ordering", words, listed, *room(need), order=words)
         count = said & 0x7FFFFFFF
         return Order(listed[:count * (self.d + 1)].reshape(count, self.d + 1), said >> 31 == 1)
 
@@ -184,8 +190,21 @@ class Complex:
         (True, False)
         """
         words = numbers(order, "order")
-        need = room(_room.ordered(self.d, self._n))
-        return call("planner_induced_orientation", self.d, self._words, words, *need, d=self.d, words=self._words, order=words) == 1
+        return self._call("induced_orientation", words, *room(self._need("induced_orientation")), order=words) == 1
+
+    def drop_cells(self, gone: Any) -> "Tuple[Complex, np.ndarray]":
+        """The complex without these cells (rows of cells), its vertices numbered without gaps in their old order, and the old number of each.
+
+        >>> import pampilussa as pa
+        >>> left, old = pa.Complex([[0, 1, 2], [1, 2, 3]]).drop_cells([0])
+        >>> left.cells.tolist(), old.tolist()
+        ([[0, 1, 2]], [1, 2, 3])
+        """
+        named = numbers(gone, "the cells to be dropped")
+        most, *need = self._need("cells")
+        kept, old, vertices = np.empty(most, np.uint32), np.empty(most, np.uint32), np.zeros(1, np.uint32)
+        count = self._call("drop_cells", named, kept, old, *room(need), vertices, gone=named, cells=self.ncells)
+        return Complex(kept[:count * (self.d + 1)], self.d), old[:int(vertices[0])]
 
     def refine(self, r: int, order: Any = None) -> Refined:
         """Every cell cut into r**d children, along its sorted vertices or along an order's word for it.

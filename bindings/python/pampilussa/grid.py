@@ -3,10 +3,9 @@ from typing import Any, List, NamedTuple, Optional, Sequence, Tuple, Union
 
 import numpy as np
 
-from . import _room
-from ._library import call, numbers, room, whole
+from ._library import call, needed, numbers, room, whole
 from .complex import Complex
-from .refused import MOST_CELLS, MOST_DIMENSION
+from .refused import MOST_CELLS, MOST_DIMENSION, Refused
 
 OPEN = 0
 PERIODIC = 256
@@ -48,6 +47,15 @@ def gluing_text(code: int) -> str:
     if code < PERIODIC:
         return "O"
     return "P" if code < TWISTED else "T" + "".join(str(j) for j in range(8) if code >> j & 1)
+
+
+
+def _degrees(value: int) -> int:
+    """A whole number of 32 bits with its sign, or ValueError."""
+    number = int(value)
+    if number != value or not -2 ** 31 <= number < 2 ** 31:
+        raise ValueError("the latitude is %r; it must be a whole number of degrees" % (value,))
+    return number
 
 
 class Grid:
@@ -217,7 +225,9 @@ class Grid:
             return self._ask("planner_reduce", whole(points, "the point"), self._axes)
         given = np.asarray(points)
         flat = numbers(given, "points")
-        return np.array([self._ask("planner_reduce", int(v), self._axes) for v in flat], np.uint32).reshape(given.shape)
+        glued = np.empty(flat.size, np.uint32)
+        self._ask("planner_swath", self._axes, flat, glued)
+        return glued.reshape(given.shape)
 
     def crossing(self, point: int) -> Crossing:
         """The glued vertex of a grid point, with the axes on which it was wrapped and those that came out reversed.
@@ -230,12 +240,13 @@ class Grid:
         vertex = self._ask("planner_crossing", whole(point, "the point"), self._axes, sets)
         return Crossing(vertex, int(sets[0]), int(sets[1]))
 
-    def _corners(self) -> int:
-        """How many corners the words have, none where there are too many cells."""
-        cells = int(np.prod([float(k) for k in range(1, self.d + 1)])) if 1 <= self.d <= MOST_DIMENSION else 0
-        for count, _ in self.axes:
-            cells = min(cells * count, MOST_CELLS + 1)
-        return cells * (self.d + 1) if cells <= MOST_CELLS else 0
+    def _need(self, name: str) -> List[int]:
+        """How long the lists of that call must be; nothing is needed for a grid that the call refuses."""
+        try:
+            corners = self._ask("planner_grid_corners", self._axes)
+        except Refused:
+            corners = 0
+        return needed(name, self.d, corners)
 
     def words(self) -> np.ndarray:
         """The words of the grid's cells, d+1 glued vertices each, in the order of the sorted grid cells.
@@ -244,10 +255,68 @@ class Grid:
         >>> pa.Grid([(3, "P"), (1, "O")]).words().tolist()
         [[0, 1, 4], [0, 3, 4], [1, 2, 5], [1, 4, 5], [2, 0, 3], [2, 5, 3]]
         """
-        n = self._corners()
-        out = np.empty(n, np.uint32)
-        count = self._ask("planner_cell_words", self._axes, out, *room(_room.plain(self.d, n)))
+        most, *need = self._need("cell_words")
+        out = np.empty(most, np.uint32)
+        count = self._ask("planner_cell_words", self._axes, out, *room(need))
         return out[:count * (self.d + 1)].reshape(count, self.d + 1)
+
+    def _most(self) -> int:
+        """The corners of as many cells as are taken: room for every grid of honest gluing, whose classes may be fewer than the glued vertices."""
+        return MOST_CELLS * (self.d + 1)
+
+    def chained_classes(self) -> np.ndarray:
+        """Honest gluing: the class of each grid point, points in one class exactly where a chain of gluing steps joins them.
+
+        >>> import pampilussa as pa
+        >>> plane = pa.Grid([(4, "T1"), (4, "T0")])          # a projective plane: n * n + 1 classes
+        >>> int(plane.chained_classes().max()) + 1, plane.chained_nvertices, plane.nvertices
+        (17, 17, 16)
+        """
+        points = 1
+        for count, _ in self.axes:
+            points = min(points * (count + 1), 2 ** 24)
+        classes = np.empty(points, np.uint32)
+        self._ask("planner_chained_classes", self._axes, classes, *room([self._most()]))
+        return classes
+
+    @property
+    def chained_nvertices(self) -> int:
+        """Honest gluing: how many classes there are."""
+        return self._ask("planner_chained_nvertices", self._axes, *room([self._most()]))
+
+    def chained_reduce(self, point: int) -> int:
+        """Honest gluing: the class of a grid point; NO_VERTEX past the last point.
+
+        >>> import pampilussa as pa
+        >>> pa.Grid([(3, "P"), (1, "O")]).chained_reduce(7)
+        3
+        """
+        return self._ask("planner_chained_reduce", whole(point, "the point"), self._axes, *room([self._most()]))
+
+    def chained_words(self) -> np.ndarray:
+        """Honest gluing: the words of the grid's cells, d+1 classes each; a word that names a class twice is refused with 4.
+
+        >>> import pampilussa as pa
+        >>> pa.Grid([(3, "P"), (1, "O")]).chained_words().tolist() == pa.Grid([(3, "P"), (1, "O")]).words().tolist()
+        True
+        """
+        most, *need = needed("cell_words", self.d, self._most())
+        out = np.empty(most, np.uint32)
+        count = self._ask("planner_chained_cell_words", self._axes, out, *room(need))
+        return out[:count * (self.d + 1)].reshape(count, self.d + 1)
+
+    def geojson(self, south: int, north: int) -> str:
+        """The band between two latitudes in whole degrees as an RFC 7946 GeoJSON file; a feature's id is its cell's row in `complex().cells`. Refused with 18 unless
+        axis 0 is periodic and axis 1 open, and with 19 where south is not below north or either beyond 90.
+
+        >>> import json, pampilussa as pa
+        >>> [f["id"] for f in json.loads(pa.Grid([(3, "P"), (1, "O")]).geojson(0, 60))["features"]]
+        [1, 2, 3, 5, 0, 4]
+        """
+        most, *need = self._need("cell_words")
+        out = np.empty(43 + 276 * (most // (self.d + 1)), np.uint8)
+        count = self._ask("planner_geojson", _degrees(south), _degrees(north), self._axes, out, *room(need))
+        return out[:count].tobytes().decode("ascii")
 
     def complex(self) -> Complex:
         """The grid's cells."""
@@ -263,9 +332,9 @@ class Grid:
         >>> pa.Grid([(3, "T1"), (1, "O")]).triangulate_ordered()[1] is None
         True
         """
-        n = self._corners()
-        cells, order = np.empty(n, np.uint32), np.empty(n, np.uint32)
-        said = self._ask("planner_triangulate_ordered", self._axes, cells, order, *room(_room.ordered(self.d, n)))
+        most, most_order, *need = self._need("triangulate_ordered")
+        cells, order = np.empty(most, np.uint32), np.empty(most_order, np.uint32)
+        said = self._ask("planner_triangulate_ordered", self._axes, cells, order, *room(need))
         count, shape = said & 0x7FFFFFFF, (-1, self.d + 1)
         size = count * (self.d + 1)
         return cells[:size].reshape(shape), order[:size].reshape(shape) if said >> 31 else None
@@ -277,10 +346,24 @@ class Grid:
         >>> pa.Grid([(3, "P"), (1, "O")], sides=(3.0, 2.0)).edge_lengths_sq()[:3].tolist()
         [1.0, 1.0, 1.0]
         """
-        n = self._corners()
-        lengths = np.empty(self.d * n, np.float64)
-        count = self._ask("planner_edge_lengths_sq", self._axes, self._sides(), lengths, *room(_room.lengths(self.d, n)))
+        most, *need = self._need("edge_lengths_sq")
+        lengths = np.empty(most, np.float64)
+        count = self._ask("planner_edge_lengths_sq", self._axes, self._sides(), lengths, *room(need))
         return lengths[:count]
+
+    def geojson(self, south: int, north: int) -> bytes:
+        """The band as an RFC 7946 GeoJSON file, between two latitudes in whole degrees and once round the earth; axis 0 joined (P), axis 1 open (O).
+
+        One Polygon for each cell, none across 180 degrees; a feature's id is the cell's row in Complex.cells.
+        """
+        south, north = int(south), int(north)
+        if not -2 ** 31 <= south < 2 ** 31 or not -2 ** 31 <= north < 2 ** 31:
+            raise ValueError("a latitude is a whole number of degrees")
+        most, *need = self._need("cell_words")
+        cells = most // (self.d + 1)
+        out = np.empty(43 + 276 * cells, np.uint8)
+        size = call("planner_geojson", self.d, south, north, self._axes, out, *room(need), d=self.d, axes=self._axes, south=south, north=north)
+        return out[:size].tobytes()
 
     def edge_length_sq(self, one: int, other: int) -> Union[float, Clash, None]:
         """The squared length of the edge between two glued vertices, the two that clash first, or None where there is no such edge.

@@ -6,6 +6,7 @@ from typing import Any, Optional
 NAMES = {
     1: "BAD_DIMENSION", 2: "RAGGED_WORDS", 3: "TOO_MANY_CELLS", 4: "VERTEX_TWICE", 5: "UNUSED_NUMBER", 6: "TOO_MANY_VERTICES", 7: "CROWDED_FACET", 8: "SHORT_AXIS",
     9: "BAD_REFLECTION", 10: "BAD_SIDE", 11: "BAD_REFINEMENT", 12: "TOO_SHORT", 13: "NO_SIGNS", 14: "BAD_SIGNS", 15: "TWO_LENGTHS", 16: "BAD_ORDER",
+    18: "OTHER_GRID", 19: "BAD_LATITUDES", 20: "FILE_ENDS", 21: "UNKNOWN_KIND", 22: "BAD_FILE", 23: "NO_SUCH_CELL", 24: "BAD_FACES",
 }
 MOST_DIMENSION = 3
 MOST_CELLS = 4096
@@ -38,6 +39,8 @@ class Refused(ValueError):
 def sentence_of(number: int, place: int, about: Any) -> str:
     """What to mend, in one sentence; `about` has the grid, the words, R, the signs and the order, where the call had them."""
     speaker = SENTENCES.get(number)
+    if number < 12 and "file" in about:
+        return "the mesh in the file is refused with %s" % NAMES.get(number, "?")
     return speaker(place, about) if speaker else "no such number"
 
 
@@ -50,6 +53,8 @@ def dimension(place: int, about: Any) -> str:
 
 
 def ragged(place: int, about: Any) -> str:
+    if "gone" in about:
+        return "all cells would go; leave at least one"
     if len(about["words"]) == 0:
         return "there are no cells; give at least one word"
     return "the words have %d numbers, no multiple of %d; a cell of dimension %d has %d vertices" % (len(about["words"]), about["d"] + 1, about["d"], about["d"] + 1)
@@ -69,6 +74,8 @@ def too_many_cells(place: int, about: Any) -> str:
 
 def vertex_twice(place: int, about: Any) -> str:
     d = about["d"]
+    if "words" not in about:
+        return "word %d of the glued grid names a class twice" % place
     word = [int(v) for v in about["words"][place * (d + 1):(place + 1) * (d + 1)]]
     twice = next((v for v in word if word.count(v) > 1), word[0])
     return "word %d is %s, which names vertex %d twice; a cell needs %d different vertices" % (place, tuple(word), twice, d + 1)
@@ -152,7 +159,38 @@ def bad_order(place: int, about: Any) -> str:
     return "the order's words are not one for each cell and no more: each cell needs exactly one word, its own vertices in some sequence"
 
 
+def other_grid(place: int, about: Any) -> str:
+    return "a band on the map needs two axes, axis 0 joined (P) and axis 1 open (O)"
+
+
+def bad_latitudes(place: int, about: Any) -> str:
+    return "the latitudes are %s and %s; south must lie below north, both from -90 to 90" % (about.get("south"), about.get("north"))
+
+
+def file_ends(place: int, about: Any) -> str:
+    return "the file ends inside a record, or before the record that ends it; it was cut, or not carried over whole"
+
+
+def unknown_kind(place: int, about: Any) -> str:
+    return "the file has a record of an unknown kind; it was written by a newer version, or is no mesh file"
+
+
+def bad_file(place: int, about: Any) -> str:
+    if "file" in about:
+        return "the file has a wrong length, order, count, field or birth, or bytes after its end"
+    return "the lists are no mesh file: cells must stand in colex order, births on the last vertices with two or more vertices rising below the first birth and weights that add up to r, 2 to 64"
+
+
+def no_such_cell(place: int, about: Any) -> str:
+    return "a cell to be dropped is not there; there are %s" % about.get("cells", "fewer")
+
+
+def bad_faces(place: int, about: Any) -> str:
+    return "faces of dimension %s are asked for; it must be from 1 to %d" % (about.get("k"), about.get("d", MOST_DIMENSION))
+
+
 SENTENCES = {
     1: dimension, 2: ragged, 3: too_many_cells, 4: vertex_twice, 5: unused, 6: too_many_vertices, 7: crowded, 8: short_axis, 9: bad_reflection, 10: bad_side,
     11: bad_refinement, 12: too_short, 13: no_signs, 14: bad_signs, 15: two_lengths, 16: bad_order,
+    18: other_grid, 19: bad_latitudes, 20: file_ends, 21: unknown_kind, 22: bad_file, 23: no_such_cell, 24: bad_faces,
 }

@@ -19,7 +19,10 @@
 #![warn(missing_docs)]
 
 mod answer;
+mod chained;
 mod complex;
+mod dropped;
+mod geojson;
 mod grid;
 mod mesh_file;
 mod orientation;
@@ -30,7 +33,9 @@ mod seam;
 mod swath;
 
 pub use answer::Refusal;
+pub use chained::ClassVertex;
 pub use complex::{border, cells, edges, facets, induced_orientation, ordering, orient_by, orientation, Facet, Ordered, Side};
+pub use dropped::{drop_cells, Kept};
 pub use orientation::{orientation_looks, Coherence};
 pub use grid::{Axis, EdgeLength, Gluing, GluedVertex, Grid, GridVertex, Triangulated};
 pub use mesh_file::{read_mesh, write_mesh, BornVertex, Mesh};

@@ -46,11 +46,11 @@ use Rattle.planner_needs.proofs.Laws.{worked-taken}
 use Rattle.planner_needs.proofs.Sizes.{cells-most, corners-most, cells-fit, edges-fit, facets-fit, table-fits, border-fits}
 
 -- ---- the check of a word list never says 12
-passes-over : (t : Bool) (number place : ℕ) (rest : Answer) → (number ≡ tooShort → ⊥) → ((p : ℕ) → rest ≡ Answer.Refused tooShort p → ⊥) → (p : ℕ) → refuse t number place rest ≡ Answer.Refused tooShort p → ⊥
+pub passes-over : (t : Bool) (number place : ℕ) (rest : Answer) → (number ≡ tooShort → ⊥) → ((p : ℕ) → rest ≡ Answer.Refused tooShort p → ⊥) → (p : ℕ) → refuse t number place rest ≡ Answer.Refused tooShort p → ⊥
 passes-over true number place rest other never p e = other (refused-number number place tooShort p e)
 passes-over false number place rest other never p e = never p e
 
-fine-never : (p : ℕ) → Answer.Fine ≡ Answer.Refused tooShort p → ⊥
+pub fine-never : (p : ℕ) → Answer.Fine ≡ Answer.Refused tooShort p → ⊥
 fine-never p e = let z : _≡_ {A = ℕ} 0 1 = cc in omega arith
 
 pub check-never : (d : ℕ) (ws : List ℕ) (p : ℕ) → answerOf d ws ≡ Answer.Refused tooShort p → ⊥
@@ -66,17 +66,11 @@ check-never d ws =
     fine-never))))))
 
 -- ---- a call: the check, the room and the end never say 12
-module _ {S H : Type 0} (no : ℕ → ℕ → S) (number : S → ℕ) (refusal : (n p : ℕ) → number (no n p) ≡ n) (nothing : H) (d : ℕ) (ws : List ℕ) (need have : Room) (Ends : S → H → Type 0) where
-  pub never :
-      (Passed d ws → Roomy need have)
-      → (Passed d ws → (r : S) (h : H) → Ends r h → number r ≡ tooShort → ⊥)
-      → {r : S} {h : H} {u : Room}
-      → Comes no nothing (answerOf d ws) need have Ends r h u
-      → number r ≡ tooShort
-      → ⊥
-  never roomy ends (refused {n = n} {p = p} e) t = check-never d ws p (e ∙ ap (λ (z : ℕ). Answer.Refused z p) (sym (refusal n p) ∙ t))
-  never roomy ends (cramped e less) t = less (roomy (fine-passed d ws e))
-  never roomy ends (ended {r = r} {h = h} e fits end) t = ends (fine-passed d ws e) r h end t
+module _ {S H : Type 0} (no : ℕ → ℕ → S) (number : S → ℕ) (refusal : (n p : ℕ) → number (no n p) ≡ n) (nothing : H) (checked : Answer) (over : (p : ℕ) → checked ≡ Answer.Refused tooShort p → ⊥) (P : Type 0) (fine : checked ≡ Answer.Fine → P) (need have : Room) (Ends : S → H → Type 0) where
+  pub never : (P → Roomy need have) → (P → (r : S) (h : H) → Ends r h → number r ≡ tooShort → ⊥) → {r : S} {h : H} {u : Room} → Comes no nothing checked need have Ends r h u → number r ≡ tooShort → ⊥
+  never roomy ends (refused {n = n} {p = p} e) t = over p (e ∙ ap (λ (z : ℕ). Answer.Refused z p) (sym (refusal n p) ∙ t))
+  never roomy ends (cramped e less) t = less (roomy (fine e))
+  never roomy ends (ended {r = r} {h = h} e fits end) t = ends (fine e) r h end t
 
 -- ---- a checked list is worked on whole
 all-worked : (d : ℕ) (ws : List ℕ) → Passed d ws → worked d (length ws) ≡ length ws
@@ -86,7 +80,7 @@ key-least : (d n : ℕ) → d * n ≤ keyRoom d n
 key-least zero n = omega arith
 key-least (suc d) n = omega arith
 
-roomy-of : (need : Room) (a b c e : ℕ) → Long (lists need) (a ∷ b ∷ c ∷ e ∷ []) → Roomy need (record { keys = a; rows = b; spare = c; counts = e })
+pub roomy-of : (need : Room) (a b c e : ℕ) → Long (lists need) (a ∷ b ∷ c ∷ e ∷ []) → Roomy need (record { keys = a; rows = b; spare = c; counts = e })
 roomy-of need a b c e l = record { in-keys = l .0; in-rows = l .1 .0; in-spare = l .1 .1 .0; in-counts = l .1 .1 .1 .0 }
 
 -- ---- how the calls end
@@ -134,56 +128,56 @@ told d ws need have l p = subst (λ (n : ℕ). Long (need n) have) (all-worked d
 module _ (d : ℕ) (ws keys rows spare counts : List ℕ) {keys′ rows′ spare′ counts′ : List ℕ} where
   pub cells-enough : {out out′ : List ℕ} {r : Counted} → skeleton.Listed (needOf d (length ws)) (cellsOf d ws) d ws r out out′ keys keys′ rows rows′ spare spare′ counts counts′ → Long (cellsNeed d (worked d (length ws))) (length out ∷ length keys ∷ length rows ∷ length spare ∷ length counts ∷ []) → countedNumber r ≡ tooShort → ⊥
   cells-enough {out = out} a l t =
-      never Counted.Refused countedNumber (λ n p. refl) [] d ws (needOf d (length ws)) (lengths keys rows spare counts) (skeleton.Ends [] d (cellsOf d ws) (skeleton.Gives (cellsOf d ws) (length out)))
+      never Counted.Refused countedNumber (λ n p. refl) [] (answerOf d ws) (check-never d ws) (Passed d ws) (fine-passed d ws) (needOf d (length ws)) (lengths keys rows spare counts) (skeleton.Ends [] d (cellsOf d ws) (skeleton.Gives (cellsOf d ws) (length out)))
       (λ p. let k = told d ws (cellsNeed d) (length out ∷ length keys ∷ length rows ∷ length spare ∷ length counts ∷ []) l p in roomy-of (needOf d (length ws)) _ _ _ _ (k .1))
       (λ p. let k = told d ws (cellsNeed d) (length out ∷ length keys ∷ length rows ∷ length spare ∷ length counts ∷ []) l p in listed-end d (cellsOf d ws) (cellsOf d ws) (length out) (omega (arith, k .0, cells-fit d ws p)))
       (a .call .comes) t
 
   pub edges-enough : {out out′ : List ℕ} {r : Counted} → skeleton.Listed (edgeNeed d (length ws)) (edgesOf (cellsOf d ws)) d ws r out out′ keys keys′ rows rows′ spare spare′ counts counts′ → Long (edgesNeed d (worked d (length ws))) (length out ∷ length keys ∷ length rows ∷ length spare ∷ length counts ∷ []) → countedNumber r ≡ tooShort → ⊥
   edges-enough {out = out} a l t =
-      never Counted.Refused countedNumber (λ n p. refl) [] d ws (edgeNeed d (length ws)) (lengths keys rows spare counts) (skeleton.Ends [] d (cellsOf d ws) (skeleton.Gives (edgesOf (cellsOf d ws)) (length out)))
+      never Counted.Refused countedNumber (λ n p. refl) [] (answerOf d ws) (check-never d ws) (Passed d ws) (fine-passed d ws) (edgeNeed d (length ws)) (lengths keys rows spare counts) (skeleton.Ends [] d (cellsOf d ws) (skeleton.Gives (edgesOf (cellsOf d ws)) (length out)))
       (λ p. let k = told d ws (edgesNeed d) (length out ∷ length keys ∷ length rows ∷ length spare ∷ length counts ∷ []) l p in roomy-of (edgeNeed d (length ws)) _ _ _ _ (k .1))
       (λ p. let k = told d ws (edgesNeed d) (length out ∷ length keys ∷ length rows ∷ length spare ∷ length counts ∷ []) l p in listed-end d (cellsOf d ws) (edgesOf (cellsOf d ws)) (length out) (omega (arith, k .0, edges-fit d ws p, key-least d (length ws))))
       (a .call .comes) t
 
   pub border-enough : {out out′ : List ℕ} {r : Counted} → skeleton.Listed (needOf d (length ws)) (borderOf d (cellsOf d ws)) d ws r out out′ keys keys′ rows rows′ spare spare′ counts counts′ → Long (borderNeed d (worked d (length ws))) (length out ∷ length keys ∷ length rows ∷ length spare ∷ length counts ∷ []) → countedNumber r ≡ tooShort → ⊥
   border-enough {out = out} a l t =
-      never Counted.Refused countedNumber (λ n p. refl) [] d ws (needOf d (length ws)) (lengths keys rows spare counts) (skeleton.Ends [] d (cellsOf d ws) (skeleton.Gives (borderOf d (cellsOf d ws)) (length out)))
+      never Counted.Refused countedNumber (λ n p. refl) [] (answerOf d ws) (check-never d ws) (Passed d ws) (fine-passed d ws) (needOf d (length ws)) (lengths keys rows spare counts) (skeleton.Ends [] d (cellsOf d ws) (skeleton.Gives (borderOf d (cellsOf d ws)) (length out)))
       (λ p. let k = told d ws (borderNeed d) (length out ∷ length keys ∷ length rows ∷ length spare ∷ length counts ∷ []) l p in roomy-of (needOf d (length ws)) _ _ _ _ (k .1))
       (λ p. let k = told d ws (borderNeed d) (length out ∷ length keys ∷ length rows ∷ length spare ∷ length counts ∷ []) l p in listed-end d (cellsOf d ws) (borderOf d (cellsOf d ws)) (length out) (omega (arith, k .0, border-fits d ws p)))
       (a .call .comes) t
 
   pub facets-enough : {out out′ : List ℕ} {table table′ : List ℕ} {r : Counted} → skeleton.FacetsListed d ws r out out′ table table′ keys keys′ rows rows′ spare spare′ counts counts′ → Long (facetsNeed d (worked d (length ws))) (length out ∷ length table ∷ length keys ∷ length rows ∷ length spare ∷ length counts ∷ []) → countedNumber r ≡ tooShort → ⊥
   facets-enough {out = out} {table = table} a l t =
-      never Counted.Refused countedNumber (λ n p. refl) ([], []) d ws (needOf d (length ws)) (lengths keys rows spare counts) (skeleton.Ends ([], []) d (cellsOf d ws) (skeleton.GivesBoth (facetsOf d (cellsOf d ws)) (tableOf d (cellsOf d ws)) (length out) (length table)))
+      never Counted.Refused countedNumber (λ n p. refl) ([], []) (answerOf d ws) (check-never d ws) (Passed d ws) (fine-passed d ws) (needOf d (length ws)) (lengths keys rows spare counts) (skeleton.Ends ([], []) d (cellsOf d ws) (skeleton.GivesBoth (facetsOf d (cellsOf d ws)) (tableOf d (cellsOf d ws)) (length out) (length table)))
       (λ p. let k = told d ws (facetsNeed d) (length out ∷ length table ∷ length keys ∷ length rows ∷ length spare ∷ length counts ∷ []) l p in roomy-of (needOf d (length ws)) _ _ _ _ (k .1 .1))
       (λ p. let k = told d ws (facetsNeed d) (length out ∷ length table ∷ length keys ∷ length rows ∷ length spare ∷ length counts ∷ []) l p in both-end d (cellsOf d ws) (facetsOf d (cellsOf d ws)) (tableOf d (cellsOf d ws)) (length out) (length table) (omega (arith, k .0, facets-fit d ws p)) (omega (arith, k .1 .0, table-fits d ws p)))
       (a .call .comes) t
 
   pub orientation-enough : {signs signs′ : List ℤ} {r : Coherence} → orientation.Orientation d ws r signs signs′ keys keys′ rows rows′ spare spare′ counts counts′ → Long (signsNeed d (worked d (length ws))) (length signs ∷ length keys ∷ length rows ∷ length spare ∷ length counts ∷ []) → coherenceNumber r ≡ tooShort → ⊥
   orientation-enough {signs = signs} a l t =
-      never Coherence.Refused coherenceNumber (λ n p. refl) [] d ws (needOf d (length ws)) (lengths keys rows spare counts) (orientation.Ends d (cellsOf d ws) (length signs))
+      never Coherence.Refused coherenceNumber (λ n p. refl) [] (answerOf d ws) (check-never d ws) (Passed d ws) (fine-passed d ws) (needOf d (length ws)) (lengths keys rows spare counts) (orientation.Ends d (cellsOf d ws) (length signs))
       (λ p. let k = told d ws (signsNeed d) (length signs ∷ length keys ∷ length rows ∷ length spare ∷ length counts ∷ []) l p in roomy-of (needOf d (length ws)) _ _ _ _ (k .1))
       (λ p. let k = told d ws (signsNeed d) (length signs ∷ length keys ∷ length rows ∷ length spare ∷ length counts ∷ []) l p in signs-end d (cellsOf d ws) (length signs) (omega (arith, k .0, cells-most d ws p)))
       (a .comes) t
 
   pub orient-by-enough : (signs : List ℤ) {r : Verdict} → orientation-by.OrientBy d ws signs r keys keys′ rows rows′ spare spare′ counts counts′ → Long (plainNeed d (worked d (length ws))) (length keys ∷ length rows ∷ length spare ∷ length counts ∷ []) → verdictNumber r ≡ tooShort → ⊥
   orient-by-enough signs a l t =
-      never Verdict.Refused verdictNumber (λ n p. refl) tt d ws (needOf d (length ws)) (lengths keys rows spare counts) (orientation-by.Ends d (cellsOf d ws) signs)
+      never Verdict.Refused verdictNumber (λ n p. refl) tt (answerOf d ws) (check-never d ws) (Passed d ws) (fine-passed d ws) (needOf d (length ws)) (lengths keys rows spare counts) (orientation-by.Ends d (cellsOf d ws) signs)
       (λ p. let k = told d ws (plainNeed d) (length keys ∷ length rows ∷ length spare ∷ length counts ∷ []) l p in roomy-of (needOf d (length ws)) _ _ _ _ (k))
       (λ p. let k = told d ws (plainNeed d) (length keys ∷ length rows ∷ length spare ∷ length counts ∷ []) l p in by-end d (cellsOf d ws) signs)
       (a .comes) t
 
   pub ordering-enough : (order : List ℕ) {out out′ : List ℕ} {r : Ordered} → ordering.Ordering d ws order r out out′ keys keys′ rows rows′ spare spare′ counts counts′ → Long (orderedNeed d (worked d (length ws))) (length out ∷ length keys ∷ length rows ∷ length spare ∷ length counts ∷ []) → orderedNumber r ≡ tooShort → ⊥
   ordering-enough order {out = out} a l t =
-      never Ordered.Refused orderedNumber (λ n p. refl) [] d ws (ordering.orderNeed d (length ws)) (lengths keys rows spare counts) (ordering.Ends d (cellsOf d ws) order (length out))
+      never Ordered.Refused orderedNumber (λ n p. refl) [] (answerOf d ws) (check-never d ws) (Passed d ws) (fine-passed d ws) (ordering.orderNeed d (length ws)) (lengths keys rows spare counts) (ordering.Ends d (cellsOf d ws) order (length out))
       (λ p. let k = told d ws (orderedNeed d) (length out ∷ length keys ∷ length rows ∷ length spare ∷ length counts ∷ []) l p in roomy-of (ordering.orderNeed d (length ws)) _ _ _ _ (k .1))
       (λ p. let k = told d ws (orderedNeed d) (length out ∷ length keys ∷ length rows ∷ length spare ∷ length counts ∷ []) l p in ordered-end d (cellsOf d ws) order (length out) (omega (arith, k .0, corners-most d ws p)))
       (a .comes) t
 
   pub induced-enough : (order : List ℕ) {r : Verdict} → ordering.Induced d ws order r keys keys′ rows rows′ spare spare′ counts counts′ → Long (turnsNeed d (worked d (length ws))) (length keys ∷ length rows ∷ length spare ∷ length counts ∷ []) → verdictNumber r ≡ tooShort → ⊥
   induced-enough order a l t =
-      never Verdict.Refused verdictNumber (λ n p. refl) tt d ws (ordering.orderNeed d (length ws)) (lengths keys rows spare counts) (ordering.Wound d (cellsOf d ws) order)
+      never Verdict.Refused verdictNumber (λ n p. refl) tt (answerOf d ws) (check-never d ws) (Passed d ws) (fine-passed d ws) (ordering.orderNeed d (length ws)) (lengths keys rows spare counts) (ordering.Wound d (cellsOf d ws) order)
       (λ p. let k = told d ws (turnsNeed d) (length keys ∷ length rows ∷ length spare ∷ length counts ∷ []) l p in roomy-of (ordering.orderNeed d (length ws)) _ _ _ _ (k))
       (λ p. let k = told d ws (turnsNeed d) (length keys ∷ length rows ∷ length spare ∷ length counts ∷ []) l p in wound-end d (cellsOf d ws) order)
       (a .comes) t

@@ -9,8 +9,17 @@ use native.Mathlib.Omega.{arith}
 use lib.Dec.{ltb}
 use borrow.Author.Tests.{lt-ltb, le-ltb}
 use Rattle.refusal.specs.Limits.{mostCells, mostDimension}
+use Rattle.refusal.specs.declared.Answer.{Answer}
+use Rattle.refusal.specs.declared.Answer.the-variants as Answer
+use Rattle.refusal.specs.declared.Counted.{Counted}
+use Rattle.refusal.specs.declared.Counted.the-variants as Counted
 use Rattle.complex.specs.Room.{keyRoom}
-use Rattle.planner_needs.specs.Needs.{worked, Worked, cellsNeed, edgesNeed, facetsNeed, borderNeed, signsNeed, plainNeed, orderedNeed, turnsNeed}
+use Rattle.quotient.specs.declared.Grid.{Grid}
+use Rattle.quotient.specs.Shape.{checkOf, countedAfter, cellCount}
+use Rattle.quotient.proofs.Taken.{taken-cells, taken-high}
+use Rattle.grid_mesh.specs.Words.{cornersOf}
+use Rattle.planner_passing.specs.Said.{countedCode}
+use Rattle.planner_needs.specs.Needs.{worked, Worked, cellsNeed, edgesNeed, facetsNeed, borderNeed, signsNeed, plainNeed, orderedNeed, turnsNeed, triangulatedNeed, lengthsNeed, cornersSaid}
 
 -- ---- the corners that a call can come to work on
 pub worked-high : (d n : ℕ) → mostDimension < d → worked d n ≡ 0
@@ -73,3 +82,21 @@ ordering-made d n m k w e = ap (λ (k : ℕ). m ∷ (k + m + m) ∷ m ∷ m ∷ 
 
 pub induced-orientation-made : (d n m k : ℕ) → Worked d n m → k ≡ keyRoom d m → _≡_ {A = List ℕ} ((k + m + m) ∷ m ∷ m ∷ m ∷ []) (turnsNeed d (worked d n))
 induced-orientation-made d n m k w e = ap (λ (k : ℕ). (k + m + m) ∷ m ∷ m ∷ m ∷ []) e ∙ ap (turnsNeed d) (w .is)
+
+pub triangulated-made : (d n m k : ℕ) → Worked d n m → k ≡ keyRoom d m → _≡_ {A = List ℕ} (m ∷ m ∷ (k + m + m) ∷ m ∷ m ∷ m ∷ []) (triangulatedNeed d (worked d n))
+triangulated-made d n m k w e = ap (λ (k : ℕ). m ∷ m ∷ (k + m + m) ∷ m ∷ m ∷ m ∷ []) e ∙ ap (triangulatedNeed d) (w .is)
+
+pub lengths-made : (d n m : ℕ) → Worked d n m → _≡_ {A = List ℕ} (d * m ∷ d * m ∷ d * m ∷ d * m ∷ d * m ∷ []) (lengthsNeed d (worked d n))
+lengths-made d n m w = ap (lengthsNeed d) (w .is)
+
+-- ---- the corners of a grid's words
+pub corners-refused : (g : Grid) (a : Answer) (n p : ℕ) → a ≡ checkOf g → a ≡ Answer.Refused n p → Counted.Refused n p ≡ cornersSaid g
+unfolding cornersSaid
+corners-refused g a n p e f = ap (λ (x : Answer). countedAfter x (Counted.Count (cornersOf g))) (sym f ∙ e)
+
+pub corners-counted : (g : Grid) (a : Answer) (c : ℕ) → a ≡ checkOf g → a ≡ Answer.Fine → c ≡ cellCount g → Counted.Count (c * (g .d + 1)) ≡ cornersSaid g
+unfolding cornersSaid
+corners-counted g a c e f h = ap (λ (x : ℕ). Counted.Count (x * (g .d + 1))) h ∙ ap (λ (x : ℕ). Counted.Count (cellCount g * x)) (add-one (g .d)) ∙ ap (λ (x : Answer). countedAfter x (Counted.Count (cornersOf g))) (sym f ∙ e)
+
+pub corners-low : (g : Grid) → checkOf g ≡ Answer.Fine → (c : ℕ) → c ≡ cellCount g → (g .d ≤ mostDimension) × (c ≤ mostCells) × (c * (g .d + 1) ≤ mostCells * suc mostDimension)
+corners-low g fine c h = (taken-high g fine, omega (arith, taken-cells g fine), le-trans (mul-le-mul-right (g .d + 1) (let x : c ≤ mostCells = omega (arith, taken-cells g fine) in x)) (mul-le-mul-left mostCells (let y : g .d + 1 ≤ suc mostDimension = omega (arith, taken-high g fine) in y)))

@@ -7,6 +7,8 @@ use Rattle.refusal.specs.declared.Verdict.{Verdict}
 use Rattle.refusal.specs.declared.Verdict.the-variants as Verdict
 use Rattle.orientation.specs.declared.Coherence.{Coherence}
 use Rattle.orientation.specs.declared.Coherence.the-variants as Coherence
+use Rattle.grid_order.specs.declared.Triangulated.{Triangulated}
+use Rattle.grid_order.specs.declared.Triangulated.the-variants as Triangulated
 use Rattle.ordering.specs.declared.Ordered.{Ordered}
 use Rattle.ordering.specs.declared.Ordered.the-variants as Ordered
 
@@ -34,3 +36,8 @@ abbrev pub orderedNumber : Ordered → ℕ
 orderedNumber (Ordered.Agree n) = 0
 orderedNumber (Ordered.Differ n) = 0
 orderedNumber (Ordered.Refused number place) = number
+
+abbrev pub triangulatedNumber : Triangulated → ℕ
+triangulatedNumber (Triangulated.Ordered n) = 0
+triangulatedNumber (Triangulated.Unordered n) = 0
+triangulatedNumber (Triangulated.Refused number place) = number

@@ -7,6 +7,11 @@ use lib.Dec.{ltb}
 use Rattle.refusal.specs.declared.Room.{Room}
 use Rattle.refusal.specs.Limits.{mostCells, mostDimension}
 use Rattle.complex.specs.Room.{keyRoom, needOf}
+use Rattle.refusal.specs.declared.Counted.{Counted}
+use Rattle.refusal.specs.declared.Counted.the-variants as Counted
+use Rattle.quotient.specs.declared.Grid.{Grid}
+use Rattle.quotient.specs.Shape.{checkOf, countedAfter}
+use Rattle.grid_mesh.specs.Words.{cornersOf}
 use Rattle.skeleton.specs.Parts.{edgeNeed}
 use Rattle.ordering.specs.Promise.{orderNeed}
 
@@ -55,3 +60,15 @@ orderedNeed d n = n ∷ lists (orderNeed d n)
 -- the signs of an order's words: no result list
 abbrev pub turnsNeed : ℕ → ℕ → List ℕ
 turnsNeed d n = lists (orderNeed d n)
+
+-- a grid's cells, and an order of them
+abbrev pub triangulatedNeed : ℕ → ℕ → List ℕ
+triangulatedNeed d n = n ∷ n ∷ lists (orderNeed d n)
+
+-- the lengths of a grid's edges: two ends for each edge of each cell
+abbrev pub lengthsNeed : ℕ → ℕ → List ℕ
+lengthsNeed d n = d * n ∷ d * n ∷ d * n ∷ d * n ∷ d * n ∷ []
+
+-- how many corners the words of a grid have, or its refusal
+unfoldable pub cornersSaid : Grid → Counted
+cornersSaid g = countedAfter (checkOf g) (Counted.Count (cornersOf g))
