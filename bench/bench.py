@@ -36,9 +36,9 @@ REFINED = [("1-D, 2,047 edges, R 2", words_of(2047, O), 2, words_of(511, O), 2),
            ("2-D torus 32 x 16, R 2", words_of(32, P, 16, P), 2, words_of(16, P, 8, P), 2), ("one triangle, R 64", listed(2, [(0, 1, 2)]), 64, listed(2, [(0, 1, 2)]), 32),
            ("3-D torus 3 x 4 x 7, R 2", words_of(3, P, 4, P, 7, P), 2, words_of(3, P, 7, P, 1, O), 2), ("one tetrahedron, R 16", listed(3, [(0, 1, 2, 3)]), 16, listed(3, [(0, 1, 2, 3)]), 10)]
 GRID_CALLS = ["reduce", "crossing", "nvertices", "is_orientation_preserving", "cell_words", "triangulate_ordered", "edge_lengths_sq", "edge_length_sq"]
-LIST_CALLS = ["cells", "edges", "facets", "border", "orientation", "orientation_looks", "orient_by", "ordering", "induced_orientation", "drop_cells"]
+LIST_CALLS = ["cells", "edges", "facets", "border", "orientation", "orientation_looks", "orient_by", "ordering", "induced_orientation", "drop_cells", "incidence", "faces", "boundary", "matrix_market"]
 REFINE_CALLS = ["refine", "refine_with"]
-NOT_IN_RUST = {"crossing", "edge_length_sq", "orientation_looks", "drop_cells"}
+NOT_IN_RUST = {"crossing", "edge_length_sq", "orientation_looks", "drop_cells", "incidence", "faces", "boundary", "matrix_market"}
 CONSTANT = {"nvertices", "is_orientation_preserving"}          # made a thousand times in one run: they do not grow
 
 

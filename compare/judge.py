@@ -33,7 +33,7 @@ class Want:
         self.early, self.need, self.late, self.value, self.results, self.tells = early, need, late, value, list(results), tells
 
 
-PATTERN = {"u32": 0xA5A5A500, "i32": -0x5A5A5B00, "f64": 0x7FF8DEADBEEF0000}     # none of these is a result
+PATTERN = {"u8": 0x81, "u32": 0xA5A5A500, "i32": -0x5A5A5B00, "f64": 0x7FF8DEADBEEF0000}     # none of these is a result: a file's bytes are below 128
 
 
 FILLED = {}
@@ -42,7 +42,7 @@ FILLED = {}
 def filled(kind, n):
     kept = FILLED.setdefault(kind, [])
     if len(kept) < n:
-        kept += [PATTERN[kind] + i % 251 for i in range(len(kept), n)]
+        kept += [PATTERN[kind] + i % 101 for i in range(len(kept), n)]
     return kept[:n]
 
 

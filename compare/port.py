@@ -8,7 +8,7 @@ PAGE = 4096
 _libc = C.CDLL(None)
 _libc.mprotect.argtypes = [C.c_void_p, C.c_size_t, C.c_int]
 
-CODES = {"u32": ("I", 4), "i32": ("i", 4), "f64": ("Q", 8)}   # a float is handled as its bit pattern
+CODES = {"u8": ("B", 1), "u32": ("I", 4), "i32": ("i", 4), "f64": ("Q", 8)}   # a float is handled as its bit pattern
 
 
 class Fence:

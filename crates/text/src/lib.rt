@@ -14,7 +14,7 @@ pub struct Text {
 }
 
 // 10 to the power k.
-fn power(k: u32) -> u32
+pub fn power(k: u32) -> u32
     requires { ⌜ k < 10 ⌝ }
     ensures { λ r. ⌜ r ≡ 10 ^ k ⌝ }
 {
@@ -28,7 +28,7 @@ fn power(k: u32) -> u32
 }
 
 // The power of ten at which the digits of n begin.
-fn top(n: u32) -> u32
+pub fn top(n: u32) -> u32
     ensures bound { λ r. ⌜ r < 10 ⌝ }
     ensures begins { λ r. ⌜ digitsDown r n ≡ decimal n ⌝ }
 {

@@ -1,0 +1,3 @@
+-- What the contracts of `file_writing` cite.
+pub mod Wrote
+pub mod Six
