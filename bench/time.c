@@ -15,6 +15,7 @@ static int32_t signs[MOST], wholes[MOST];
 static double sides[4], floats[MOST], shares[MOST];
 static uint8_t bytes[8 * MOST];
 static uint32_t out[MOST], more[MOST], parents[MOST], vertices[MOST], weights[MOST], room[10][MOST];
+static uint8_t bytes[4 * MOST];
 static size_t naxes, nsides, nwords, norder, nsigns;
 static uint32_t d, r;
 
@@ -44,12 +45,24 @@ __attribute__((noinline)) static uint64_t once(const char *call) {
         for (uint32_t v = 0; v < points; v++) sum += planner_crossing(d, v, AXES, sets) + sets[1];
         return sum >> 32;
     }
+    if (!strcmp(call, "swath")) {
+        size_t points = 1;
+        for (uint32_t a = 0; a < d; a++) points *= axes[2 * a] + 1;
+        if (more[points - 1] != points - 1)
+            for (uint32_t v = 0; v < points; v++) more[v] = v;
+        return planner_swath(d, AXES, more, points, OUT);
+    }
     if (!strcmp(call, "nvertices")) return planner_nvertices(d, AXES);
     if (!strcmp(call, "is_orientation_preserving")) return planner_is_orientation_preserving(d, AXES);
     if (!strcmp(call, "cell_words")) return planner_cell_words(d, AXES, OUT, ROOM);
+    if (!strcmp(call, "chained_nvertices")) return planner_chained_nvertices(d, AXES, room[0], MOST);
+    if (!strcmp(call, "chained_classes")) return planner_chained_classes(d, AXES, OUT, room[0], MOST);
+    if (!strcmp(call, "chained_closed_classes")) return planner_chained_closed_classes(d, AXES, OUT, room[0], MOST);
+    if (!strcmp(call, "chained_cell_words")) return planner_chained_cell_words(d, AXES, OUT, ROOM);
     if (!strcmp(call, "triangulate_ordered")) return planner_triangulate_ordered(d, AXES, OUT, more, MOST, ROOM);
     if (!strcmp(call, "edge_lengths_sq")) return planner_edge_lengths_sq(d, AXES, sides, nsides, floats, MOST, ROOM);
     if (!strcmp(call, "edge_length_sq")) return planner_edge_length_sq(d, 0, 1, AXES, sides, nsides, squares);
+    if (!strcmp(call, "geojson")) return planner_geojson(d, -90, 90, AXES, bytes, sizeof bytes, ROOM);
     if (!strcmp(call, "cells")) return planner_cells(d, WORDS, OUT, ROOM);
     if (!strcmp(call, "edges")) return planner_edges(d, WORDS, OUT, ROOM);
     if (!strcmp(call, "facets")) return planner_facets(d, WORDS, OUT, more, MOST, ROOM);
@@ -65,6 +78,9 @@ __attribute__((noinline)) static uint64_t once(const char *call) {
     if (!strcmp(call, "matrix_market")) return planner_matrix_market(d, d, WORDS, bytes, sizeof bytes, ROOM);
     if (!strcmp(call, "drop_cells")) return planner_drop_cells(d, WORDS, second, nwords / (d + 1) / 2, OUT, more, MOST, ROOM, &total);
     if (!strcmp(call, "refine")) return planner_refine(d, r, WORDS, REFINED);
+    if (!strcmp(call, "refine_by_steps")) return planner_refine_by_steps(d, r, WORDS, REFINED);
+    if (!strcmp(call, "corners")) return planner_corners(d, r, OUT);
+    if (!strcmp(call, "corners_stepping")) return planner_corners_stepping(d, r, OUT);
     if (!strcmp(call, "refine_with")) return planner_refine_with(d, r, WORDS, order, norder, REFINED);
     fprintf(stderr, "unknown call %s\n", call);
     exit(1);

@@ -9,7 +9,7 @@
 /// ```
 #[derive(Clone, Copy, Debug, PartialEq, Eq, Hash)]
 pub struct Refusal {
-    /// 1 to 16.
+    /// As document 01's table and the requests after it number them.
     pub number: u32,
     /// The first word, the least number or the least axis that is refused; 0 where there is no place.
     pub place: u32,
@@ -35,6 +35,11 @@ impl Refusal {
             14 => "sign list not one +1 or -1 for each cell",
             15 => "some grid edge gets two lengths",
             16 => "order words not one for each cell, no more",
+            18 => "another kind of grid than the call takes",
+            19 => "south not below north, or either beyond 90 degrees",
+            20 => "the mesh file ends inside a record or before its last one",
+            21 => "a record of an unknown kind in the mesh file",
+            22 => "a wrong length, order, count, field or birth, or bytes after the end",
             _ => "no such number",
         }
     }

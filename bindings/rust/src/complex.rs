@@ -15,23 +15,21 @@ macro_rules! with_room {
 }
 pub(crate) use with_room;
 
-/// How many corners a word list may have and still come to the test of the working lists; a longer one, or another dimension, is refused before it.
+/// How long the lists of a call must be, as the core tells: result lists at most, working lists exactly, in the order of its parameters. With these it never says 12.
+pub(crate) fn needed<const K: usize>(tell: unsafe extern "C" fn(u32, usize, *mut usize), d: u32, corners: usize) -> [usize; K] {
+    let mut need = [0; K];
+    unsafe { tell(d, corners, need.as_mut_ptr()) };
+    need
+}
+
+/// How many corners a word list may have and still come to the test of the working lists; 0 where it is refused before it.
 pub(crate) fn corners(d: u32, words: &[u32]) -> usize {
-    if d <= 3 && words.len() <= 4096 * (d as usize + 1) {
-        words.len()
-    } else {
-        0
-    }
+    needed::<5>(raw::planner_need_cells, d, words.len())[0]
 }
 
 /// What most calls on a cell list need of the working lists.
 pub(crate) fn plain(d: u32, n: usize) -> [usize; 4] {
-    [n * (d as usize).max(1), n, n, n]
-}
-
-/// What the calls on an order need of them.
-pub(crate) fn with_order(d: u32, n: usize) -> [usize; 4] {
-    [n * ((d as usize).max(1) + 2), n, n, n]
+    needed(raw::planner_need_orient_by, d, n)
 }
 
 /// The count of an answer that has a yes beside it, and the yes.
@@ -57,8 +55,8 @@ pub(crate) fn listed<T: Copy + Default>(call: Listing<T>, d: u32, list: &[u32], 
 /// assert_eq!(planner::cells(2, &[0, 1, 2, 0, 1, 3, 0, 1, 4]).unwrap_err().number, 7);
 /// ```
 pub fn cells(d: u32, words: &[u32]) -> Result<Vec<u32>, Refusal> {
-    let n = corners(d, words);
-    listed(raw::planner_cells, d, words, n, d as usize + 1, plain(d, n))
+    let [most, need @ ..] = needed::<5>(raw::planner_need_cells, d, words.len());
+    listed(raw::planner_cells, d, words, most, d as usize + 1, need)
 }
 
 /// The edges, two vertices each, the lower first, in colex order without repeats.
@@ -67,9 +65,8 @@ pub fn cells(d: u32, words: &[u32]) -> Result<Vec<u32>, Refusal> {
 /// assert_eq!(planner::edges(2, &[2, 1, 0]).unwrap(), [0, 1, 0, 2, 1, 2]);
 /// ```
 pub fn edges(d: u32, words: &[u32]) -> Result<Vec<u32>, Refusal> {
-    let n = corners(d, words);
-    let k = n * (d as usize).max(1);
-    listed(raw::planner_edges, d, words, k, 2, [2 * k, k, k, k])
+    let [most, need @ ..] = needed::<5>(raw::planner_need_edges, d, words.len());
+    listed(raw::planner_edges, d, words, most, 2, need)
 }
 
 /// A cell that a facet lies in.
@@ -102,11 +99,11 @@ pub struct Facet {
 /// assert!(facets[0].other.is_none());
 /// ```
 pub fn facets(d: u32, words: &[u32]) -> Result<Vec<Facet>, Refusal> {
-    let n = corners(d, words);
+    let [most, most_table, need @ ..] = needed::<6>(raw::planner_need_facets, d, words.len());
     let size = d as usize;
-    let (mut flat, mut table) = (vec![0; n.saturating_mul(size)], vec![0; 4 * n]);
+    let (mut flat, mut table) = (vec![0; most], vec![0; most_table]);
     let call = raw::planner_facets;
-    let count = with_room!(call, plain(d, n), d, words.as_ptr(), words.len(), flat.as_mut_ptr(), flat.len(), table.as_mut_ptr(), table.len())?;
+    let count = with_room!(call, need, d, words.as_ptr(), words.len(), flat.as_mut_ptr(), flat.len(), table.as_mut_ptr(), table.len())?;
     let side = |cell: u32, dropped: u32| if cell == u32::MAX { None } else { Some(Side { cell, dropped }) };
     Ok((0..count as usize)
         .map(|i| {
@@ -123,8 +120,8 @@ pub fn facets(d: u32, words: &[u32]) -> Result<Vec<Facet>, Refusal> {
 /// assert_eq!(planner::border(2, &[0, 1, 2, 1, 2, 3]).unwrap(), [0, 1, 0, 2, 1, 3, 2, 3]);
 /// ```
 pub fn border(d: u32, words: &[u32]) -> Result<Vec<u32>, Refusal> {
-    let n = corners(d, words);
-    listed(raw::planner_border, d, words, n.saturating_mul(d as usize), d as usize, plain(d, n))
+    let [most, need @ ..] = needed::<5>(raw::planner_need_border, d, words.len());
+    listed(raw::planner_border, d, words, most, d as usize, need)
 }
 
 /// One sign a cell, +1 or -1, in the colex order of the cells: coherent, +1 at the lowest cell of each facet-connected piece. Refused with 13 exactly
@@ -136,8 +133,8 @@ pub fn border(d: u32, words: &[u32]) -> Result<Vec<u32>, Refusal> {
 /// assert_eq!(signs, [1, -1, 1, -1, -1, 1]);
 /// ```
 pub fn orientation(d: u32, words: &[u32]) -> Result<Vec<i32>, Refusal> {
-    let n = corners(d, words);
-    listed(raw::planner_orientation, d, words, n / (d as usize + 1), 1, plain(d, n))
+    let [most, need @ ..] = needed::<5>(raw::planner_need_orientation, d, words.len());
+    listed(raw::planner_orientation, d, words, most, 1, need)
 }
 
 /// Whether the signs, one for each cell in colex order, are coherent; in dimension 0 never. Refused with 14 where they are not one +1 or -1 for each cell.
@@ -148,7 +145,7 @@ pub fn orientation(d: u32, words: &[u32]) -> Result<Vec<i32>, Refusal> {
 /// assert_eq!(planner::orient_by(1, &[0, 1, 1, 2], &[1]).unwrap_err().number, 14);
 /// ```
 pub fn orient_by(d: u32, words: &[u32], signs: &[i32]) -> Result<bool, Refusal> {
-    let need = plain(d, corners(d, words));
+    let need = needed::<4>(raw::planner_need_orient_by, d, words.len());
     Ok(with_room!(raw::planner_orient_by, need, d, words.as_ptr(), words.len(), signs.as_ptr(), signs.len())? == 1)
 }
 
@@ -171,10 +168,10 @@ pub struct Ordered {
 /// assert_eq!(planner::ordering(1, &[0, 1, 1, 2], &[1, 0]).unwrap_err().number, 16);
 /// ```
 pub fn ordering(d: u32, words: &[u32], order: &[u32]) -> Result<Ordered, Refusal> {
-    let n = corners(d, words);
-    let mut listed = vec![0; n];
+    let [most, need @ ..] = needed::<5>(raw::planner_need_ordering, d, words.len());
+    let mut listed = vec![0; most];
     let call = raw::planner_ordering;
-    let said = with_room!(call, with_order(d, n), d, words.as_ptr(), words.len(), order.as_ptr(), order.len(), listed.as_mut_ptr(), listed.len())?;
+    let said = with_room!(call, need, d, words.as_ptr(), words.len(), order.as_ptr(), order.len(), listed.as_mut_ptr(), listed.len())?;
     let (cells, agrees) = with_yes(said);
     listed.truncate(cells * (d as usize + 1));
     Ok(Ordered { words: listed, agrees })
@@ -187,6 +184,6 @@ pub fn ordering(d: u32, words: &[u32], order: &[u32]) -> Result<Ordered, Refusal
 /// assert_eq!(planner::induced_orientation(1, &[0, 1, 1, 2], &[0, 1, 2, 1]), Ok(false));
 /// ```
 pub fn induced_orientation(d: u32, words: &[u32], order: &[u32]) -> Result<bool, Refusal> {
-    let need = with_order(d, corners(d, words));
+    let need = needed::<4>(raw::planner_need_induced_orientation, d, words.len());
     Ok(with_room!(raw::planner_induced_orientation, need, d, words.as_ptr(), words.len(), order.as_ptr(), order.len())? == 1)
 }

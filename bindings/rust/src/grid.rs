@@ -1,13 +1,13 @@
 //! Grids with glued axes.
 use crate::answer::said;
-use crate::complex::{listed, with_order, with_room, with_yes};
+use crate::complex::{listed, needed, with_room, with_yes};
 use crate::{raw, Refusal};
 
 /// A point of the grid before gluing.
 #[derive(Clone, Copy, Debug, PartialEq, Eq, Hash, PartialOrd, Ord)]
 pub struct GridVertex(pub u32);
 
-/// A vertex after gluing. Only [`Grid::reduce`] and [`Grid::crossing`] lead from a [`GridVertex`] to it.
+/// A vertex after gluing. Only [`Grid::reduce`], [`Grid::crossing`] and [`Grid::swath`] lead from a [`GridVertex`] to it.
 #[derive(Clone, Copy, Debug, PartialEq, Eq, Hash, PartialOrd, Ord)]
 pub struct GluedVertex(pub u32);
 
@@ -168,12 +168,18 @@ impl Grid {
     /// ```
     pub fn cell_words(&self) -> Result<Vec<u32>, Refusal> {
         let (d, axes) = self.codes();
-        let n = self.corners();
-        listed(raw::planner_cell_words, d, &axes, n, d as usize + 1, [d as usize * n, n, n, n])
+        let [most, need @ ..] = needed::<5>(raw::planner_need_cell_words, d, self.corners());
+        listed(raw::planner_cell_words, d, &axes, most, d as usize + 1, need)
+    }
+
+    /// How many numbers the words have; 0 where the grid is refused.
+    pub(crate) fn corners(&self) -> usize {
+        let (d, axes) = self.codes();
+        said(unsafe { raw::planner_grid_corners(d, axes.as_ptr(), axes.len()) }).map_or(0, |n| n as usize)
     }
 
     /// How many numbers the words have; 0 where there are more words than the limit, which is refused before the working lists are tested.
-    fn corners(&self) -> usize {
+    pub(crate) fn corners_before_six(&self) -> usize {
         let boxes = self.axes.iter().fold(1u64, |n, a| n.saturating_mul(u64::from(a.cells)));
         let each = [0, 1, 2, 6].get(self.axes.len()).copied().unwrap_or(0);
         let words = boxes.saturating_mul(each);
@@ -196,10 +202,10 @@ impl Grid {
     /// ```
     pub fn triangulate_ordered(&self) -> Result<Triangulated, Refusal> {
         let (d, axes) = self.codes();
-        let n = self.corners();
-        let (mut cells, mut order) = (vec![0; n], vec![0; n]);
+        let [most, most_order, need @ ..] = needed::<6>(raw::planner_need_triangulate_ordered, d, self.corners());
+        let (mut cells, mut order) = (vec![0; most], vec![0; most_order]);
         let call = raw::planner_triangulate_ordered;
-        let said = with_room!(call, with_order(d, n), d, axes.as_ptr(), axes.len(), cells.as_mut_ptr(), cells.len(), order.as_mut_ptr(), order.len())?;
+        let said = with_room!(call, need, d, axes.as_ptr(), axes.len(), cells.as_mut_ptr(), cells.len(), order.as_mut_ptr(), order.len())?;
         let (count, ordered) = with_yes(said);
         cells.truncate(count * (d as usize + 1));
         order.truncate(cells.len());
@@ -215,11 +221,11 @@ impl Grid {
     /// ```
     pub fn edge_lengths_sq(&self) -> Result<Vec<f64>, Refusal> {
         let (d, axes) = self.codes();
-        let ends = self.corners() * d as usize;
-        let mut lengths = vec![0.0; ends / 2];
+        let [most, need @ ..] = needed::<5>(raw::planner_need_edge_lengths_sq, d, self.corners());
+        let mut lengths = vec![0.0; most];
         let call = raw::planner_edge_lengths_sq;
         let sides = &self.sides;
-        let count = with_room!(call, [ends; 4], d, axes.as_ptr(), axes.len(), sides.as_ptr(), sides.len(), lengths.as_mut_ptr(), lengths.len())?;
+        let count = with_room!(call, need, d, axes.as_ptr(), axes.len(), sides.as_ptr(), sides.len(), lengths.as_mut_ptr(), lengths.len())?;
         lengths.truncate(count as usize);
         Ok(lengths)
     }

@@ -1,4 +1,4 @@
-//! Safe functions over the proved mesh core: grids with glued axes, cell lists, facets, coherent signs, cell orders and refinement.
+//! Safe functions over the proved mesh core: grids with glued axes, cell lists, facets, coherent signs, cell orders, refinement and mesh files.
 //!
 //! Nothing here checks an input: every call of the core answers every input, and a refusal comes back as a [`Refusal`] with the number and the
 //! place that document 01's table gives it. Results are owned; working lists are made and dropped inside a call.
@@ -19,20 +19,28 @@
 #![warn(missing_docs)]
 
 mod answer;
+mod chained;
 mod complex;
 mod dropped;
+mod geojson;
 mod grid;
 mod incidence;
+mod mesh_file;
 mod orientation;
+mod pattern;
 mod raw;
 mod refinement;
 mod seam;
+mod swath;
 
 pub use answer::Refusal;
+pub use chained::ClassVertex;
 pub use complex::{border, cells, edges, facets, induced_orientation, ordering, orient_by, orientation, Facet, Ordered, Side};
 pub use dropped::{drop_cells, Kept};
 pub use incidence::{boundary, faces, incidence, matrix_market, Entry};
 pub use orientation::{orientation_looks, Coherence};
 pub use grid::{Axis, EdgeLength, Gluing, GluedVertex, Grid, GridVertex, Triangulated};
-pub use refinement::{refine, refine_with, Birth, Child, Refined};
+pub use mesh_file::{read_mesh, write_mesh, BornVertex, Mesh};
+pub use pattern::{corners, corners_stepping};
+pub use refinement::{refine, refine_by_steps, refine_with, refine_with_by_steps, Birth, Child, Refined};
 pub use seam::Crossing;

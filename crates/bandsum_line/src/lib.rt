@@ -53,7 +53,7 @@ pub enum GridRead {
 pub const LONGEST: usize = 47;
 
 // Whether b is a digit.
-fn is_digit(b: u8) -> bool
+pub fn is_digit(b: u8) -> bool
     ensures { λ r. ⌜ r ≡ isDigit b ⌝ }
 {
     if 48 <= b { b <= 57 } else { false }
@@ -67,7 +67,7 @@ fn is_axis_digit(b: u8) -> bool
 }
 
 // Whether byte b stands at the position.
-fn has(bytes: &[u8], at: usize, b: u8) -> bool
+pub fn has(bytes: &[u8], at: usize, b: u8) -> bool
     ensures { λ r. ⌜ r ≡ begins b (drop at (now (bytes .entry))) ⌝ }
 {
     if at < bytes.len() {
@@ -101,7 +101,7 @@ fn digits(bytes: &[u8], at: usize, first: u32) -> Number
 }
 
 // The count at the position: one to four digits, and no 0 before others.
-fn count(bytes: &[u8], at: usize) -> Number
+pub fn count(bytes: &[u8], at: usize) -> Number
     ensures { λ r. ⌜ numberReadOf (now (bytes .entry)) r ≡ countFrom (drop at (now (bytes .entry))) ⌝ }
 {
     if at >= bytes.len() {
@@ -206,7 +206,7 @@ fn axis_at(d: u32, i: u32, bytes: &[u8], at: usize) -> AxisRead
 }
 
 // The grid of dimension d whose axes stand at the position.
-fn grid(d: u32, bytes: &[u8], at: usize) -> GridRead
+pub fn grid(d: u32, bytes: &[u8], at: usize) -> GridRead
     ensures { λ r. ⌜ gridReadOf (now (bytes .entry)) r ≡ gridFrom d (drop at (now (bytes .entry))) ⌝ }
 {
     let a = axis_at(d, 0, bytes, at);
@@ -237,7 +237,7 @@ fn grid(d: u32, bytes: &[u8], at: usize) -> GridRead
 }
 
 // Whether one line feed stands at the position, and nothing after it.
-fn ends(bytes: &[u8], at: usize) -> bool
+pub fn ends(bytes: &[u8], at: usize) -> bool
     ensures { λ r. ⌜ r ≡ lineEnds (drop at (now (bytes .entry))) ⌝ }
 {
     if at >= bytes.len() {

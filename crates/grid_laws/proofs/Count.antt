@@ -21,15 +21,17 @@ use Rattle.ordering.proofs.Orders.{order-length, same-order}
 use Rattle.quotient.specs.declared.Grid.{Grid}
 use Rattle.quotient.specs.Fold.{product, factorial, some}
 use Rattle.quotient.specs.Shape.{cellsOn, checkOf, cellCount}
+use Rattle.quotient.specs.Chain.{Untangled}
 use Rattle.quotient.proofs.Laws.{some-true}
 use Rattle.grid_words.specs.Cells.{wordsOf}
 use Rattle.grid_mesh.specs.Words.{gluedCells}
 use Rattle.grid_mesh.proofs.Steps.{words-many}
 use Rattle.grid_order.specs.Promise.{ownWords, wordsByCell, HandsOut}
-use Rattle.grid_laws.proofs.Turns.{some-found}
-use Rattle.grid_laws.proofs.Members.{cells-many, many-apart}
-use Rattle.grid_laws.proofs.Words.{wordNo, words-each, own-words, glued-are, word-is}
-use Rattle.grid_laws.proofs.Twice.{two-words}
+use Rattle.grid_mesh.proofs.Turns.{some-found}
+use Rattle.grid_laws.proofs.Apart.{cells-many, many-apart}
+use Rattle.grid_mesh.proofs.Words.{wordNo, words-each, own-words, glued-are, word-is}
+use Rattle.grid_mesh.proofs.Twice.{two-words}
+use Rattle.grid_mesh.proofs.Seven.{untangled-never-seven}
 
 module _ (g : Grid) (fine : checkOf g ≡ Fine) where
   -- no more cells than words
@@ -98,3 +100,7 @@ module _ (g : Grid) (fine : checkOf g ≡ Fine) where
       (λ (p : Pair (cellCount g)). inr (two-words g fine (p .first) (p .second) (p .order) (p .within) (p .one)))
       (λ (f : (x y : ℕ) → x < y → y < cellCount g → sortWord (wordNo g x) ≡ sortWord (wordNo g y) → ⊥). inl (apart-many f))
       (pair-or-not (cellCount g))
+
+-- where no axis with a non-empty set is itself reflected there are d! cells for each box
+pub untangled-number : (g : Grid) → checkOf g ≡ Fine → Untangled g → length (gluedCells g) ≡ factorial (g .d) * product (cellsOn g) (g .d)
+untangled-number g fine u = cells-number g fine (untangled-never-seven g fine u)

@@ -30,8 +30,8 @@ use Rattle.grid_lengths.proofs.Measuring.{place-in, cell-in, corner-at, ends-be
 use Rattle.grid_lengths.proofs.Gathered.{two-sorted}
 use Rattle.grid_mesh.specs.Words.{gluedCells}
 use Rattle.skeleton.proofs.Laws.{edges-rising, edges-from, edges-has}
-use Rattle.grid_laws.proofs.Members.{Rises}
-use Rattle.grid_laws.proofs.Words.{wordNo, vertexNo, corner-one, corner-mem, mem-corner, sorted-rises, cell-of, word-of}
+use Rattle.grid_mesh.proofs.Members.{Rises}
+use Rattle.grid_mesh.proofs.Words.{wordNo, vertexNo, corner-one, corner-mem, mem-corner, sorted-rises, cell-of, word-of}
 
 -- ---- the edges of a cell by number: a computed test
 abbrev edgeNo : ℕ → ℕ → ℕ

@@ -74,5 +74,5 @@ unfolding gridCells met inOrder place placed comesBefore decides sortWord insert
 band-edges = refl
 
 pub band-border : length (borderOf 2 (gluedCells band)) ≡ 6
-unfolding inColex tab numbers keep Complex.cellsOf cut gridCells met inOrder place placed comesBefore decides sortWord insert insertBy fromDigits product restAt reflectedBy numberTo axisOf
+unfolding inColex numbers keep Complex.cellsOf cut gridCells met inOrder place placed comesBefore decides sortWord insert insertBy fromDigits product restAt reflectedBy numberTo axisOf
 band-border = refl

@@ -1,12 +1,5 @@
-pub mod Turns
-pub mod Folding
-pub mod Facing
-pub mod Members
-pub mod Words
-pub mod Twice
+pub mod Apart
 pub mod Count
-pub mod Seams
-pub mod Seven
 pub mod Edges
 pub mod Sizes
 pub mod Room

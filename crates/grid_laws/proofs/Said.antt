@@ -26,7 +26,7 @@ use Rattle.grid_lengths.specs.Lengths.{LengthsEnd, EdgeLengths}
 use Rattle.grid_lengths.specs.Lengths as lengths
 use Rattle.grid_laws.specs.Said.{SaysCells, SaysWords, SaysEdges, WordsNotSeven, CellsNotSeven}
 use Rattle.grid_laws.proofs.Count.{cells-number}
-use Rattle.grid_laws.proofs.Seven.{untangled-never-seven}
+use Rattle.grid_mesh.proofs.Seven.{untangled-never-seven}
 use Rattle.grid_laws.proofs.Edges.{edges-same}
 
 module _ (g : Grid) where

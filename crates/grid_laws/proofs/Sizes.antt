@@ -21,7 +21,7 @@ use Rattle.grid_lengths.specs.Edges.{edgesOf}
 use Rattle.grid_mesh.specs.Words.{gluedCells}
 use Rattle.skeleton.proofs.Laws.{cells-rising, edges-rising, edges-from, edges-has, facets-rising, facets-from, facets-has}
 use Rattle.skeleton.proofs.Count.{rows-count}
-use Rattle.grid_laws.proofs.Words.{glued-good}
+use Rattle.grid_mesh.proofs.Words.{glued-good}
 use Rattle.grid_laws.proofs.Count.{cells-number}
 use Rattle.grid_laws.proofs.Edges.{edges-same}
 

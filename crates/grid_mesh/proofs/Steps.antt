@@ -40,7 +40,7 @@ use Rattle.grid_words.proofs.Corners.{dim}
 use Rattle.grid_words.proofs.Listed.{words-tab, words-long}
 use Rattle.grid_words.proofs.Good.{words-count, words-pass}
 use Rattle.grid_mesh.specs.Words.{gluedCells, cornersOf, WordsEnd, crowded, short, written}
-use Rattle.grid_mesh.specs.Work.{Working, Worked}
+use Rattle.grid_mesh.specs.Work.{IsCrowded, Working, Worked}
 
 room-least : (d n : ℕ) → n ≤ keyRoom d n
 room-least zero n = omega arith
@@ -127,23 +127,28 @@ module _ (g : Grid) (keys rows spare counts : List ℕ) (w : Working g keys rows
           below = λ i h. omega (arith, a .below i h, corners-long);
         }
 
-    -- 7
-    pub worked-crowded : (out : List ℕ) → Crowded (g .d) (cut (suc (g .d)) m rows′) → Worked g (Refused crowdedFacet 0) out out
-    worked-crowded out x = record { handed = []; ends = crowded (subst (λ (cs : List (List ℕ)). Crowded (g .d) cs) (a .same) x); result = refl }
+    -- what the table of mates tells
+    pub mates-crowded : Crowded (g .d) (cut (suc (g .d)) m rows′) → Crowded (g .d) (gluedCells g)
+    mates-crowded x = subst (λ (cs : List (List ℕ)). Crowded (g .d) cs) (a .same) x
 
-    module _ (rows″ : List ℕ) (t : MateTable (g .d) (cut (suc (g .d)) m rows′) rows″) where
-      pub free : Crowded (g .d) (gluedCells g) → ⊥
-      free x = not-crowded (g .d) m (cut (suc (g .d)) m rows′) (cut-length (suc (g .d)) m rows′) rows″ t (omega (arith, a .most, a .corners)) (subst (λ (cs : List (List ℕ)). Crowded (g .d) cs) (sym (a .same)) x)
+    pub mates-free : (rows″ : List ℕ) → MateTable (g .d) (cut (suc (g .d)) m rows′) rows″ → Crowded (g .d) (gluedCells g) → ⊥
+    mates-free rows″ t x = not-crowded (g .d) m (cut (suc (g .d)) m rows′) (cut-length (suc (g .d)) m rows′) rows″ t (omega (arith, a .most, a .corners)) (subst (λ (cs : List (List ℕ)). Crowded (g .d) cs) (sym (a .same)) x)
 
-      -- 12
-      pub worked-short : (out : List ℕ) (len : ℕ) → len ≡ cornersOf g → length out < len → Worked g (Refused tooShort 0) out out
-      worked-short out len e h = record { handed = []; ends = short free (omega (arith, corners-long)); result = refl }
+-- ---- the ends of the work
+module _ (g : Grid) (fine : checkOf g ≡ Fine) (r : Bool) (told : IsCrowded g r) where
+  -- 7
+  pub worked-crowded : r ≡ true → (out : List ℕ) → Worked g (Refused crowdedFacet 0) out out
+  worked-crowded e out = record { handed = []; ends = crowded (told .yes e); result = refl }
 
-      -- the words
-      pub worked-written : (out part : List ℕ) (count len : ℕ) → count ≡ cellCount g → len ≡ cornersOf g → len ≤ length out → part ≡ flatWords g → Worked g (Count count) out (part ++ drop len out)
-      worked-written out part count len c e h p =
-          record {
-            handed = flatWords g;
-            ends = subst (λ (n : ℕ). WordsEnd g (length out) (Count n) (flatWords g)) (words-many g (w .taken) ∙ sym c) (written free (omega (arith, corners-long)));
-            result = rw (p, e, corners-long);
-          }
+  -- 12
+  pub worked-short : r ≡ false → (out : List ℕ) (len : ℕ) → len ≡ cornersOf g → length out < len → Worked g (Refused tooShort 0) out out
+  worked-short q out len e h = record { handed = []; ends = short (told .no q) (omega (arith, words-long g fine)); result = refl }
+
+  -- the words
+  pub worked-written : r ≡ false → (out part : List ℕ) (count len : ℕ) → count ≡ cellCount g → len ≡ cornersOf g → len ≤ length out → part ≡ flatWords g → Worked g (Count count) out (part ++ drop len out)
+  worked-written q out part count len c e h p =
+      record {
+        handed = flatWords g;
+        ends = subst (λ (n : ℕ). WordsEnd g (length out) (Count n) (flatWords g)) (words-many g fine ∙ sym c) (written (told .no q) (omega (arith, words-long g fine)));
+        result = rw (p, e, words-long g fine);
+      }

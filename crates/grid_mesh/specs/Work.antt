@@ -1,15 +1,34 @@
 -- What the work on a grid that is taken asks of its lists, of just the lengths that are needed, and what it gives. Assumes nothing.
+use mathlib.Core.Bool.{Bool, true, false, not, _&&_}
 use mathlib.Core.List.{List}
 use mathlib.Core.Path.{_≡_}
 use Prim.Native.Nat.{ℕ, suc, _*_}
+use lib.Dec.{eqb}
 use lib.ListN.{length}
 use Rattle.refusal.specs.declared.Answer.the-variants.{Fine}
 use Rattle.refusal.specs.declared.Counted.{Counted}
 use Rattle.refusal.specs.Lent.{onto}
 use Rattle.complex.specs.Room.{keyRoom}
+use Rattle.complex.specs.Facets.{Crowded}
 use Rattle.quotient.specs.declared.Grid.{Grid}
-use Rattle.quotient.specs.Shape.{checkOf}
-use Rattle.grid_mesh.specs.Words.{cornersOf, WordsEnd}
+use Rattle.quotient.specs.Fold.{member, some}
+use Rattle.quotient.specs.Shape.{maskAt, checkOf}
+use Rattle.grid_mesh.specs.Words.{gluedCells, cornersOf, WordsEnd}
+
+-- axis a reflects axis b, and b reflects one itself; a reflects such an axis; some axis does
+abbrev pub tangledBy : Grid → ℕ → ℕ → Bool
+tangledBy g a b = member (maskAt g a) b && not (eqb (maskAt g b) 0)
+
+abbrev pub tangledAt : Grid → ℕ → Bool
+tangledAt g a = some (tangledBy g a) (g .d)
+
+abbrev pub isTangled : Grid → Bool
+isTangled g = some (tangledAt g) (g .d)
+
+-- r tells whether a facet lies in three or more cells
+pub record IsCrowded (g : Grid) (r : Bool) : Type 0 where
+  pub yes : r ≡ true → Crowded (g .d) (gluedCells g)
+  pub no : r ≡ false → Crowded (g .d) (gluedCells g) → ⊥
 
 pub record Working (g : Grid) (keys rows spare counts : List ℕ) : Type 0 where
   pub taken : checkOf g ≡ Fine

@@ -1,11 +1,11 @@
 // From a grid to cells: its words in the order of the sorted grid cells, and its cells with the order that the words give.
 // Follows `FlatQuotient::cell_words` and `triangulate` (crates/regge/src/mesher/quotient.rs).
 //
-// What the working lists hold, one phase after the other:
-//   keys     sorted words     facet rows
-//   rows     cells            mates
-//   spare    first rows       first rows
-//   counts   buckets          classes
+// What the working lists hold, one phase after the other; the first two, which find a facet in three cells, only where there can be one:
+//   keys     sorted words   facet rows   -
+//   rows     cells          mates        the vertex of each point
+//   spare    first rows     first rows   -
+//   counts   buckets        classes      -
 ghost use mathlib.Core.Path.{_≡_};
 ghost use Rattle.refusal.specs.declared.Answer.the-variants.{Fine};
 ghost use Rattle.lists.specs.Zero.{AllZero};
@@ -13,13 +13,59 @@ ghost use Rattle.complex_cells.specs.WorkMade.{Made};
 ghost use Rattle.quotient.specs.Shape.{checkOf};
 ghost use Rattle.grid_words.specs.Cells.{flatWords};
 ghost use Rattle.grid_mesh.specs.Words.{gridNeed, CellWords};
-ghost use Rattle.grid_mesh.specs.Work.{Working, Worked};
+ghost use Rattle.grid_mesh.specs.Work.{tangledBy, tangledAt, isTangled, IsCrowded, Working, Worked};
 use quotient::Grid;
+use quotient::mask;
 use refusal::Answer;
 use refusal::CROWDED_FACET;
 use refusal::Counted;
 use refusal::Room;
 use refusal::TOO_SHORT;
+
+// Whether axis a reflects axis b, and b reflects one itself.
+fn tangled_by(grid: Grid, a: u32, b: u32) -> bool
+    ensures { λ r. ⌜ r ≡ tangledBy grid a b ⌝ }
+{
+    let x = grid.axis(a);
+    let y = grid.axis(b);
+    let g = x.glue;
+    let h = y.glue;
+    if mask::member_of(g.mask(), b) {
+        h.mask() != 0
+    } else {
+        false
+    }
+}
+
+// Whether axis a reflects an axis that reflects one itself.
+fn tangled_at(grid: Grid, a: u32) -> bool
+    ensures { λ r. ⌜ r ≡ tangledAt grid a ⌝ }
+{
+    let d = grid.d;
+    let mut b = 0u32;
+    while b < d {
+        if tangled_by(grid, a, b) {
+            return true;
+        }
+        b += 1;
+    }
+    false
+}
+
+// Whether some axis with a non-empty set is itself reflected: only there can a facet lie in three cells.
+fn tangled(grid: Grid) -> bool
+    ensures { λ r. ⌜ r ≡ isTangled grid ⌝ }
+{
+    let d = grid.d;
+    let mut a = 0u32;
+    while a < d {
+        if tangled_at(grid, a) {
+            return true;
+        }
+        a += 1;
+    }
+    false
+}
 
 // Writes the cells of the grid's words, one after the other, to `rows`, and says how many there are.
 fn cells(
@@ -43,6 +89,26 @@ fn cells(
     m
 }
 
+// Whether a facet lies in three or more cells. Nothing is sorted where none can.
+fn crowded(
+    grid: Grid,
+    keys: &mut [u32],
+    rows: &mut [u32],
+    spare: &mut [u32],
+    counts: &mut [u32],
+) -> bool
+    requires { ⌜ Working grid (now keys) (now rows) (now spare) (now counts) ⌝ }
+    ensures { λ r. ⌜ IsCrowded grid r ⌝ }
+{
+    if !tangled(grid) {
+        return false;
+    }
+    let d = grid.d as usize;
+    let m = cells(grid, keys, rows, spare, counts);
+    let len = grid_words::cells(grid) * (d + 1);
+    !complex_mates::mates(d, m, len, keys, rows, spare, counts)
+}
+
 // The work of `cell_words`, in working lists of just the sizes that are needed.
 fn work(
     grid: Grid,
@@ -55,17 +121,15 @@ fn work(
     requires { ⌜ Working grid (now keys) (now rows) (now spare) (now counts) ⌝ }
     ensures { λ r. ⌜ Worked grid r (now (words .entry)) (now (words .exit)) ⌝ }
 {
-    let d = grid.d as usize;
-    let m = cells(grid, keys, rows, spare, counts);
-    let count = grid_words::cells(grid);
-    let len = count * (d + 1);
-    if !complex_mates::mates(d, m, len, keys, rows, spare, counts) {
+    if crowded(grid, keys, rows, spare, counts) {
         return Counted::Refused(CROWDED_FACET, 0);
     }
+    let count = grid_words::cells(grid);
+    let len = count * (grid.d as usize + 1);
     if words.len() < len {
         return Counted::Refused(TOO_SHORT, 0);
     }
-    grid_words::grid_words(grid, &mut words[..len]);
+    grid_words::write_words(grid, &mut words[..len], rows);
     Counted::Count(count as u32)
 }
 

@@ -97,7 +97,7 @@ module _ (g : Grid) where
       ∙ number-same (pointsOn g) (λ k. c k + same a k + timesIn k (take j os)) (λ k. c k + (same a k + timesIn k (take j os))) (g .d) (λ k l. omega arith)
 
 -- ---- the orders of up to three axes: computed tests
-few-orders : (d : ℕ) → d ≤ 3 → length (orders d) < 7
+pub few-orders : (d : ℕ) → d ≤ 3 → length (orders d) < 7
 few-orders d h = ltb-true (length (orders d)) 7 (at-below 4 (λ d. ltb (length (orders d)) 7) refl d (suc-le-suc h))
 
 pub some-order : (d : ℕ) → d ≤ 3 → 0 < length (orders d)
@@ -147,6 +147,10 @@ module _ (g : Grid) (fine : checkOf g ≡ Fine) where
       let m : 1 * boxesOf g ≤ factorial (g .d) * boxesOf g = mul-le-mul-right (boxesOf g) s in
       let c : cellCount g ≤ mostCells = taken-cells g fine in
       omega (arith, one-mul (boxesOf g))
+
+  pub boxes-some : 1 ≤ boxesOf g
+  unfolding product
+  boxes-some = product-mono (cellsOn g) (g .d) 0 (omega arith) some-cell
 
   pub boxes-part : (k : ℕ) → k ≤ g .d → product (cellsOn g) k ≤ mostCells
   boxes-part k h = le-trans (product-mono (cellsOn g) (g .d) k h some-cell) boxes-few
@@ -205,6 +209,9 @@ module _ (g : Grid) (fine : checkOf g ≡ Fine) where
     at-le : (j k : ℕ) → k < g .d → at j k ≤ cellsOn g k
     at-le j k l =
         omega (arith, box-lt (x / eachBox g) k l, times-all k (orderAt g x) j, order-once (g .d) (eachBox g - 1 - x % eachBox g) k dim turn-lt l)
+
+    pub corner-coord : (j k : ℕ) → j ≤ g .d → k < g .d → coordAt g (cornerOf g x j) k ≡ at j k
+    corner-coord j k h l = ap (λ (p : ℕ). coordAt g p k) (corner-point j h) ∙ coord-of-point g (at j) (λ i m. at-le j i m) k l
 
     pub corner-lt : (j : ℕ) → j ≤ g .d → cornerOf g x j < pointsOf g
     corner-lt j h = rw (corner-point j h) (point-lt g (at j) (λ k l. at-le j k l))

@@ -4,4 +4,5 @@ pub mod Inside
 pub mod Flat
 pub mod Listed
 pub mod Good
+pub mod Moved
 pub mod Figures

@@ -4,18 +4,24 @@
 //
 // The cells are numbered in colex order of their grid points. Boxes come in the order of their numbers, axis 0 fastest, and inside a box the orders stand from the
 // last to the first, so a cell's number tells its box and its order, and nothing has to be sorted.
+//
+// Every box is the first one moved to its origin, so each point is reduced once, into a table, and each corner is read from it.
 ghost use mathlib.Core.Path.{_≡_};
 ghost use Prim.Native.Nat.{ℕ, suc, _+_, _*_, _<_, _≤_};
 ghost use lib.ListN.{length};
 ghost use Rattle.refusal.specs.declared.Answer.the-variants.{Fine};
 ghost use Rattle.quotient.specs.Fold.{product};
 ghost use Rattle.quotient.specs.Shape.{cellsOn, pointsOn, checkOf, cellCount};
-ghost use Rattle.quotient.specs.Points.{pointOf};
+ghost use Rattle.quotient.specs.Points.{pointsOf, pointOf};
 ghost use Rattle.grid_words.specs.Cells.{boxAt, flatWords};
 ghost use Rattle.grid_words.specs.WorkNumbered.{strideOf, cornerOf};
+ghost use Rattle.grid_words.specs.Work.{vertexTable, reachLong, reachOf, movedBy, Moving, Writing};
 use multiindex::permutation;
 use quotient::Grid;
 use quotient::GridVertex;
+
+// The most corners that the cells of one box have together.
+const MOST_REACH: usize = 24;
 
 // How many boxes a grid has that is taken.
 fn boxes(grid: Grid) -> usize
@@ -56,6 +62,14 @@ fn stride(grid: Grid, a: u32) -> usize
     s
 }
 
+// How many points a grid has that is taken.
+pub fn points(grid: Grid) -> usize
+    requires { ⌜ checkOf grid ≡ Fine ⌝ }
+    ensures { λ r. ⌜ r ≡ pointsOf grid ⌝ }
+{
+    stride(grid, grid.d)
+}
+
 // The point at which box b begins.
 fn origin(grid: Grid, b: usize) -> usize
     requires { ⌜ checkOf grid ≡ Fine ⌝ }
@@ -93,6 +107,80 @@ pub fn corner(grid: Grid, x: usize, j: usize) -> usize
         i += 1;
     }
     v
+}
+
+// Writes the vertex of each grid point, by its number.
+pub fn vertices(grid: Grid, table: &mut [u32])
+    requires { ⌜ (checkOf grid ≡ Fine) × (length (now table) ≡ pointsOf grid) ⌝ }
+    ensures { λ _. ⌜ now (table .exit) ≡ vertexTable grid ⌝ }
+{
+    let mut v = 0;
+    while v < table.len() {
+        let c = grid.crossed(GridVertex(v as u32));
+        let p = c.vertex;
+        table[v] = p.0;
+        v += 1;
+    }
+}
+
+// Writes how far from its box's origin each corner of the box's cells lies: the corners of the first box.
+fn reaches(grid: Grid, reach: &mut [u32])
+    requires { ⌜ (checkOf grid ≡ Fine) × (length (now reach) ≡ reachLong grid) ⌝ }
+    ensures { λ _. ⌜ now (reach .exit) ≡ reachOf grid ⌝ }
+{
+    let n = grid.d as usize + 1;
+    let mut i = 0;
+    while i < reach.len() {
+        reach[i] = corner(grid, i / n, i % n) as u32;
+        i += 1;
+    }
+}
+
+// Writes, box after box, the vertices of the points that lie so far from the box's origin. A box's origin is one point further than that of the box before it, except where a
+// row of axis 0 begins.
+pub fn write_boxes(grid: Grid, table: &[u32], reach: &[u32], to: &mut [u32])
+    requires { ⌜ Moving grid (now table) (now reach) (now to) ⌝ }
+    ensures { λ _. ⌜ now (to .exit) ≡ movedBy grid (now (reach .entry)) ⌝ }
+{
+    let e = reach.len();
+    let a = grid.axis(0);
+    let row = a.count as usize;
+    let mut origin_at = origin(grid, 0);
+    let mut b = 0usize;
+    let mut x = 0usize;
+    let mut r = 0usize;
+    let mut i = 0usize;
+    while i < to.len() {
+        to[i] = table[origin_at + reach[r] as usize];
+        i += 1;
+        r += 1;
+        if r < e {
+            continue;
+        }
+        r = 0;
+        b += 1;
+        x += 1;
+        origin_at += 1;
+        if x < row {
+            continue;
+        }
+        x = 0;
+        origin_at = origin(grid, b);
+    }
+}
+
+// Writes the words of all cells, one after the other, over a list of their length. The vertex of each point goes to a working list first.
+pub fn write_words(grid: Grid, words: &mut [u32], table: &mut [u32])
+    requires { ⌜ Writing grid (now words) (now table) ⌝ }
+    ensures { λ _. ⌜ now (words .exit) ≡ flatWords grid ⌝ }
+{
+    let d = grid.d as usize;
+    let points = points(grid);
+    let corners = permutation::count(d) * (d + 1);
+    let mut reach = [0u32; MOST_REACH];
+    vertices(grid, &mut table[..points]);
+    reaches(grid, &mut reach[..corners]);
+    write_boxes(grid, &table[..points], &reach[..corners], words);
 }
 
 // Writes the words of all cells, one after the other, over a list of their length.

@@ -3,16 +3,20 @@ use mathlib.Core.Path.{_≡_, ap, subst, _∙_}
 use Prim.Native.Nat.{ℕ}
 use mathlib.Core.List.{List}
 use lib.Ieee.{Float}
+use lib.ListN.{length}
 use Rattle.quotient.specs.declared.Grid.{Grid}
 use Rattle.quotient.specs.declared.Made.{Made}
 use Rattle.quotient.specs.declared.Reduced.{Reduced}
 use Rattle.refusal.specs.declared.Counted.{Counted}
+use Rattle.refusal.specs.declared.Answer.{Answer}
+use Rattle.refusal.specs.Lent.{onto}
+use Rattle.grid_swath.specs.Swath.{swathSays, swathHands}
 use Rattle.grid_mesh.specs.Words.{CellWords}
 use Rattle.grid_order.specs.declared.Triangulated.{Triangulated}
 use Rattle.grid_order.specs.Promise.{TriangulateOrdered}
 use Rattle.grid_lengths.specs.declared.EdgeLength.{EdgeLength}
 use Rattle.grid_lengths.specs.Lengths.{EdgeLengths}
-use Rattle.planner_passing.specs.Said.{Said, reducedCode, reducedSets, countedCode, madeCode, madeAxes, triangulatedCode, lengthCode, lengthSquares}
+use Rattle.planner_passing.specs.Said.{Said, reducedCode, reducedSets, countedCode, madeCode, madeAxes, triangulatedCode, lengthCode, lengthSquares, answerCode}
 
 -- an answer that is the call's, on a value that is the one given
 pub called : {A B : Type 0} (code : B → ℕ) (f : A → B) {r : ℕ} {b : B} {a given : A} → r ≡ code b → b ≡ f a → a ≡ given → r ≡ code (f given)
@@ -25,6 +29,13 @@ made-as s asked axes h k = (h .0 ∙ ap madeCode k, h .1 ∙ ap (λ (x : Made). 
 -- a point's vertex and sets, likewise
 pub crossed-as : (s asked : Reduced) {r : ℕ} (sets : List ℕ) {after : List ℕ} → (r ≡ reducedCode s) × (after ≡ reducedSets s sets) → s ≡ asked → (r ≡ reducedCode asked) × (after ≡ reducedSets asked sets)
 crossed-as s asked sets h k = (h .0 ∙ ap reducedCode k, h .1 ∙ ap (λ (x : Reduced). reducedSets x sets) k)
+
+-- a swath's answer and list, where the grid is the one given
+pub swath-as : (g given : Grid) (ps glued : List ℕ) (a : Answer) {r : ℕ} {after : List ℕ} → r ≡ answerCode a 0
+    → (a ≡ swathSays g ps (length glued)) × (after ≡ onto (swathHands g ps (length glued)) glued) → g ≡ given
+    → (r ≡ answerCode (swathSays given ps (length glued)) 0) × (after ≡ onto (swathHands given ps (length glued)) glued)
+swath-as g given ps glued a e h k =
+    (e ∙ ap (λ (x : Answer). answerCode x 0) (h .0) ∙ ap (λ (x : Grid). answerCode (swathSays x ps (length glued)) 0) k, h .1 ∙ ap (λ (x : Grid). onto (swathHands x ps (length glued)) glued) k)
 
 -- a grid's words, where the grid is the one given
 pub words-said : {g given : Grid} {r : ℕ} {a : Counted} {words words′ keys keys′ rows rows′ spare spare′ counts counts′ : List ℕ}

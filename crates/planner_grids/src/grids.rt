@@ -4,12 +4,15 @@ use planner_passing::said;
 use quotient::Grid;
 use quotient::GridVertex;
 ghost use mathlib.Core.Path.{_≡_};
+ghost use lib.ListN.{length};
+ghost use Rattle.refusal.specs.Lent.{onto};
 ghost use Rattle.quotient.specs.Reduce.{reduceOf};
 ghost use Rattle.quotient.specs.Shape.{parityOf, nverticesOf};
 ghost use Rattle.quotient.specs.Makers.{torusOf, kleinOf, quasiOf, bandOf};
+ghost use Rattle.grid_swath.specs.Swath.{swathSays, swathHands};
 ghost use Rattle.grid_mesh.specs.Words.{CellWords};
 ghost use Rattle.grid_order.specs.Promise.{TriangulateOrdered};
-ghost use Rattle.planner_passing.specs.Said.{Said, reducedCode, reducedSets, parityCode, countedCode, madeCode, madeAxes, triangulatedCode};
+ghost use Rattle.planner_passing.specs.Said.{Said, reducedCode, reducedSets, parityCode, countedCode, madeCode, madeAxes, triangulatedCode, answerCode};
 ghost use Rattle.planner_passing.specs.Given.{plainGiven, vertexGiven, sidesGiven, gluesGiven};
 
 // The glued number of grid point v, 4294967295 where v is past the last point. Refused: 1, 9, 8, 3, 6.
@@ -30,6 +33,16 @@ pub extern "C" fn planner_crossing(d: u32, v: u32, axes: &[u32], sets: &mut [u32
 {
     let g = given::plain(d, axes);
     said::crossed(g.reduce(GridVertex(v)), sets)
+}
+
+// One glued number for each grid point of the list, 4294967295 where it is past the last point. Refused: 1, 9, 8, 3, 6, 12.
+#[no_mangle]
+pub extern "C" fn planner_swath(d: u32, axes: &[u32], points: &[u32], glued: &mut [u32]) -> u64
+    ensures { λ r. ⌜ r ≡ answerCode (swathSays (plainGiven d (now (axes .entry))) (now (points .entry)) (length (now (glued .entry)))) 0 ⌝ }
+    ensures { λ _. ⌜ now (glued .exit) ≡ onto (swathHands (plainGiven d (now (axes .entry))) (now (points .entry)) (length (now (glued .entry)))) (now (glued .entry)) ⌝ }
+{
+    let g = given::plain(d, axes);
+    said::answer(grid_swath::swath(g, points, glued))
 }
 
 // 1 where every axis reflects an even number of axes, else 0. Refused: 1, 9, 8, 3, 6.

@@ -64,6 +64,16 @@ pub fn verdict(said: Verdict) -> u64
     }
 }
 
+// An answer: 0 where nothing is refused.
+pub fn answer(said: Answer) -> u64
+    ensures { λ r. ⌜ r ≡ answerCode said 0 ⌝ }
+{
+    match said {
+        Answer::Fine => 0,
+        Answer::Refused(number, place) => refused(number, place),
+    }
+}
+
 // A parity: 1 where orientation is preserved.
 pub fn parity(said: Parity) -> u64
     ensures { λ r. ⌜ r ≡ parityCode said ⌝ }

@@ -1,0 +1,3 @@
+-- What the contracts of `bandmap_line` cite.
+pub mod Grammar
+pub mod WorkParts

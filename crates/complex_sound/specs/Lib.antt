@@ -1,0 +1,3 @@
+-- What the contracts of `complex_sound` cite.
+pub mod Promise
+pub mod Work

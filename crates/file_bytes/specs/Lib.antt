@@ -1,0 +1,2 @@
+-- What the contracts of `file_bytes` cite.
+pub mod Bytes

@@ -1,0 +1,13 @@
+-- The theorems.
+pub mod Rounding
+pub mod Boxes
+pub mod Turning
+pub mod Texts
+pub mod ReadBack
+pub mod Bounds
+pub mod Every
+pub mod Areas
+pub mod Numbers
+pub mod Never
+pub mod Parts
+pub mod Figures

@@ -1,0 +1,3 @@
+-- What the contracts of `grid_chained_mesh` cite.
+pub mod Words
+pub mod Work

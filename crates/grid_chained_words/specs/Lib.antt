@@ -1,0 +1,3 @@
+-- What the contracts of `grid_chained_words` cite: Words are the words, WorkWords are inner contracts.
+pub mod Words
+pub mod WorkWords

@@ -1,0 +1,2 @@
+-- What the contracts of `grid_swath` cite.
+pub mod Swath

@@ -1,0 +1,2 @@
+-- What the contracts of `planner_chained` cite.
+pub mod Said

@@ -1,0 +1,2 @@
+-- Laws that the proof of `planner_geojson` cites.
+pub mod Laws

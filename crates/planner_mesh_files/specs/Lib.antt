@@ -1,0 +1,2 @@
+-- What the contracts of `planner_mesh_files` cite.
+pub mod Read
