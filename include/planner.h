@@ -70,7 +70,8 @@ enum {
     PLANNER_FILE_ENDS = 20,         /* a mesh file ends inside a record, or before the record that ends it */
     PLANNER_UNKNOWN_KIND = 21,      /* a mesh file has a record of an unknown kind */
     PLANNER_BAD_FILE = 22,          /* a mesh file has a wrong length, order, count, field or birth, or bytes after its end */
-    PLANNER_NO_SUCH_CELL = 23       /* a set of cells names one that is not there */
+    PLANNER_NO_SUCH_CELL = 23,      /* a set of cells names one that is not there */
+    PLANNER_BAD_FACES = 24          /* a dimension of faces that the call has none of */
 };
 
 /* ---- grids */
@@ -245,6 +246,37 @@ uint64_t planner_ordering(
  * 4, 6, 5, 12 (working lists), 7, 16. Working lists: keys (max(1, d) + 2) * n, rows n, spare n, counts n. */
 uint64_t planner_induced_orientation(
     uint32_t d, const uint32_t *words, size_t n, const uint32_t *order, size_t order_len, uint32_t *keys, size_t keys_len, uint32_t *rows, size_t rows_len,
+    uint32_t *spare, size_t spare_len, uint32_t *counts, size_t counts_len);
+
+/* ---- faces by dimension, the boundary operator, the cells at each vertex
+ *
+ * The calls on faces need, where m is the number of words, rows, spare and counts of 1, 2, 6, 12 times m elements each in dimension 0, 1, 2, 3, and keys of 1, 2, 6, 24
+ * times m: no result has more elements than rows has, but for the bytes of a file. */
+
+/* The cells at each vertex, rising, as places in planner_cells' list: those of vertex v stand in touching from starts[v] on, up to starts[v + 1]. Returns how many vertices
+ * there are; one number more is needed of starts, and d+1 numbers for each cell of touching. Refused: 1, 2, 3, 4, 6, 5, 12 (working lists), 7, 12 (starts, touching).
+ * Working lists as planner_cells. */
+uint64_t planner_incidence(
+    uint32_t d, const uint32_t *words, size_t n, uint32_t *starts, size_t starts_len, uint32_t *touching, size_t touching_len, uint32_t *keys, size_t keys_len,
+    uint32_t *rows, size_t rows_len, uint32_t *spare, size_t spare_len, uint32_t *counts, size_t counts_len);
+
+/* The faces of dimension k, k+1 vertices each, in colex order without repeats. Returns how many; k+1 times as many numbers are needed of faces. Refused: 1, 2, 3, 4, 6, 5,
+ * 12 (working lists), 7, 24 (k above d), 12 (faces). */
+uint64_t planner_faces(
+    uint32_t d, uint32_t k, const uint32_t *words, size_t n, uint32_t *faces, size_t faces_len, uint32_t *keys, size_t keys_len, uint32_t *rows, size_t rows_len,
+    uint32_t *spare, size_t spare_len, uint32_t *counts, size_t counts_len);
+
+/* The boundary operator from the faces of dimension k to those of dimension k - 1: entry i is signs[i], +1 or -1, in row faces[i] and column cofaces[i], places in the
+ * lists of planner_faces; by rising coface, then by dropped position. Returns how many entries there are, the length needed of each of the three lists. Refused: 1, 2, 3,
+ * 4, 6, 5, 12 (working lists), 7, 24 (k is 0 or above d), 12 (signs, faces, cofaces). */
+uint64_t planner_boundary(
+    uint32_t d, uint32_t k, const uint32_t *words, size_t n, int32_t *signs, size_t signs_len, uint32_t *faces, size_t faces_len, uint32_t *cofaces, size_t cofaces_len,
+    uint32_t *keys, size_t keys_len, uint32_t *rows, size_t rows_len, uint32_t *spare, size_t spare_len, uint32_t *counts, size_t counts_len);
+
+/* The same operator as a Matrix Market file: coordinate, integer, general, rows and columns counted from one, the entries in that order, one final line feed. Returns how
+ * many bytes it has, the length needed of bytes; 83 and 34 for each entry are enough. Refused: as planner_boundary, 12 (bytes) last. */
+uint64_t planner_matrix_market(
+    uint32_t d, uint32_t k, const uint32_t *words, size_t n, uint8_t *bytes, size_t bytes_len, uint32_t *keys, size_t keys_len, uint32_t *rows, size_t rows_len,
     uint32_t *spare, size_t spare_len, uint32_t *counts, size_t counts_len);
 
 /* ---- cells dropped from a mesh */
