@@ -37,10 +37,12 @@ REFINED = [("1-D, 2,047 edges, R 2", words_of(2047, O), 2, words_of(511, O), 2),
            ("3-D torus 3 x 4 x 7, R 2", words_of(3, P, 4, P, 7, P), 2, words_of(3, P, 7, P, 1, O), 2), ("one tetrahedron, R 16", listed(3, [(0, 1, 2, 3)]), 16, listed(3, [(0, 1, 2, 3)]), 10)]
 GRID_CALLS = ["reduce", "crossing", "swath", "nvertices", "is_orientation_preserving", "cell_words", "triangulate_ordered", "edge_lengths_sq", "edge_length_sq",
               "chained_nvertices", "chained_classes", "chained_closed_classes", "chained_cell_words"]
-LIST_CALLS = ["cells", "edges", "facets", "border", "orientation", "orientation_looks", "orient_by", "ordering", "induced_orientation"]
+LIST_CALLS = ["cells", "edges", "facets", "border", "orientation", "orientation_looks", "orient_by", "ordering", "induced_orientation", "drop_cells", "incidence", "faces", "boundary", "matrix_market"]
 REFINE_CALLS = ["refine", "refine_with"]
+NOT_IN_RUST = {"chained_nvertices", "chained_classes", "chained_closed_classes", "chained_cell_words", "crossing", "edge_length_sq", "orientation_looks", "drop_cells", "incidence", "faces", "boundary", "matrix_market", "corners", "corners_stepping", "refine_by_steps", "geojson"}
+BY_STEPS = [("one triangle, R 4", listed(2, [(0, 1, 2)]), 4, listed(2, [(0, 1, 2)]), 2), ("one tetrahedron, R 4", listed(3, [(0, 1, 2, 3)]), 4, listed(3, [(0, 1, 2, 3)]), 2)]
+STEP_CALLS = ["corners", "corners_stepping", "refine", "refine_by_steps"]
 BANDS = [("band 2048 x 1", grid(2048, P, 1, O), grid(512, P, 1, O)), ("band 64 x 32", grid(64, P, 32, O), grid(32, P, 16, O))]
-NOT_IN_RUST = {"chained_nvertices", "chained_classes", "chained_closed_classes", "chained_cell_words", "crossing", "geojson", "edge_length_sq", "orientation_looks"}
 RUST_CALL = {"swath": "reduce"}                                 # all points in a loop
 CONSTANT = {"nvertices", "is_orientation_preserving"}          # made a thousand times in one run: they do not grow
 
@@ -96,6 +98,9 @@ def cases():
             yield call, name, Case(call, whole), Case(call, quarter)
     for name, whole, r, quarter, s in REFINED:
         for call in REFINE_CALLS:
+            yield call, name, Case(call, whole, r), Case(call, quarter, s)
+    for name, whole, r, quarter, s in BY_STEPS:
+        for call in STEP_CALLS:
             yield call, name, Case(call, whole, r), Case(call, quarter, s)
 
 

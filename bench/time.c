@@ -10,9 +10,10 @@
 #define MOST 400000
 #define RUNS 1000
 
-static uint32_t axes[8], words[MOST], order[MOST];
+static uint32_t axes[8], words[MOST], order[MOST], second[MOST];          /* second: every second number */
 static int32_t signs[MOST], wholes[MOST];
 static double sides[4], floats[MOST], shares[MOST];
+static uint8_t bytes[8 * MOST];
 static uint32_t out[MOST], more[MOST], parents[MOST], vertices[MOST], weights[MOST], room[10][MOST];
 static uint8_t bytes[4 * MOST];
 static size_t naxes, nsides, nwords, norder, nsigns;
@@ -71,7 +72,15 @@ __attribute__((noinline)) static uint64_t once(const char *call) {
     if (!strcmp(call, "orient_by")) return planner_orient_by(d, WORDS, signs, nsigns, ROOM);
     if (!strcmp(call, "ordering")) return planner_ordering(d, WORDS, order, norder, OUT, ROOM);
     if (!strcmp(call, "induced_orientation")) return planner_induced_orientation(d, WORDS, order, norder, ROOM);
+    if (!strcmp(call, "incidence")) return planner_incidence(d, WORDS, OUT, more, MOST, ROOM);
+    if (!strcmp(call, "faces")) return planner_faces(d, d - 1, WORDS, OUT, ROOM);
+    if (!strcmp(call, "boundary")) return planner_boundary(d, d, WORDS, signs, MOST, OUT, more, MOST, ROOM);
+    if (!strcmp(call, "matrix_market")) return planner_matrix_market(d, d, WORDS, bytes, sizeof bytes, ROOM);
+    if (!strcmp(call, "drop_cells")) return planner_drop_cells(d, WORDS, second, nwords / (d + 1) / 2, OUT, more, MOST, ROOM, &total);
     if (!strcmp(call, "refine")) return planner_refine(d, r, WORDS, REFINED);
+    if (!strcmp(call, "refine_by_steps")) return planner_refine_by_steps(d, r, WORDS, REFINED);
+    if (!strcmp(call, "corners")) return planner_corners(d, r, OUT);
+    if (!strcmp(call, "corners_stepping")) return planner_corners_stepping(d, r, OUT);
     if (!strcmp(call, "refine_with")) return planner_refine_with(d, r, WORDS, order, norder, REFINED);
     fprintf(stderr, "unknown call %s\n", call);
     exit(1);
@@ -95,6 +104,7 @@ static int rising(const void *a, const void *b) { return (*(const double *)a > *
 
 int main(int argc, char **argv) {
     char call[64];
+    for (uint32_t i = 0; i < MOST; i++) second[i] = 2 * i;
     int most = argc > 1 ? atoi(argv[1]) : RUNS;          /* 1: every call once, to count instructions */
     while (scanf("%63s %u %u", call, &d, &r) == 3) {
         static double t[RUNS];

@@ -202,7 +202,10 @@ def rust_lists(d, f):
     return [words(f["cells"]), words(f["words"]), [int(c[0]) for c in children], jacobians, vertices, shares]
 
 
-def refinement(j, c, order, r):
+BOTH = ("", "_by_steps")                                                   # the pattern from the table where it has it, and by the stepping rule
+
+
+def refinement(j, c, order, r, paths=BOTH[:1]):
     """one refinement, by the caller's words where there is an order"""
     name = "planner_refine" if order is None else "planner_refine_with"
     lists = [("u32", c.ws)] + ([] if order is None else [("u32", order)])
@@ -225,18 +228,20 @@ def refinement(j, c, order, r):
             j.agree("refinement by %d of %s" % (r, c.line[:200]), [results[i] for i in (0, 1, 2, 3, 5, 7)] + [vertices],
                     rust_lists(c.d, rust) + [int(rust["nvertices"])] if rust else None)
     want = Want(c.early, need_, late, value=len(results[2]) if results else 0, results=list(zip(REFINED, results)))
-    j.call(name, [c.d, r], lists, REFINED, want, fixed=("u32", [vertices] if results else [], 1))
+    for path in paths:
+        j.call(name + path, [c.d, r], lists, REFINED, want, fixed=("u32", [vertices] if results else [], 1))
 
 
 def refine(j, c):
     """along the sorted vertices, and along an order"""
     if [name for name in ("planner_refine", "planner_refine_with") if j.lacks(name)]:
         return
+    paths = BOTH if not [name for name in ("planner_refine_by_steps", "planner_refine_with_by_steps") if j.lacks(name)] else BOTH[:1]
     most = len(c.cells) if c.fine else 1
     r = inputs.refinement_for(j.rnd, c.d, most)
-    refinement(j, c, None, r)
+    refinement(j, c, None, r, paths)
     order = inputs.order_for(j.rnd, c.d, c.cells) if c.fine else [j.rnd.randrange(5) for _ in range(j.rnd.randrange(9))]
-    refinement(j, c, order, r if j.rnd.random() < 0.5 else inputs.refinement_for(j.rnd, c.d, most))
+    refinement(j, c, order, r if j.rnd.random() < 0.5 else inputs.refinement_for(j.rnd, c.d, most), paths)
 
 
 CELL_CALLS = [cells, edges, facets, border, orientation, orient_by, ordering]

@@ -5,6 +5,7 @@ import sys
 
 import calls
 import inputs
+import patterns
 from judge import Judge, Rust
 from port import Port
 
@@ -51,6 +52,8 @@ def run(port, oracle, seed, count):
     cell_lists(j, inputs.limit_lists(), refined=8)
     grids(j, rnd, inputs.small_grids())
     grids(j, rnd, inputs.limit_grids())
+    patterns.patterns(j, rnd)
+    patterns.refinements(j, rnd, [inputs.random_list(rnd) for _ in range(60)])
     begun = j.requests
     while j.requests - begun < count and (j.requests or not j.missing):
         for _ in range(2):

@@ -132,4 +132,5 @@ class Judge:
     # how many working lists a call has, where it is not four
     LISTS = {name: 0 for name in ("planner_torus", "planner_klein", "planner_moebius", "planner_quasi_uniform", "planner_reduce", "planner_nvertices",
                                   "planner_is_orientation_preserving", "planner_edge_length_sq")}
-    LISTS.update(planner_refine=10, planner_refine_with=10)
+    LISTS.update(planner_refine=10, planner_refine_with=10, planner_refine_by_steps=10, planner_refine_with_by_steps=10)
+    LISTS.update(planner_corners=0, planner_corners_stepping=0)

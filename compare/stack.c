@@ -6,7 +6,7 @@
 #include <ucontext.h>
 #include "../include/planner.h"
 
-enum { BOUND = 8 * 1024, STACK = 512 * 1024, LONG = 1 << 20 };
+enum { BOUND = 8 * 1024, MESH_BOUND = 72 * 1024, STACK = 512 * 1024, LONG = 1 << 20 };
 static ucontext_t home, away;
 static unsigned char *stack;
 static uint64_t answer;
@@ -15,7 +15,8 @@ static int32_t signed_lists[2][LONG];
 static double floats[3][LONG], sides[3] = {1.0, 1.0, 1.0};
 static uint32_t solid[6] = {8, PLANNER_PERIODIC, 8, PLANNER_PERIODIC, 10, PLANNER_PERIODIC};
 static uint32_t chain[24] = {0, 1, 2, 3, 1, 2, 3, 4, 2, 3, 4, 5, 3, 4, 5, 6, 4, 5, 6, 7, 5, 6, 7, 8};
-static size_t n;
+static uint8_t file[LONG];
+static size_t n, cells_len, file_len;
 
 #define ROOM(k) lists[k], LONG, lists[k + 1], LONG, lists[k + 2], LONG, lists[k + 3], LONG
 #define REFINED lists[0], LONG, lists[1], LONG, lists[2], LONG, floats[0], LONG, signed_lists[0], LONG, lists[3], LONG, lists[4], LONG, floats[1], LONG, lists[5], LONG, \
@@ -34,6 +35,8 @@ static void triangulate(void) { answer = planner_triangulate_ordered(3, solid, 6
 static void lengths(void) { answer = planner_edge_lengths_sq(3, solid, 6, sides, 3, floats[0], LONG, ROOM(0)); }
 static void length(void) { answer = planner_edge_length_sq(3, 0, 1, solid, 6, sides, 3, floats[0]); }
 static void cells(void) { answer = planner_cells(3, words, n, lists[4], LONG, ROOM(0)); }
+static void write_mesh(void) { answer = planner_write_mesh(3, lists[4], cells_len, NULL, 0, NULL, 0, file, LONG, ROOM(0)); }
+static void read_mesh(void) { answer = planner_read_mesh(file, file_len, lists[5], LONG, lists[6], LONG, lists[7], LONG, ROOM(0), fixed); }
 static void edges(void) { answer = planner_edges(3, words, n, lists[4], LONG, ROOM(0)); }
 static void facets(void) { answer = planner_facets(3, words, n, lists[4], LONG, lists[5], LONG, ROOM(0)); }
 static void border(void) { answer = planner_border(3, words, n, lists[4], LONG, ROOM(0)); }
@@ -45,11 +48,12 @@ static void induced(void) { answer = planner_induced_orientation(3, words, n, wo
 static void refine(void) { answer = planner_refine(3, 8, chain, 24, REFINED); }
 static void refine_with(void) { answer = planner_refine_with(3, 8, chain, 24, chain, 24, REFINED); }
 
-static const struct { const char *name; void (*call)(void); } calls[] = {
-    {"cell_words", cell_words}, {"torus", torus}, {"klein", klein}, {"moebius", moebius}, {"quasi_uniform", quasi_uniform}, {"reduce", reduce}, {"crossing", crossing},
-    {"nvertices", nvertices}, {"is_orientation_preserving", preserving}, {"triangulate_ordered", triangulate}, {"edge_lengths_sq", lengths}, {"edge_length_sq", length},
-    {"cells", cells}, {"edges", edges}, {"facets", facets}, {"border", border}, {"orientation", orientation}, {"orientation_looks", looks}, {"orient_by", orient_by},
-    {"ordering", ordering}, {"induced_orientation", induced}, {"refine", refine}, {"refine_with", refine_with},
+/* those with a bound of their own have it in their text */
+static const struct { const char *name; void (*call)(void); size_t bound; } calls[] = {
+    {"cell_words", cell_words, BOUND}, {"torus", torus, BOUND}, {"klein", klein, BOUND}, {"moebius", moebius, BOUND}, {"quasi_uniform", quasi_uniform, BOUND}, {"reduce", reduce, BOUND}, {"crossing", crossing, BOUND},
+    {"nvertices", nvertices, BOUND}, {"is_orientation_preserving", preserving, BOUND}, {"triangulate_ordered", triangulate, BOUND}, {"edge_lengths_sq", lengths, BOUND}, {"edge_length_sq", length, BOUND},
+    {"cells", cells, BOUND}, {"write_mesh", write_mesh, BOUND}, {"read_mesh", read_mesh, MESH_BOUND}, {"edges", edges, BOUND}, {"facets", facets, BOUND}, {"border", border, BOUND}, {"orientation", orientation, BOUND}, {"orientation_looks", looks, BOUND}, {"orient_by", orient_by, BOUND},
+    {"ordering", ordering, BOUND}, {"induced_orientation", induced, BOUND}, {"refine", refine, BOUND}, {"refine_with", refine_with, BOUND},
 };
 
 /* The bytes of the stack that the call wrote to, from its top down to the lowest. */
@@ -73,12 +77,18 @@ int main(void) {
     for (size_t i = 0; i < sizeof calls / sizeof *calls; i++) {
         size_t bytes = taken(calls[i].call);
         if (calls[i].call == cell_words) n = 4 * (size_t)planner_value(answer);
+        if (calls[i].call == cells) cells_len = 4 * (size_t)planner_value(answer);
+        if (calls[i].call == write_mesh) file_len = planner_value(answer);
         if (planner_number(answer) != 0) {
             printf("stack: %s was refused with %u\n", calls[i].name, planner_number(answer));
+            return 1;
+        }
+        if (bytes >= calls[i].bound) {
+            printf("stack: %s takes %zu bytes\n", calls[i].name, bytes);
             return 1;
         }
         if (bytes > most) { most = bytes; deepest = calls[i].name; }
     }
     printf("stack: %zu calls, the most is %zu bytes, by %s\n", sizeof calls / sizeof *calls, most, deepest);
-    return most < BOUND ? 0 : 1;
+    return 0;
 }

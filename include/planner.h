@@ -18,9 +18,9 @@
  *
  * A GRID is its dimension d, a list `axes` with two numbers for each axis, its count of cells and its gluing, and a list `sides` where the
  * call reads them. A gluing is PLANNER_OPEN, PLANNER_PERIODIC or PLANNER_TWISTED(mask), where bit j of the mask is set if axis j is
- * reflected. Of the other numbers 1 to 255 are open and 257 to 511 periodic. An axis that is not in the list has no cells (refused with 8),
- * one whose count is in the list and whose gluing is not is open, a side that is not there is 0 (refused with 10). What stands past d is not
- * looked at.
+ * reflected. Of the other numbers 1 to 255 are open, 257 to 511 periodic, and from 768 on only the lowest byte counts as the mask. An axis
+ * that is not in the list has no cells (refused with 8), one whose count is in the list and whose gluing is not is open, a side that is not
+ * there is 0 (refused with 10). What stands past d is not looked at.
  *
  * FLOATS are rounded to the nearest, as a program starts out; where the caller has set another rounding mode, lengths, shares and counts made
  * from sides follow it. STACK: a call takes less than 8 KB of the thread's stack, unless its text tells
@@ -69,7 +69,9 @@ enum {
     PLANNER_BAD_LATITUDES = 19,     /* south not below north, or either beyond 90 degrees */
     PLANNER_FILE_ENDS = 20,         /* a mesh file ends inside a record, or before the record that ends it */
     PLANNER_UNKNOWN_KIND = 21,      /* a mesh file has a record of an unknown kind */
-    PLANNER_BAD_FILE = 22           /* a mesh file has a wrong length, order, count, field or birth, or bytes after its end */
+    PLANNER_BAD_FILE = 22,          /* a mesh file has a wrong length, order, count, field or birth, or bytes after its end */
+    PLANNER_NO_SUCH_CELL = 23,      /* a set of cells names one that is not there */
+    PLANNER_BAD_FACES = 24          /* a dimension of faces that the call has none of */
 };
 
 /* ---- grids */
@@ -246,6 +248,48 @@ uint64_t planner_induced_orientation(
     uint32_t d, const uint32_t *words, size_t n, const uint32_t *order, size_t order_len, uint32_t *keys, size_t keys_len, uint32_t *rows, size_t rows_len,
     uint32_t *spare, size_t spare_len, uint32_t *counts, size_t counts_len);
 
+/* ---- faces by dimension, the boundary operator, the cells at each vertex
+ *
+ * The calls on faces need, where m is the number of words, rows, spare and counts of 1, 2, 6, 12 times m elements each in dimension 0, 1, 2, 3, and keys of 1, 2, 6, 24
+ * times m: no result has more elements than rows has, but for the bytes of a file. */
+
+/* The cells at each vertex, rising, as places in planner_cells' list: those of vertex v stand in touching from starts[v] on, up to starts[v + 1]. Returns how many vertices
+ * there are; one number more is needed of starts, and d+1 numbers for each cell of touching. Refused: 1, 2, 3, 4, 6, 5, 12 (working lists), 7, 12 (starts, touching).
+ * Working lists as planner_cells. */
+uint64_t planner_incidence(
+    uint32_t d, const uint32_t *words, size_t n, uint32_t *starts, size_t starts_len, uint32_t *touching, size_t touching_len, uint32_t *keys, size_t keys_len,
+    uint32_t *rows, size_t rows_len, uint32_t *spare, size_t spare_len, uint32_t *counts, size_t counts_len);
+
+/* The faces of dimension k, k+1 vertices each, in colex order without repeats. Returns how many; k+1 times as many numbers are needed of faces. Refused: 1, 2, 3, 4, 6, 5,
+ * 12 (working lists), 7, 24 (k above d), 12 (faces). */
+uint64_t planner_faces(
+    uint32_t d, uint32_t k, const uint32_t *words, size_t n, uint32_t *faces, size_t faces_len, uint32_t *keys, size_t keys_len, uint32_t *rows, size_t rows_len,
+    uint32_t *spare, size_t spare_len, uint32_t *counts, size_t counts_len);
+
+/* The boundary operator from the faces of dimension k to those of dimension k - 1: entry i is signs[i], +1 or -1, in row faces[i] and column cofaces[i], places in the
+ * lists of planner_faces; by rising coface, then by dropped position. Returns how many entries there are, the length needed of each of the three lists. Refused: 1, 2, 3,
+ * 4, 6, 5, 12 (working lists), 7, 24 (k is 0 or above d), 12 (signs, faces, cofaces). */
+uint64_t planner_boundary(
+    uint32_t d, uint32_t k, const uint32_t *words, size_t n, int32_t *signs, size_t signs_len, uint32_t *faces, size_t faces_len, uint32_t *cofaces, size_t cofaces_len,
+    uint32_t *keys, size_t keys_len, uint32_t *rows, size_t rows_len, uint32_t *spare, size_t spare_len, uint32_t *counts, size_t counts_len);
+
+/* The same operator as a Matrix Market file: coordinate, integer, general, rows and columns counted from one, the entries in that order, one final line feed. Returns how
+ * many bytes it has, the length needed of bytes; 83 and 34 for each entry are enough. Refused: as planner_boundary, 12 (bytes) last. */
+uint64_t planner_matrix_market(
+    uint32_t d, uint32_t k, const uint32_t *words, size_t n, uint8_t *bytes, size_t bytes_len, uint32_t *keys, size_t keys_len, uint32_t *rows, size_t rows_len,
+    uint32_t *spare, size_t spare_len, uint32_t *counts, size_t counts_len);
+
+/* ---- cells dropped from a mesh */
+
+/* The words of the cells that do not go, in the order given and by new vertex numbers; `gone` names cells by their places in planner_cells' list, in any order, and a place
+ * given twice counts once. Vertices that no word has any more are freed; the others are numbered without gaps in their old order, and old has the old number of each.
+ * Returns how many words stay, a word given twice counted twice: d+1 times as many numbers are needed of kept. vertices[0] gets how many vertices they have, the length
+ * needed of old; a refusal leaves it as it was. Refused: 1, 2, 3, 4, 6, 5, 12 (working lists), 7, 23 (a place past the last cell), 2 (all cells would go), 12 (kept,
+ * old). Working lists as planner_cells. */
+uint64_t planner_drop_cells(
+    uint32_t d, const uint32_t *words, size_t n, const uint32_t *gone, size_t gone_len, uint32_t *kept, size_t kept_len, uint32_t *old, size_t old_len,
+    uint32_t *keys, size_t keys_len, uint32_t *rows, size_t rows_len, uint32_t *spare, size_t spare_len, uint32_t *counts, size_t counts_len, uint32_t vertices[1]);
+
 /* ---- refinement: every cell is cut into r^d children, along a word of its vertices
  *
  * Results, m children in the colex order of the refined cells and b births, the new vertices in the order of their numbers, which follow the coarse ones:
@@ -258,7 +302,7 @@ uint64_t planner_induced_orientation(
  *   birth_weights    (d+1) * b   their weights, whole numbers over r, then 0
  *   birth_shares     (d+1) * b   weight times (1/r), then 0.0
  *   vertices[0]                  how many vertices there are, coarse and new together
- * The call returns m. Refused: 1, 2, 3, 4, 6, 5, 12 (working lists), 7, 16 (planner_refine_with), 11 (r outside 1 to 64), 3 and 6 (of the refined complex), 12 (a result
+ * The call returns m. Refused: 1, 2, 3, 4, 6, 5, 12 (working lists), 7, 16 (planner_refine_with and its sibling below), 11 (r outside 1 to 64), 3 and 6 (of the refined complex), 12 (a result
  * list). Working lists, where c is the lesser of 4,096 and (n / (d + 1)) * r^d (r as 1 where it is outside 1 to 64) and k = c * (d + 1): cells n, along n,
  * pattern (d + 1) * k, keys 4 * n + 8 * k, rows n + k, spare n + k, counts n + k + 65, sorted k, firsts c, buckets 4,096. */
 
@@ -279,6 +323,34 @@ uint64_t planner_refine_with(
     size_t birth_shares_len, uint32_t *cells, size_t cells_len, uint32_t *along, size_t along_len, uint32_t *pattern, size_t pattern_len, uint32_t *keys, size_t keys_len,
     uint32_t *rows, size_t rows_len, uint32_t *spare, size_t spare_len, uint32_t *counts, size_t counts_len, uint32_t *sorted, size_t sorted_len, uint32_t *firsts,
     size_t firsts_len, uint32_t *buckets, size_t buckets_len, uint32_t vertices[1]);
+
+/* The same two with the pattern of a cell made by the stepping rule and never read from the table: they say and write what planner_refine and planner_refine_with do, on
+ * every input. */
+uint64_t planner_refine_by_steps(
+    uint32_t d, uint32_t r, const uint32_t *words, size_t n,
+    uint32_t *out_cells, size_t out_cells_len, uint32_t *out_words, size_t out_words_len, uint32_t *parents, size_t parents_len, double *jacobians, size_t jacobians_len,
+    int32_t *wholes, size_t wholes_len, uint32_t *birth_vertices, size_t birth_vertices_len, uint32_t *birth_weights, size_t birth_weights_len, double *birth_shares,
+    size_t birth_shares_len, uint32_t *cells, size_t cells_len, uint32_t *along, size_t along_len, uint32_t *pattern, size_t pattern_len, uint32_t *keys, size_t keys_len,
+    uint32_t *rows, size_t rows_len, uint32_t *spare, size_t spare_len, uint32_t *counts, size_t counts_len, uint32_t *sorted, size_t sorted_len, uint32_t *firsts,
+    size_t firsts_len, uint32_t *buckets, size_t buckets_len, uint32_t vertices[1]);
+
+uint64_t planner_refine_with_by_steps(
+    uint32_t d, uint32_t r, const uint32_t *words, size_t n, const uint32_t *order, size_t order_len,
+    uint32_t *out_cells, size_t out_cells_len, uint32_t *out_words, size_t out_words_len, uint32_t *parents, size_t parents_len, double *jacobians, size_t jacobians_len,
+    int32_t *wholes, size_t wholes_len, uint32_t *birth_vertices, size_t birth_vertices_len, uint32_t *birth_weights, size_t birth_weights_len, double *birth_shares,
+    size_t birth_shares_len, uint32_t *cells, size_t cells_len, uint32_t *along, size_t along_len, uint32_t *pattern, size_t pattern_len, uint32_t *keys, size_t keys_len,
+    uint32_t *rows, size_t rows_len, uint32_t *spare, size_t spare_len, uint32_t *counts, size_t counts_len, uint32_t *sorted, size_t sorted_len, uint32_t *firsts,
+    size_t firsts_len, uint32_t *buckets, size_t buckets_len, uint32_t vertices[1]);
+
+/* ---- the pattern of one cell: the corners of its children
+ *
+ * The children of a cell of dimension d refined by r, in the order in which a refinement visits them, their corners in the order of each child's word; a corner is d+1
+ * weights over the places of the cell's word, whole numbers over r. corners gets r^d * (d+1) * (d+1) numbers; the call returns r^d * (d+1), the number of corners. Refused:
+ * 1, 11 (r outside 1 to 64), 3 (r^d is more than the limit of cells), 12; then no number changes. */
+uint64_t planner_corners(uint32_t d, uint32_t r, uint32_t *corners, size_t corners_len);
+
+/* The same by the stepping rule alone, also for dimensions 2 and 3 refined by 2, 3 and 4, which planner_corners reads from a table: equal on every input. */
+uint64_t planner_corners_stepping(uint32_t d, uint32_t r, uint32_t *corners, size_t corners_len);
 
 /* ---- one child, one birth by number, read from the lists that a refinement handed out. (The word of cell number k of an order or a cell list is the d+1 numbers from
  * place k * (d+1) of its list on.) */
@@ -316,7 +388,7 @@ uint64_t planner_write_mesh(
 /* Reads a file and returns how many cells it has; shape gets the dimension and how many births and pairs there are. For any file words of bytes_len / 4, births of
  * bytes_len / 8 and pairs of bytes_len / 3 numbers are long enough, keys of 3 * (bytes_len / 4) and rows, spare and counts of bytes_len / 4; no accepted file has more than
  * 16,384 numbers in words, 12,288 in births and 524,288 in pairs. Refused: 20, 21, 22 as the bytes come, then 1, 2, 3, 4, 6, 5, 12 (working lists), 7, 12 (a result list). A
- * refusal leaves shape as it was. The call takes 64 KB of stack. */
+ * refusal leaves shape as it was. STACK: less than 72 KB. */
 uint64_t planner_read_mesh(
     const uint8_t *bytes, size_t bytes_len, uint32_t *words, size_t words_len, uint32_t *births, size_t births_len, uint32_t *pairs, size_t pairs_len, uint32_t *keys,
     size_t keys_len, uint32_t *rows, size_t rows_len, uint32_t *spare, size_t spare_len, uint32_t *counts, size_t counts_len, uint32_t shape[3]);

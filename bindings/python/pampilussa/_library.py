@@ -55,6 +55,13 @@ SIGNATURES: Dict[str, str] = {
     "planner_induced_orientation": "u32 u32[] u32[]" + ROOM,
     "planner_refine": "u32 u32 u32[]" + REFINED,
     "planner_refine_with": "u32 u32 u32[] u32[]" + REFINED,
+    "planner_drop_cells": "u32 u32[] u32[] u32[&] u32[&]" + ROOM + " u32&",
+    "planner_incidence": "u32 u32[] u32[&] u32[&]" + ROOM,
+    "planner_faces": "u32 u32 u32[] u32[&]" + ROOM,
+    "planner_boundary": "u32 u32 u32[] i32[&] u32[&] u32[&]" + ROOM,
+    "planner_matrix_market": "u32 u32 u32[] u8[&]" + ROOM,
+    "planner_geojson": "u32 i32 i32 u32[] u8[&]" + ROOM,
+    "planner_corners": "u32 u32 u32[&]",
     "planner_write_mesh": "u32 u32[] u32[] u32[] u8[&]" + ROOM,
     "planner_read_mesh": "u8[] u32[&] u32[&] u32[&]" + ROOM + " u32&",
     "planner_child_of": "u32 u32[] f64[] i32[] f64& i32&",
@@ -91,6 +98,15 @@ def loaded() -> ctypes.CDLL:
 
 _library: Any = None
 _functions: Dict[str, Callable[..., int]] = {}
+
+
+def has(name: str) -> bool:
+    """Whether the library that is found has this function; an older one may lack the newest."""
+    try:
+        function(name)
+    except AttributeError:
+        return False
+    return True
 
 
 def function(name: str) -> Callable[..., int]:

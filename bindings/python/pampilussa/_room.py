@@ -1,4 +1,5 @@
 """How long the lists of a call must be: docs/ROOM.md in code. d is the dimension, n the number of corners of the words."""
+from math import comb
 from typing import List
 
 from .refused import MOST_CELLS, MOST_DIMENSION
@@ -23,6 +24,14 @@ def edges(d: int, n: int) -> List[int]:
 
 def ordered(d: int, n: int) -> List[int]:
     return [(max(1, d) + 2) * n, n, n, n]
+
+
+def faces(d: int, n: int) -> List[int]:
+    """The calls on faces; no result but a file is longer than the second."""
+    words = corners(d, n) // (d + 1)
+    each = [comb(d + 1, e + 1) * (e + 1) for e in range(d + 1)] if words else [0]
+    rows = max(each) * words
+    return [max([d + 1] + [x * e for e, x in enumerate(each)]) * words, rows, rows, rows]
 
 
 def lengths(d: int, n: int) -> List[int]:

@@ -4,6 +4,7 @@ from typing import Any, List, NamedTuple, Optional, Tuple
 import numpy as np
 
 from ._library import call, needed, numbers, room, whole
+from ._room import faces as face_room
 from .refined import Refined, refine
 from .refused import Refused
 
@@ -19,6 +20,17 @@ class Facets(NamedTuple):
     """Its lower cell and its other cell, by row of Complex.cells; the other is NO_CELL in the border."""
     dropped: np.ndarray
     """The position of the vertex that the facet drops, in each of the two cells."""
+
+
+class Boundary(NamedTuple):
+    """A boundary operator by its entries, by rising coface, then by dropped position."""
+
+    signs: np.ndarray
+    """1 or -1: the sign that the dropped position induces."""
+    faces: np.ndarray
+    """The row of each entry: a row of faces(k - 1)."""
+    cofaces: np.ndarray
+    """The column of each entry: a row of faces(k)."""
 
 
 class Order(NamedTuple):
@@ -191,6 +203,76 @@ class Complex:
         """
         words = numbers(order, "order")
         return self._call("induced_orientation", words, *room(self._need("induced_orientation")), order=words) == 1
+
+    def drop_cells(self, gone: Any) -> "Tuple[Complex, np.ndarray]":
+        """The complex without these cells (rows of cells), its vertices numbered without gaps in their old order, and the old number of each.
+
+        >>> import pampilussa as pa
+        >>> left, old = pa.Complex([[0, 1, 2], [1, 2, 3]]).drop_cells([0])
+        >>> left.cells.tolist(), old.tolist()
+        ([[0, 1, 2]], [1, 2, 3])
+        """
+        named = numbers(gone, "the cells to be dropped")
+        most, *need = self._need("cells")
+        kept, old, vertices = np.empty(most, np.uint32), np.empty(most, np.uint32), np.zeros(1, np.uint32)
+        count = self._call("drop_cells", named, kept, old, *room(need), vertices, gone=named, cells=self.ncells)
+        return Complex(kept[:count * (self.d + 1)], self.d), old[:int(vertices[0])]
+
+    def incidence(self) -> List[np.ndarray]:
+        """To each vertex its cells, rising (rows of cells).
+
+        >>> import pampilussa as pa
+        >>> [at.tolist() for at in pa.Complex([[0, 1, 2], [1, 2, 3]]).incidence()]
+        [[0], [0, 1], [0, 1], [1]]
+        """
+        most, *need = self._need("cells")
+        starts, touching = np.empty(most + 1, np.uint32), np.empty(most, np.uint32)
+        count = self._call("incidence", starts, touching, *room(need))
+        return np.split(touching[:int(starts[count])], starts[1:count].astype(int))
+
+    def faces(self, k: int) -> np.ndarray:
+        """The faces of dimension k, k+1 rising vertices each, in colex order. Refused with 24 where k is above d.
+
+        >>> import pampilussa as pa
+        >>> pa.Complex([[0, 1, 2]]).faces(1).tolist()
+        [[0, 1], [0, 2], [1, 2]]
+        """
+        need = face_room(self.d, self._words.size)
+        out = np.empty(need[1], np.uint32)
+        count = self._with("faces", k, out, need)
+        return out[:count * (k + 1)].reshape(count, k + 1)
+
+    def boundary(self, k: int) -> Boundary:
+        """The boundary operator from the faces of dimension k to those of dimension k - 1. Refused with 24 where k is 0 or above d.
+
+        >>> import pampilussa as pa
+        >>> edge = pa.Complex([[0, 1]]).boundary(1)
+        >>> edge.signs.tolist(), edge.faces.tolist(), edge.cofaces.tolist()
+        ([1, -1], [1, 0], [0, 0])
+        """
+        need = face_room(self.d, self._words.size)
+        lists = np.empty(need[1], np.int32), np.empty(need[1], np.uint32), np.empty(need[1], np.uint32)
+        count = self._with("boundary", k, *lists, need)
+        return Boundary(*(x[:count] for x in lists))
+
+    def matrix_market(self, k: int) -> bytes:
+        """The same operator as a Matrix Market file, which scipy.io.mmread reads.
+
+        >>> import pampilussa as pa
+        >>> print(pa.Complex([[0, 1]]).matrix_market(1).decode(), end="")
+        %%MatrixMarket matrix coordinate integer general
+        2 1 2
+        2 1 1
+        1 1 -1
+        """
+        need = face_room(self.d, self._words.size)
+        out = np.empty(83 + 34 * need[1], np.uint8)
+        return out[:self._with("matrix_market", k, out, need)].tobytes()
+
+    def _with(self, name: str, k: int, *given: Any) -> int:
+        """A call on the faces of dimension k; the last given is what it needs of the working lists."""
+        *lists, need = given
+        return call("planner_" + name, self.d, whole(k, "k"), self._words, *lists, *room(need), d=self.d, words=self._words)
 
     def refine(self, r: int, order: Any = None) -> Refined:
         """Every cell cut into r**d children, along its sorted vertices or along an order's word for it.

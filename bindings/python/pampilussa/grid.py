@@ -351,6 +351,20 @@ class Grid:
         count = self._ask("planner_edge_lengths_sq", self._axes, self._sides(), lengths, *room(need))
         return lengths[:count]
 
+    def geojson(self, south: int, north: int) -> bytes:
+        """The band as an RFC 7946 GeoJSON file, between two latitudes in whole degrees and once round the earth; axis 0 joined (P), axis 1 open (O).
+
+        One Polygon for each cell, none across 180 degrees; a feature's id is the cell's row in Complex.cells.
+        """
+        south, north = int(south), int(north)
+        if not -2 ** 31 <= south < 2 ** 31 or not -2 ** 31 <= north < 2 ** 31:
+            raise ValueError("a latitude is a whole number of degrees")
+        most, *need = self._need("cell_words")
+        cells = most // (self.d + 1)
+        out = np.empty(43 + 276 * cells, np.uint8)
+        size = call("planner_geojson", self.d, south, north, self._axes, out, *room(need), d=self.d, axes=self._axes, south=south, north=north)
+        return out[:size].tobytes()
+
     def edge_length_sq(self, one: int, other: int) -> Union[float, Clash, None]:
         """The squared length of the edge between two glued vertices, the two that clash first, or None where there is no such edge.
 

@@ -5,6 +5,7 @@ import numpy as np
 
 from . import _room
 from ._library import call, room, whole
+from .refused import MOST_CELLS
 
 if TYPE_CHECKING:
     from .complex import Complex
@@ -109,6 +110,15 @@ class Refined:
         padded = np.vstack([given, np.zeros((1, given.shape[1]))])
         at = np.where(self.births.vertices == NO_VERTEX, self.coarse, self.births.vertices)
         return np.vstack([given, (padded[at] * self.births.shares[:, :, None]).sum(axis=1)])
+
+
+def corners(d: int, r: int) -> np.ndarray:
+    """The pattern of one cell of dimension d refined by r: for each child, for each corner, the weights over the places of the cell's word, whole numbers over r."""
+    d, r = whole(d, "d"), whole(r, "r")
+    most = min(r ** min(d, 3), MOST_CELLS) * (min(d, 3) + 1) ** 2 if r <= 64 else 0
+    out = np.empty(most, np.uint32)
+    count = call("planner_corners", d, r, out, d=d, r=r, words=[])
+    return out[:count * (d + 1)].reshape(-1, d + 1, d + 1)
 
 
 def refine(d: int, words: np.ndarray, r: int, order: Optional[np.ndarray]) -> Refined:

@@ -53,6 +53,8 @@ def dimension(place: int, about: Any) -> str:
 
 
 def ragged(place: int, about: Any) -> str:
+    if "gone" in about:
+        return "all cells would go; leave at least one"
     if len(about["words"]) == 0:
         return "there are no cells; give at least one word"
     return "the words have %d numbers, no multiple of %d; a cell of dimension %d has %d vertices" % (len(about["words"]), about["d"] + 1, about["d"], about["d"] + 1)

@@ -142,3 +142,18 @@ def test_any_grid_is_answered(axes, sides):
             ask()
         except pa.Refused as refused:
             assert refused.number in (1, 3, 6, 7, 8, 9, 10, 15) and len(refused.sentence) > 10
+
+
+@MANY
+@given(word_lists(), st.data())
+def test_dropped_cells(words, data):
+    made = taken(words)
+    gone = data.draw(st.lists(st.integers(0, made.ncells)))
+    try:
+        left, old = made.drop_cells(gone)
+    except pa.Refused as refused:
+        assert refused.number == (23 if made.ncells in gone else 2) and (made.ncells in gone or len(set(gone)) == made.ncells)
+        return
+    kept = [c for i, c in enumerate(plain.cells_of(words)) if i not in gone]
+    assert old.tolist() == sorted({v for c in kept for v in c})
+    assert sorted(tuple(old[c].tolist()) for c in left.cells) == sorted(kept)

@@ -1,11 +1,6 @@
 //! Mesh files: a mesh's words and births as bytes, to be carried home and read again.
 use crate::complex::{corners, with_room};
-use crate::{Refined, Refusal};
-
-extern "C" {
-    fn planner_write_mesh(d: u32, words: *const u32, words_len: usize, births: *const u32, births_len: usize, pairs: *const u32, pairs_len: usize, bytes: *mut u8, bytes_len: usize, keys: *mut u32, keys_len: usize, rows: *mut u32, rows_len: usize, spare: *mut u32, spare_len: usize, counts: *mut u32, counts_len: usize) -> u64;
-    fn planner_read_mesh(bytes: *const u8, bytes_len: usize, words: *mut u32, words_len: usize, births: *mut u32, births_len: usize, pairs: *mut u32, pairs_len: usize, keys: *mut u32, keys_len: usize, rows: *mut u32, rows_len: usize, spare: *mut u32, spare_len: usize, counts: *mut u32, counts_len: usize, shape: *mut u32) -> u64;
-}
+use crate::{raw, Refined, Refusal};
 
 /// A vertex that a refinement made.
 #[derive(Clone, Debug, PartialEq, Eq, Hash)]
@@ -73,7 +68,7 @@ pub fn write_mesh(mesh: &Mesh) -> Result<Vec<u8>, Refusal> {
     let pairs: Vec<u32> = mesh.births.iter().flat_map(|birth| birth.pairs.iter().flat_map(|pair| [pair.0, pair.1])).collect();
     let mut bytes = vec![0u8; 16 + 10 * n + 5 * births.len() + 3 * pairs.len()];
     let size = with_room!(
-        planner_write_mesh, room(mesh.d, n), mesh.d, mesh.words.as_ptr(), mesh.words.len(), births.as_ptr(), births.len(), pairs.as_ptr(), pairs.len(), bytes.as_mut_ptr(), bytes.len()
+        raw::planner_write_mesh, room(mesh.d, n), mesh.d, mesh.words.as_ptr(), mesh.words.len(), births.as_ptr(), births.len(), pairs.as_ptr(), pairs.len(), bytes.as_mut_ptr(), bytes.len()
     )?;
     bytes.truncate(size as usize);
     Ok(bytes)
@@ -101,7 +96,7 @@ pub fn read_mesh(bytes: &[u8]) -> Result<Mesh, Refusal> {
     let mut lists = room(3, n).map(|n| vec![0u32; n]);
     let [keys, rows, spare, counts] = &mut lists;
     let cells = crate::answer::said(unsafe {
-        planner_read_mesh(
+        raw::planner_read_mesh(
             bytes.as_ptr(), bytes.len(), words.as_mut_ptr(), words.len(), births.as_mut_ptr(), births.len(), pairs.as_mut_ptr(), pairs.len(), keys.as_mut_ptr(), keys.len(),
             rows.as_mut_ptr(), rows.len(), spare.as_mut_ptr(), spare.len(), counts.as_mut_ptr(), counts.len(), shape.as_mut_ptr(),
         )

@@ -52,7 +52,7 @@ pub struct Refined {
 /// assert_eq!(planner::refine(2, &[0, 1, 2], 0).unwrap_err().number, 11);
 /// ```
 pub fn refine(d: u32, words: &[u32], r: u32) -> Result<Refined, Refusal> {
-    refined(d, words, None, r)
+    refined(d, words, None, r, false)
 }
 
 /// Refines every cell by r along the word that the order has for it. Refused with 16 where the order words are not one for each cell.
@@ -63,7 +63,25 @@ pub fn refine(d: u32, words: &[u32], r: u32) -> Result<Refined, Refusal> {
 /// assert_eq!(refined.children[1].word, [1, 2]);
 /// ```
 pub fn refine_with(d: u32, words: &[u32], order: &[u32], r: u32) -> Result<Refined, Refusal> {
-    refined(d, words, Some(order), r)
+    refined(d, words, Some(order), r, false)
+}
+
+/// [`refine`] with the pattern of a cell made by the stepping rule and never read from the table: equal on every input.
+///
+/// ```
+/// assert_eq!(planner::refine_by_steps(2, &[0, 1, 2], 3), planner::refine(2, &[0, 1, 2], 3));
+/// ```
+pub fn refine_by_steps(d: u32, words: &[u32], r: u32) -> Result<Refined, Refusal> {
+    refined(d, words, None, r, true)
+}
+
+/// [`refine_with`] with the pattern of a cell made by the stepping rule and never read from the table: equal on every input.
+///
+/// ```
+/// assert_eq!(planner::refine_with_by_steps(2, &[0, 1, 2], &[1, 0, 2], 2), planner::refine_with(2, &[0, 1, 2], &[1, 0, 2], 2));
+/// ```
+pub fn refine_with_by_steps(d: u32, words: &[u32], order: &[u32], r: u32) -> Result<Refined, Refusal> {
+    refined(d, words, Some(order), r, true)
 }
 
 /// How many children there may be, at most the limit; r counts as 1 where it is refused.
@@ -72,7 +90,7 @@ fn most_children(d: u32, n: usize, r: u32) -> usize {
     (n / (d as usize + 1) * r.pow(d.min(3))).min(4096)
 }
 
-fn refined(d: u32, words: &[u32], order: Option<&[u32]>, r: u32) -> Result<Refined, Refusal> {
+fn refined(d: u32, words: &[u32], order: Option<&[u32]>, r: u32, by_steps: bool) -> Result<Refined, Refusal> {
     let n = corners(d, words);
     let size = d as usize + 1;
     let c = most_children(d, n, r);
@@ -96,9 +114,11 @@ fn refined(d: u32, words: &[u32], order: Option<&[u32]>, r: u32) -> Result<Refin
             }
         };
     }
-    let answer = match order {
-        None => call!(raw::planner_refine,),
-        Some(order) => call!(raw::planner_refine_with, order.as_ptr(), order.len()),
+    let answer = match (order, by_steps) {
+        (None, false) => call!(raw::planner_refine,),
+        (None, true) => call!(raw::planner_refine_by_steps,),
+        (Some(order), false) => call!(raw::planner_refine_with, order.as_ptr(), order.len()),
+        (Some(order), true) => call!(raw::planner_refine_with_by_steps, order.as_ptr(), order.len()),
     };
     let count = said(answer)? as usize;
     let coarse = words.iter().max().map_or(0, |v| v + 1);

@@ -66,6 +66,7 @@ fn work(
     sorted: &mut [u32],
     firsts: &mut [u32],
     buckets: &mut [u32],
+    by_steps: bool,
 ) -> Refinement
     requires { ⌜ Working d (now given) r (now cells) (now along) (now pattern) (now keys) (now rows) (now spare) (now counts) (now sorted) (now firsts) (now buckets) ⌝ }
     ensures { λ res. ⌜ Worked d (now (given .entry)) r (OrderedBy «with_order» d (now (given .entry)) (now (order .entry))) (wordsAlong «with_order» d (now (given .entry)) (now (order .entry))) res (now («out_cells» .entry)) (now («out_cells» .exit)) (now («out_words» .entry)) (now («out_words» .exit)) (now (parents .entry)) (now (parents .exit)) (now (jacobians .entry)) (now (jacobians .exit)) (now (wholes .entry)) (now (wholes .exit)) (now («birth_vertices» .entry)) (now («birth_vertices» .exit)) (now («birth_weights» .entry)) (now («birth_weights» .exit)) (now («birth_shares» .entry)) (now («birth_shares» .exit)) ⌝ }
@@ -110,6 +111,7 @@ fn work(
                 sorted,
                 firsts,
                 buckets,
+                by_steps,
             )
         }
     }
@@ -140,6 +142,7 @@ fn cleared(
     sorted: &mut [u32],
     firsts: &mut [u32],
     buckets: &mut [u32],
+    by_steps: bool,
 ) -> Refinement
     requires { ⌜ Working d (now given) r (now cells) (now along) (now pattern) (now keys) (now rows) (now spare) (now counts) (now sorted) (now firsts) (now buckets) ⌝ }
     ensures work { λ res. ⌜ Worked d (now (given .entry)) r (OrderedBy «with_order» d (now (given .entry)) (now (order .entry))) (wordsAlong «with_order» d (now (given .entry)) (now (order .entry))) res (now («out_cells» .entry)) (now («out_cells» .exit)) (now («out_words» .entry)) (now («out_words» .exit)) (now (parents .entry)) (now (parents .exit)) (now (jacobians .entry)) (now (jacobians .exit)) (now (wholes .entry)) (now (wholes .exit)) (now («birth_vertices» .entry)) (now («birth_vertices» .exit)) (now («birth_weights» .entry)) (now («birth_weights» .exit)) (now («birth_shares» .entry)) (now («birth_shares» .exit)) ⌝ }
@@ -169,6 +172,7 @@ fn cleared(
         sorted,
         firsts,
         buckets,
+        by_steps,
     );
     room::clear_ten(
         cells,
@@ -185,7 +189,7 @@ fn cleared(
     said
 }
 
-// Both calls: the refinement by r along the words of an order where there is one, else along the cells' sorted vertices.
+// All four calls: the refinement by r along the words of an order where there is one, else along the cells' sorted vertices.
 fn refinement(
     with_order: bool,
     d: u32,
@@ -210,6 +214,7 @@ fn refinement(
     sorted: &mut [u32],
     firsts: &mut [u32],
     buckets: &mut [u32],
+    by_steps: bool,
 ) -> Refinement
     ensures { λ res. ⌜ Refining d (now (given .entry)) r (OrderedBy «with_order» d (now (given .entry)) (now (order .entry))) (wordsAlong «with_order» d (now (given .entry)) (now (order .entry))) res (now («out_cells» .entry)) (now («out_cells» .exit)) (now («out_words» .entry)) (now («out_words» .exit)) (now (parents .entry)) (now (parents .exit)) (now (jacobians .entry)) (now (jacobians .exit)) (now (wholes .entry)) (now (wholes .exit)) (now («birth_vertices» .entry)) (now («birth_vertices» .exit)) (now («birth_weights» .entry)) (now («birth_weights» .exit)) (now («birth_shares» .entry)) (now («birth_shares» .exit)) (now (cells .entry)) (now (cells .exit)) (now (along .entry)) (now (along .exit)) (now (pattern .entry)) (now (pattern .exit)) (now (keys .entry)) (now (keys .exit)) (now (rows .entry)) (now (rows .exit)) (now (spare .entry)) (now (spare .exit)) (now (counts .entry)) (now (counts .exit)) (now (sorted .entry)) (now (sorted .exit)) (now (firsts .entry)) (now (firsts .exit)) (now (buckets .entry)) (now (buckets .exit)) ⌝ }
 {
@@ -268,6 +273,7 @@ fn refinement(
         &mut sorted[..t],
         &mut firsts[..f],
         &mut buckets[..u],
+        by_steps,
     )
 }
 
@@ -323,6 +329,7 @@ pub fn refine(
         sorted,
         firsts,
         buckets,
+        false,
     )
 }
 
@@ -377,5 +384,115 @@ pub fn refine_with(
         sorted,
         firsts,
         buckets,
+        false,
+    )
+}
+
+// As `refine`, with the pattern made by the stepping rule and never read from the table: it says and writes the same, on every input.
+pub fn refine_by_steps(
+    d: u32,
+    given: &[u32],
+    r: u32,
+    out_cells: &mut [u32],
+    out_words: &mut [u32],
+    parents: &mut [u32],
+    jacobians: &mut [f64],
+    wholes: &mut [i32],
+    birth_vertices: &mut [u32],
+    birth_weights: &mut [u32],
+    birth_shares: &mut [f64],
+    cells: &mut [u32],
+    along: &mut [u32],
+    pattern: &mut [u32],
+    keys: &mut [u32],
+    rows: &mut [u32],
+    spare: &mut [u32],
+    counts: &mut [u32],
+    sorted: &mut [u32],
+    firsts: &mut [u32],
+    buckets: &mut [u32],
+) -> Refinement
+    ensures { λ res. ⌜ Refining d (now (given .entry)) r (Unit {0}) (cellsOf d (now (given .entry))) res (now («out_cells» .entry)) (now («out_cells» .exit)) (now («out_words» .entry)) (now («out_words» .exit)) (now (parents .entry)) (now (parents .exit)) (now (jacobians .entry)) (now (jacobians .exit)) (now (wholes .entry)) (now (wholes .exit)) (now («birth_vertices» .entry)) (now («birth_vertices» .exit)) (now («birth_weights» .entry)) (now («birth_weights» .exit)) (now («birth_shares» .entry)) (now («birth_shares» .exit)) (now (cells .entry)) (now (cells .exit)) (now (along .entry)) (now (along .exit)) (now (pattern .entry)) (now (pattern .exit)) (now (keys .entry)) (now (keys .exit)) (now (rows .entry)) (now (rows .exit)) (now (spare .entry)) (now (spare .exit)) (now (counts .entry)) (now (counts .exit)) (now (sorted .entry)) (now (sorted .exit)) (now (firsts .entry)) (now (firsts .exit)) (now (buckets .entry)) (now (buckets .exit)) ⌝ }
+{
+    refinement(
+        false,
+        d,
+        given,
+        given,
+        r,
+        out_cells,
+        out_words,
+        parents,
+        jacobians,
+        wholes,
+        birth_vertices,
+        birth_weights,
+        birth_shares,
+        cells,
+        along,
+        pattern,
+        keys,
+        rows,
+        spare,
+        counts,
+        sorted,
+        firsts,
+        buckets,
+        true,
+    )
+}
+
+// As `refine_with`, with the pattern made by the stepping rule and never read from the table: it says and writes the same, on every input.
+pub fn refine_with_by_steps(
+    d: u32,
+    given: &[u32],
+    order: &[u32],
+    r: u32,
+    out_cells: &mut [u32],
+    out_words: &mut [u32],
+    parents: &mut [u32],
+    jacobians: &mut [f64],
+    wholes: &mut [i32],
+    birth_vertices: &mut [u32],
+    birth_weights: &mut [u32],
+    birth_shares: &mut [f64],
+    cells: &mut [u32],
+    along: &mut [u32],
+    pattern: &mut [u32],
+    keys: &mut [u32],
+    rows: &mut [u32],
+    spare: &mut [u32],
+    counts: &mut [u32],
+    sorted: &mut [u32],
+    firsts: &mut [u32],
+    buckets: &mut [u32],
+) -> Refinement
+    ensures { λ res. ⌜ Refining d (now (given .entry)) r (Orders d (cellsOf d (now (given .entry))) (now (order .entry))) (orderWords d (now (given .entry)) (now (order .entry))) res (now («out_cells» .entry)) (now («out_cells» .exit)) (now («out_words» .entry)) (now («out_words» .exit)) (now (parents .entry)) (now (parents .exit)) (now (jacobians .entry)) (now (jacobians .exit)) (now (wholes .entry)) (now (wholes .exit)) (now («birth_vertices» .entry)) (now («birth_vertices» .exit)) (now («birth_weights» .entry)) (now («birth_weights» .exit)) (now («birth_shares» .entry)) (now («birth_shares» .exit)) (now (cells .entry)) (now (cells .exit)) (now (along .entry)) (now (along .exit)) (now (pattern .entry)) (now (pattern .exit)) (now (keys .entry)) (now (keys .exit)) (now (rows .entry)) (now (rows .exit)) (now (spare .entry)) (now (spare .exit)) (now (counts .entry)) (now (counts .exit)) (now (sorted .entry)) (now (sorted .exit)) (now (firsts .entry)) (now (firsts .exit)) (now (buckets .entry)) (now (buckets .exit)) ⌝ }
+{
+    refinement(
+        true,
+        d,
+        given,
+        order,
+        r,
+        out_cells,
+        out_words,
+        parents,
+        jacobians,
+        wholes,
+        birth_vertices,
+        birth_weights,
+        birth_shares,
+        cells,
+        along,
+        pattern,
+        keys,
+        rows,
+        spare,
+        counts,
+        sorted,
+        firsts,
+        buckets,
+        true,
     )
 }

@@ -10,9 +10,8 @@ use lib.Seq.{length-take-le}
 use borrow.Author.Tests.{lt-ltb, le-ltb}
 use Rattle.refusal.specs.Lent.{onto}
 use Rattle.multiindex.specs.Permutation.{orders, orderOf}
-use Rattle.multiindex.specs.Cartesian.{raised}
 use Rattle.refine_lattice.specs.Children.{pick}
-use Rattle.refine_pattern.specs.WorkChains.{chainAt, keeps, weighed, given, stepOf, Stands}
+use Rattle.refine_pattern.specs.WorkChains.{chainAt, keeps, weighed, given, risen, stepOf, Stands}
 use Rattle.refine_pattern.specs.declared.Cursor.{Cursor}
 use Rattle.refine_pattern.proofs.Chains.{order-long, weighed-length}
 
@@ -45,21 +44,21 @@ module _ (d R : ℕ) (c : Cursor) (s : Stands d R c) where
       let g = given-no R (chainAt d c) q in
       (ap length (sym g), ap (λ (x : List ℕ). onto x to) (sym g))
 
-module _ (d n : ℕ) (c : Cursor) where
+module _ (d R : ℕ) (c : Cursor) where
   abbrev onward : ℕ → Cursor
   onward k = record { base = c .base; order = k }
 
   abbrev anew : List ℕ → Cursor
   anew new = record { base = new ++ drop d (c .base); order = 0 }
 
-  pub step-on : c .order + 1 < length (orders d) → onward (c .order + 1) ≡ stepOf d n c
+  pub step-on : c .order + 1 < length (orders d) → onward (c .order + 1) ≡ stepOf d R c
   step-on h =
       ap onward (add-one (c .order))
       ∙ sym
-      (ap (λ (b : Bool). pick b (onward (suc (c .order))) (anew (raised n (take d (c .base))))) (lt-ltb (suc (c .order)) (length (orders d)) (omega arith)))
+      (ap (λ (b : Bool). pick b (onward (suc (c .order))) (anew (risen R (take d (c .base))))) (lt-ltb (suc (c .order)) (length (orders d)) (omega arith)))
 
-  pub step-over : (new : List ℕ) → length (orders d) ≤ c .order + 1 → new ≡ raised n (take d (c .base)) → anew new ≡ stepOf d n c
+  pub step-over : (new : List ℕ) → length (orders d) ≤ c .order + 1 → new ≡ risen R (take d (c .base)) → anew new ≡ stepOf d R c
   step-over new h e =
       ap anew e
       ∙ sym
-      (ap (λ (b : Bool). pick b (onward (suc (c .order))) (anew (raised n (take d (c .base))))) (le-ltb (suc (c .order)) (length (orders d)) (omega arith)))
+      (ap (λ (b : Bool). pick b (onward (suc (c .order))) (anew (risen R (take d (c .base))))) (le-ltb (suc (c .order)) (length (orders d)) (omega arith)))

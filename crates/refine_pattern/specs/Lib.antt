@@ -1,1 +1,3 @@
 pub mod WorkChains
+pub mod Table
+pub mod Promise

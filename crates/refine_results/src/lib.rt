@@ -54,7 +54,8 @@ fn inside(r: u32) -> bool
     r <= MOST_REFINEMENT
 }
 
-// Finds the pattern, the children's words in visiting order and the births: says how many children and how many births there are, or 11, 3 or 6.
+// Finds the pattern, by the stepping rule where the caller wants it so, the children's words in visiting order and the births: says how many children and how many births
+// there are, or 11, 3 or 6.
 fn seek(
     d: usize,
     r: u32,
@@ -66,6 +67,7 @@ fn seek(
     rows: &mut [u32],
     spare: &mut [u32],
     counts: &mut [u32],
+    by_steps: bool,
 ) -> Refinement
     requires { ⌜ Seeking d r n m (now along) (now pattern) (now keys) (now rows) (now spare) (now counts) ⌝ }
     ensures { λ said. ⌜ Sought d r n m (now (along .entry)) (now (pattern .exit)) (now (keys .exit)) (now (spare .exit)) (now (counts .exit)) said ⌝ }
@@ -78,7 +80,7 @@ fn seek(
     if MOST_CELLS < children {
         return Refinement::Refused(TOO_MANY_CELLS, 0);
     }
-    refine_pattern::pattern(d, r, pattern);
+    refine_pattern::pattern(d, r, pattern, by_steps);
     let corners = size * (d + 1);
     let born = refine_births::resolve(
         d,
@@ -308,6 +310,7 @@ fn finish(
 }
 
 // The refinement of m cells, which stand in `coarse`, along their words in `along`: the results, and how many children and how many vertices there are, or 11, 3, 6, 12.
+// The pattern is made by the stepping rule where the caller wants it so; nothing else depends on it.
 pub fn refined(
     d: usize,
     r: u32,
@@ -331,6 +334,7 @@ pub fn refined(
     sorted: &mut [u32],
     firsts: &mut [u32],
     buckets: &mut [u32],
+    by_steps: bool,
 ) -> Refinement
     requires { ⌜ Ready d r n m (now coarse) (now along) (now pattern) (now keys) (now rows) (now spare) (now counts) (now sorted) (now firsts) (now buckets) ⌝ }
     ensures { λ said.
@@ -338,7 +342,19 @@ pub fn refined(
         (now (parents .entry)) (now (parents .exit)) (now (jacobians .entry)) (now (jacobians .exit)) (now (wholes .entry)) (now (wholes .exit))
         (now («birth_vertices» .entry)) (now («birth_vertices» .exit)) (now («birth_weights» .entry)) (now («birth_weights» .exit)) (now («birth_shares» .entry)) (now («birth_shares» .exit)) ⌝ }
 {
-    let said = seek(d, r, n, m, along, pattern, keys, rows, spare, counts);
+    let said = seek(
+        d,
+        r,
+        n,
+        m,
+        along,
+        pattern,
+        keys,
+        rows,
+        spare,
+        counts,
+        by_steps,
+    );
     let Refinement::Made(children, born) = said else {
         return said;
     };

@@ -1,174 +1,49 @@
--- The first m chains have given what they give, and the cursor stands at the next. Assumes nothing.
-use mathlib.Core.Path.{_≡_, refl, sym, ap, _∙_, subst}
-use mathlib.Core.List.{[], _∷_, _++_}
-use Prim.Native.Nat.{ℕ, zero, suc, _+_, _*_, _^_, _≤_, _<_, _-_}
-use native.Mathlib.Numerals.{add-one}
-use native.Mathlib.Nat.{mul-le-mul}
-use native.Mathlib.Omega.{arith}
+-- `pattern` meets its contract: both ways promise it. Assumes nothing.
 use borrow.Author.Needs.{needs}
-use lib.ListN.{length, take, drop, replicate}
-use Rattle.multiindex.proofs.Tables.{count-most, count-some}
-use Rattle.multiindex.proofs.Digits.{power-most}
-use Rattle.refine_lattice.specs.Children.{chains}
-use Rattle.refine_pattern.specs.WorkChains.{Steps, stepOf}
-use Rattle.refine_pattern.specs.declared.Cursor.{Cursor}
-use Rattle.refine_pattern.proofs.Filled.{Filled, filled-none, filled-long, filled-at, filled-stands, filled-room, filled-part, filled-steps, filled-next, filled-end, chains-length}
 use Rattle.refine_pattern.proofs.pattern.Statement.{statement}
 use Rattle.refine_pattern.proofs.pattern.Tie as tie
 
-abbrev Inv-loop : tie.InvT-loop
-Inv-loop d r to₀ n chains c₀ at₀ m₀ to c at m = Filled d r to₀ m c at to
+stepped-requires : tie.Need-stepped-requires
+stepped-requires c κs = search needs
 
-abbrev μ-loop : tie.MeasureT-loop
-μ-loop d r to₀ n chains c₀ at₀ m₀ to c at m = chains - m
+same-length : tie.Need-same-length
+same-length c = search needs
 
--- the first base
-zeros : (d : ℕ) → d ≤ 3 → take {A = ℕ} d (0 ∷ 0 ∷ 0 ∷ []) ≡ replicate d 0
-zeros zero h = refl
-zeros (suc zero) h = refl
-zeros (suc (suc zero)) h = refl
-zeros (suc (suc (suc zero))) h = refl
-zeros (suc (suc (suc (suc d)))) h = absurd (omega arith)
+returns : tie.Need-returns
+returns c = search needs
 
--- how many chains there are fits
-fit : (c : tie.After-count2 Inv-loop μ-loop) → c .before .count .result * c .count2 .result ≤ 1970324836974592
-fit c =
-    let a = c .before .before .before in
-    let n : c .before .count .result ≤ 281474976710656 =
-    omega (arith, c .before .count .ensures, power-most (a .args .d) (a .args .r + 1) (a .pre .axes) (omega (arith, a .pre .most))) in
-    let k : c .count2 .result ≤ 7 = omega (arith, c .count2 .ensures, count-most (a .args .d) (a .pre .axes)) in
-    omega (arith, mul-le-mul n k)
+has-requires : tie.Need-has-requires
+has-requires c κs = search needs
 
-module _ (l : tie.At-loop Inv-loop μ-loop) where
-  long : length (l .loop .to) ≡ length (l .before .before .before .before .args .to .now)
-  long = filled-long _ _ _ (l .before .before .before .before .pre) _ _ _ _ (l .loop .inv)
+tabled-requires : tie.Need-tabled-requires
+tabled-requires c κs = (c .before .before .has .ensures .yes (c .before .if2 .taken), c .before .before .before .before .before .pre)
 
-  reached : l .loop .at ≤ length (l .loop .to)
-  reached = filled-at _ _ _ (l .before .before .before .before .pre) _ _ _ _ (l .loop .inv)
+same-length-2 : tie.Need-same-length-2
+same-length-2 c = search needs
 
-  total : l .before .before .count .result * l .before .count2 .result ≡ length (chains (l .before .before .before .before .args .d) (l .before .before .before .before .args .r))
-  total =
-      let a = l .before .before .before .before in
-      ap (λ (x : ℕ). x * l .before .count2 .result) (l .before .before .count .ensures ∙ ap (λ (n : ℕ). n ^ a .args .d) (add-one (a .args .r)))
-      ∙ ap (λ (x : ℕ). suc (a .args .r) ^ a .args .d * x) (l .before .count2 .ensures)
-      ∙ sym (chains-length (a .args .d) (a .args .r))
+returns-2 : tie.Need-returns-2
+returns-2 c = search needs
 
-inside : (c : tie.In-loop Inv-loop μ-loop) → c .before .loop .m < length (chains (c .before .before .before .before .before .args .d) (c .before .before .before .before .before .args .r))
-inside c = omega (arith, c .loop-test .taken, total (c .before))
+stepped-requires-2 : tie.Need-stepped-requires-2
+stepped-requires-2 c κs = search needs
 
-add-n : tie.Need-add-n Inv-loop μ-loop
-add-n c = omega (arith, c .before .pre .most)
+same-length-3 : tie.Need-same-length-3
+same-length-3 c = search needs
 
-cast-count : tie.Need-cast-count Inv-loop μ-loop
-cast-count c = omega (arith, c .before .pre .most)
-
-count-requires : tie.Need-count-requires Inv-loop μ-loop
-count-requires c κs = (c .before .pre .axes, omega (arith, c .before .pre .most))
-
-count-requires-2 : tie.Need-count-requires-2 Inv-loop μ-loop
-count-requires-2 c κs = c .before .before .pre .axes
-
-mul-chains : tie.Need-mul-chains Inv-loop μ-loop
-mul-chains c = omega (arith, fit c)
-
-loop-holds : tie.Need-loop-holds Inv-loop μ-loop
-loop-holds c =
-    let a = c .before .before .before in
-    filled-none _ _ _ (a .pre) _ (a .pre .axes) (zeros (a .args .d) (a .pre .axes)) refl (count-some (a .args .d) (a .pre .axes))
-
-mul-give : tie.Need-mul-give Inv-loop μ-loop
-mul-give c = omega (arith, reached (c .before), long (c .before), c .before .before .before .before .before .good .1 .1 .0)
-
-sub-give : tie.Need-sub-give Inv-loop μ-loop
-sub-give c = reached (c .before)
-
-part-give-start : tie.Need-part-give-start Inv-loop μ-loop
-part-give-start c = reached (c .before)
-
-part-give-end : tie.Need-part-give-end Inv-loop μ-loop
-part-give-end c = search needs
-
-give-requires : tie.Need-give-requires Inv-loop μ-loop
-give-requires c κs =
-    let l = c .before .before in
-    let a = l .before .before .before .before in
-    record {
-      stands = filled-stands _ _ _ (a .pre) _ _ _ _ (l .loop .inv);
-      room = filled-part _ _ _ (a .pre) _ _ _ _ (l .loop .inv) (inside (c .before));
-    }
-
-step-requires : tie.Need-step-requires Inv-loop μ-loop
-step-requires c κs =
-    let l = c .before .before .before .before .before in
-    let a = l .before .before .before .before in
-    subst (λ (n : ℕ). Steps (a .args .d) n (l .loop .c)) (sym (add-one (a .args .r)))
-    (filled-steps _ _ _ (a .pre) _ _ _ _ (l .loop .inv) (inside (c .before .before .before .before)))
-
-add-at : tie.Need-add-at Inv-loop μ-loop
-add-at c =
-    let l = c .before .before .before .before .before .before in
-    let a = l .before .before .before .before in
-    omega (
-      arith,
-      filled-room _ _ _ (a .pre) _ _ _ _ (l .loop .inv) (inside (c .before .before .before .before .before)),
-      c .before .before .before .give .ensures .0,
-      long l,
-      a .good .1 .1 .0,
-    )
-
-add-m : tie.Need-add-m Inv-loop μ-loop
-add-m c =
-    let l = c .before .before .before .before .before .before in
-    omega (arith, c .before .before .before .before .before .loop-test .taken, fit (l .before))
-
-loop-less : tie.Need-loop-less Inv-loop μ-loop
-loop-less c =
-    let l = c .before .before .before .before .before .before in
-    omega (arith, c .before .before .before .before .before .loop-test .taken)
-
-loop-again : tie.Need-loop-again Inv-loop μ-loop
-loop-again c =
-    let l = c .before .before .before .before .before .before in
-    let a = l .before .before .before .before in
-    let f = c .before .before .before .give in
-    subst
-    (λ (s : Cursor).
-    Filled (a .args .d) (a .args .r) (a .args .to .now) (l .loop .m + 1) s (l .loop .at + f .result)
-    (take (l .loop .at) (l .loop .to) ++ (f .last .1 .1 .1 .0 ++ drop (length (l .loop .to) - l .loop .at) (drop (l .loop .at) (l .loop .to)))))
-    (sym (c .step .ensures ∙ ap (λ (n : ℕ). stepOf (a .args .d) n (l .loop .c)) (add-one (a .args .r))))
-    (filled-next _ _ _ (a .pre) _ _ _ _ (l .loop .inv) (inside (c .before .before .before .before .before))
-    (length (l .loop .to) - l .loop .at) (f .result) (f .last .1 .1 .1 .0) (omega (arith, reached l)) (f .ensures .0) (f .ensures .1))
-
-same-length : tie.Need-same-length Inv-loop μ-loop
-same-length c = long (c .before)
-
-returns : tie.Need-returns Inv-loop μ-loop
-returns c =
-    let l = c .before in
-    let a = l .before .before .before .before in
-    filled-end _ _ _ (a .pre) _ _ _ _ (l .loop .inv) (omega (arith, c .loop-test .left, total l))
+returns-3 : tie.Need-returns-3
+returns-3 c = search needs
 
 pub pattern-spec : {M : Type 1} → statement M
 pattern-spec =
     tie.close
     (tie.spec
-    Inv-loop
-    μ-loop
-    add-n
-    cast-count
-    count-requires
-    count-requires-2
-    mul-chains
-    loop-holds
-    mul-give
-    sub-give
-    part-give-start
-    part-give-end
-    give-requires
-    step-requires
-    add-at
-    add-m
-    loop-less
-    loop-again
+    stepped-requires
     same-length
-    returns)
+    returns
+    has-requires
+    tabled-requires
+    same-length-2
+    returns-2
+    stepped-requires-2
+    same-length-3
+    returns-3)

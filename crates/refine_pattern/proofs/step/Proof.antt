@@ -1,4 +1,4 @@
--- Either there is a next order, or the base is raised and the order is the first. Assumes nothing.
+-- Either there is a next order, or the base rises and the order is the first. Assumes nothing.
 use mathlib.Core.Path.{sym}
 use native.Mathlib.Omega.{arith}
 use borrow.Author.Needs.{needs}
@@ -17,25 +17,23 @@ count-requires c κs = search needs
 returns : tie.Need-returns
 returns c =
     let a = c .before .before .before .before in
-    step-on (a .args .d) (a .args .n) (a .args .c) (omega (arith, c .if1 .taken, c .before .count .ensures))
+    step-on (a .args .d) (a .args .r) (a .args .c) (omega (arith, c .if1 .taken, c .before .count .ensures))
 
 array-borrow-prefix-base : tie.Need-array-borrow-prefix-base
 array-borrow-prefix-base c = c .before .before .before .before .pre .wide
 
-slice-aggregate-next : tie.Need-slice-aggregate-next
-slice-aggregate-next c = sym (length-take-le _ _ (c .before .before .before .before .before .pre .wide))
+slice-aggregate-rise : tie.Need-slice-aggregate-rise
+slice-aggregate-rise c = sym (length-take-le _ _ (c .before .before .before .before .before .pre .wide))
 
-next-requires : tie.Need-next-requires
-next-requires c κs =
-    let a = c .before .before .before .before .before in
-    λ j h. a .pre .digits j (omega (arith, length-take-le (a .args .d) (a .args .c .base) (a .pre .wide)))
+rise-requires : tie.Need-rise-requires
+rise-requires c κs = search needs
 
 returns-2 : tie.Need-returns-2
 returns-2 c =
     let a = c .before .before .before .before .before .before .before in
-    step-over (a .args .d) (a .args .n) (a .args .c) (c .before .next .last .0)
+    step-over (a .args .d) (a .args .r) (a .args .c) (c .before .rise .last .1 .0)
     (omega (arith, c .before .before .before .if1 .left, c .before .before .before .before .count .ensures))
-    (c .before .next .ensures)
+    (c .before .rise .ensures)
 
 pub step-spec : {M : Type 1} → statement M
 step-spec =
@@ -45,6 +43,6 @@ step-spec =
     count-requires
     returns
     array-borrow-prefix-base
-    slice-aggregate-next
-    next-requires
+    slice-aggregate-rise
+    rise-requires
     returns-2)

@@ -108,11 +108,11 @@ returns-3 c =
     let g : c .before .before .before .before .before .before .before .before .before .before .before .before .before .before .before .before .before .before .before .before .before .count .result * (s .args .d + 1) ≡ s .args .r ^ s .args .d * suc (s .args .d) = ap (λ (x : ℕ). x * (s .args .d + 1)) sz ∙ ap (λ (x : ℕ). s .args .r ^ s .args .d * x) (add-one (s .args .d)) in
     sought-many (s .args .d) (s .args .r) (s .args .n) (s .args .m) (s .args .along .now) (s .args .pattern .now) (s .args .keys .now) (s .args .rows .now) (s .args .spare .now) (s .args .counts .now) (s .pre) w f (c .before .before .before .before .before .before .before .before .before .before .before .before .before .before .before .before .before .before .pattern .last .1 .1 .0) (c .before .before .before .before .before .before .before .before .before .before .before .before .before .before .before .before .before .before .pattern .ensures) (c .before .before .before .before .before .before .before .before .before .before .before .before .before .before .before .before .before .before .before .before .before .count .result * (s .args .d + 1)) g (c .before .before .before .before .before .before .before .before .before .before .resolve .result) (c .before .before .before .before .before .before .before .before .before .before .resolve .last .1 .1 .1 .1 .1 .1 .1 .0) (c .before .before .before .before .before .before .before .before .before .before .resolve .last .1 .1 .1 .1 .1 .1 .1 .1 .1 .0) (c .before .before .before .before .before .before .before .before .before .before .resolve .last .1 .1 .1 .1 .1 .1 .1 .1 .1 .1 .0) (c .before .before .before .before .before .before .before .before .before .before .resolve .ensures) (c .before .wide2 .result) (c .before .wide2 .ensures) (c .if3 .taken)
 
-cast-t32 : tie.Need-cast-t32
-cast-t32 c = search needs
-
 cast-t33 : tie.Need-cast-t33
 cast-t33 c = search needs
+
+cast-t34 : tie.Need-cast-t34
+cast-t34 c = search needs
 
 same-length-6 : tie.Need-same-length-6
 same-length-6 c = search needs
@@ -160,8 +160,8 @@ seek-spec =
     same-length-4
     same-length-5
     returns-3
-    cast-t32
     cast-t33
+    cast-t34
     same-length-6
     same-length-7
     same-length-8

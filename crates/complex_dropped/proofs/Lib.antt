@@ -1,0 +1,12 @@
+pub mod Counting
+pub mod Renaming
+pub mod Members
+pub mod Kept
+pub mod Nothing
+pub mod Loops
+pub mod Steps
+pub mod Outcome
+pub mod Entry
+pub mod Determined
+pub mod Calls
+pub mod Figures
