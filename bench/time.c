@@ -15,7 +15,7 @@ static int32_t signs[MOST], wholes[MOST];
 static double sides[4], floats[MOST], shares[MOST];
 static uint8_t bytes[8 * MOST];
 static uint32_t out[MOST], more[MOST], parents[MOST], vertices[MOST], weights[MOST], room[10][MOST];
-static uint8_t bytes[4 * MOST];
+static uint8_t file[4 * MOST];
 static size_t naxes, nsides, nwords, norder, nsigns;
 static uint32_t d, r;
 
@@ -62,7 +62,7 @@ __attribute__((noinline)) static uint64_t once(const char *call) {
     if (!strcmp(call, "triangulate_ordered")) return planner_triangulate_ordered(d, AXES, OUT, more, MOST, ROOM);
     if (!strcmp(call, "edge_lengths_sq")) return planner_edge_lengths_sq(d, AXES, sides, nsides, floats, MOST, ROOM);
     if (!strcmp(call, "edge_length_sq")) return planner_edge_length_sq(d, 0, 1, AXES, sides, nsides, squares);
-    if (!strcmp(call, "geojson")) return planner_geojson(d, -90, 90, AXES, bytes, sizeof bytes, ROOM);
+    if (!strcmp(call, "geojson")) return planner_geojson(d, -90, 90, AXES, file, sizeof file, ROOM);
     if (!strcmp(call, "cells")) return planner_cells(d, WORDS, OUT, ROOM);
     if (!strcmp(call, "edges")) return planner_edges(d, WORDS, OUT, ROOM);
     if (!strcmp(call, "facets")) return planner_facets(d, WORDS, OUT, more, MOST, ROOM);

@@ -1,8 +1,13 @@
-"""The pattern of a refined cell by both paths, held to document 01's rule and to the Rust's `unit_refinement`; and refinements at R 2 to 5 by both paths."""
+"""patterns.py LIBRARY ORACLE SEED COUNT: the pattern of a refined cell by both paths, held to document 01's rule and to the Rust's `unit_refinement`; and refinements at R 2 to 5 of
+COUNT random lists by both paths. The last line is 'compared N requests, 0 differences'. compare.py makes these requests too, of fewer lists."""
+import random
+import sys
+
 import calls
 import inputs
 import model as m
-from judge import Want
+from judge import Judge, Rust, Want
+from port import Port
 
 PATHS = ("planner_corners", "planner_corners_stepping")
 
@@ -49,3 +54,20 @@ def refinements(j, rnd, lists):
             order = inputs.order_for(rnd, d, c.cells) if c.fine else ws[:d + 1]
             for by in (None, order):
                 calls.refinement(j, c, by, r, calls.BOTH)
+
+
+def main():
+    library, oracle, seed, count = sys.argv[1], sys.argv[2], int(sys.argv[3]), int(sys.argv[4])
+    rnd = random.Random(seed)
+    j = Judge(Port(library), Rust(oracle), rnd)
+    patterns(j, rnd)
+    refinements(j, rnd, (inputs.random_list(rnd) for _ in range(count)))
+    for name in sorted(j.by_call):
+        print("%-36s %8d" % (name, j.by_call[name]))
+    print("answers: " + ", ".join("%s %d" % ("fine" if k == 0 else k, n) for k, n in sorted(j.by_answer.items())))
+    print("compared %d requests, %d differences" % (j.requests, j.differences))
+    sys.exit(1 if j.differences or j.missing or not j.requests else 0)
+
+
+if __name__ == "__main__":
+    main()

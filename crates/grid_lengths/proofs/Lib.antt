@@ -1,5 +1,6 @@
 -- Laws that the proofs of `grid_lengths` cite.
 pub mod Measuring
+pub mod Boxed
 pub mod Values
 pub mod Notes
 pub mod Gathered

@@ -8,7 +8,6 @@ use native.Mathlib.Nat.{eq-or-lt-of-le, le-of-suc-le-suc}
 use native.Mathlib.Numerals.{add-one}
 use native.Mathlib.Decide.{ℕ-discrete, decLt}
 use native.Mathlib.Omega.{arith}
-use lib.Dec.{eqb}
 use lib.Ieee.{Float}
 use lib.ListN.{length, getD, set, length-set}
 use lib.Seq.{getD-set-same, getD-set-other}
@@ -21,7 +20,7 @@ use Rattle.grid_lengths.specs.declared.EdgeLength.{EdgeLength}
 use Rattle.grid_lengths.specs.declared.EdgeLength.the-variants.{Length, Clash, NoEdge, Refused}
 use Rattle.grid_lengths.specs.Edges.{visitsOf, fromAt, toAt, squareAt, visitsEdge}
 use Rattle.grid_lengths.specs.Settled.{metBy, settleFrom, settle, onlyIf, valuesTo, edgeValues, afterVisit}
-use Rattle.grid_lengths.specs.Noted.{endOf, told, isLength, oneEdge, cameTo, Noting, Noted, Clashed}
+use Rattle.grid_lengths.specs.Noted.{told, isLength, oneEdge, cameTo, Noting, Noted, Clashed}
 use Rattle.grid_lengths.proofs.Values.{values-more, settle-append}
 
 -- what the first r visits of the edge of visit x come to
@@ -149,12 +148,6 @@ module _ (g : Grid) (ids last₀ : List ℕ) (w : Noting g ids last₀) where
       }
 
 -- ---- the calls put together
-pub end-even : (g : Grid) (i p v : ℕ) → eqb (i % 2) 0 ≡ true → p ≡ fromAt g (i / 2) → v ≡ vertexOf g p → v ≡ endOf g i
-end-even g i p v e hp hv = hv ∙ rw (e, hp)
-
-pub end-odd : (g : Grid) (i p v : ℕ) → eqb (i % 2) 0 ≡ false → p ≡ toAt g (i / 2) → v ≡ vertexOf g p → v ≡ endOf g i
-end-odd g i p v e hp hv = hv ∙ rw (e, hp)
-
 pub told-some : (g : Grid) (n : ℕ) (x : Float) → (n ≡ 0 → ⊥) → x ≡ squareAt g (n - 1) → Length x ≡ told g n
 told-some g zero x h e = absurd (h refl)
 told-some g (suc n) x h e = ap Length (e ∙ ap (squareAt g) (let w : suc n - 1 ≡ n = omega arith in w))

@@ -1,8 +1,9 @@
 -- What the work on a grid that is taken asks of its lists, of just the lengths that are needed, and what it gives. Assumes nothing.
 use mathlib.Core.List.{List, [], _∷_}
-use mathlib.Core.Bool.{Bool, true}
+use mathlib.Core.Bool.{Bool, true, cond}
 use mathlib.Core.Path.{_≡_}
-use Prim.Native.Nat.{ℕ, suc, _<_, _≤_, min, max}
+use Prim.Native.Nat.{ℕ, suc, _*_, _/_, _%_, _<_, _≤_, min, max}
+use lib.Dec.{eqb}
 use lib.Ieee.{Float}
 use lib.ListN.{length, getD}
 use Rattle.refusal.specs.declared.Answer.the-variants.{Fine}
@@ -11,9 +12,34 @@ use Rattle.refusal.specs.Lent.{onto}
 use Rattle.quotient.specs.declared.Grid.{Grid}
 use Rattle.quotient.specs.Shape.{checkOf}
 use Rattle.quotient.specs.Reduce.{vertexOf}
-use Rattle.grid_lengths.specs.Edges.{visitsOf, fromAt, toAt, edgesOf}
+use Rattle.quotient.specs.Points.{pointsOf}
+use Rattle.lists.specs.Tables.{tab}
+use Rattle.grid_words.specs.WorkNumbered.{eachBox}
+use Rattle.grid_lengths.specs.Edges.{edgesEach, visitsOf, fromAt, toAt, squareAt, edgesOf}
 use Rattle.grid_lengths.specs.Noted.{oneEdge}
 use Rattle.grid_lengths.specs.Lengths.{endsRoom, LengthsEnd}
+
+-- how many visits a box has
+abbrev pub visitsEach : Grid → ℕ
+visitsEach g = eachBox g * edgesEach (g .d)
+
+-- the grid point at end i, and those of the visits of the first box
+abbrev pub endPoint : Grid → ℕ → ℕ
+endPoint g i = cond (eqb (i % 2) 0) (fromAt g (i / 2)) (toAt g (i / 2))
+
+abbrev pub endReach : Grid → List ℕ
+endReach g = tab (visitsEach g * 2) (endPoint g)
+
+-- values has what each visit of the first box measures, and so what every visit does
+pub record Valued (g : Grid) (values : List Float) : Type 0 where
+  pub taken : checkOf g ≡ Fine
+  pub some : 0 < length values
+  pub tells : (r : ℕ) (z : Float) → r < visitsOf g → getD values (r % length values) z ≡ squareAt g r
+
+pub record EndsLent (g : Grid) (keys table : List ℕ) : Type 0 where
+  pub taken : checkOf g ≡ Fine
+  pub keys-long : length keys ≡ visitsOf g * 2
+  pub table-long : pointsOf g ≤ length table
 
 pub record Working (g : Grid) (keys rows spare counts : List ℕ) : Type 0 where
   pub taken : checkOf g ≡ Fine

@@ -4,7 +4,7 @@
 //
 // What the working lists of `edge_lengths_sq` hold, one phase after the other:
 //   keys     ends of the edges, sorted
-//   rows     visits in the order of their edges    last visit of each edge
+//   rows     the vertex of each point, then visits in the order of their edges    last visit of each edge
 //   spare    first visit of each edge
 //   counts   buckets                               edge of each visit
 ghost use mathlib.Core.Path.{_≡_};
@@ -16,13 +16,14 @@ ghost use Rattle.quotient.specs.Shape.{checkOf};
 ghost use Rattle.quotient.specs.Reduce.{coordAt, vertexOf};
 ghost use Rattle.grid_lengths.specs.Edges.{firstEnd, secondEnd, edgesEach, visitsOf, fromAt, toAt, spacingsOf, squareAt, sameEnds, visitsEdge};
 ghost use Rattle.grid_lengths.specs.Settled.{metBy, settle, edgeValues, afterVisit, edgeLengthOf};
-ghost use Rattle.grid_lengths.specs.Noted.{endOf, endsOf, told, isLength, Noting, Noted, Clashed};
+ghost use Rattle.grid_lengths.specs.Noted.{endsOf, told, isLength, Noting, Noted, Clashed};
 ghost use Rattle.grid_lengths.specs.Lengths.{lengthsNeed, EdgeLengths};
-ghost use Rattle.grid_lengths.specs.Work.{Working, Classed, Handing, Worked};
+ghost use Rattle.grid_lengths.specs.Work.{visitsEach, endPoint, endReach, Valued, EndsLent, Working, Classed, Handing, Worked};
 ghost use Rattle.lists.specs.Tables.{tab};
 ghost use Rattle.lists.specs.Zero.{AllZero};
 use grid_sides::Sides;
 use grid_sides::Steps;
+use multiindex::permutation;
 use quotient::GluedVertex;
 use quotient::Grid;
 use quotient::GridVertex;
@@ -59,6 +60,17 @@ fn visits(grid: Grid) -> usize
     ensures { λ r. ⌜ r ≡ visitsOf grid ⌝ }
 {
     grid_words::cells(grid) * edges_each(grid.d)
+}
+
+// The most visits that one box has.
+const MOST_VISITS: usize = 36;
+
+// How many visits a box has: each edge of each of its cells.
+fn visits_each(grid: Grid) -> usize
+    requires { ⌜ checkOf grid ≡ Fine ⌝ }
+    ensures { λ r. ⌜ r ≡ visitsEach grid ⌝ }
+{
+    permutation::count(grid.d as usize) * edges_each(grid.d)
 }
 
 // The corner at which edge e of a cell begins.
@@ -242,53 +254,82 @@ fn settled(grid: Grid, a: u32, b: u32) -> EdgeLength
     known
 }
 
-// The vertex at end i: of visit i / 2, where it begins for an even i, where it ends for an odd one.
-fn end_vertex(grid: Grid, i: usize) -> u32
+// The grid point at end i: of visit i / 2, where it begins for an even i, where it ends for an odd one.
+fn end_point(grid: Grid, i: usize) -> u32
     requires { ⌜ (checkOf grid ≡ Fine) × (i < visitsOf grid * 2) ⌝ }
-    ensures { λ r. ⌜ r ≡ endOf grid i ⌝ }
+    ensures { λ r. ⌜ r ≡ endPoint grid i ⌝ }
 {
     if i % 2 == 0 {
-        let c = grid.crossed(GridVertex(from_at(grid, i / 2)));
-        let p = c.vertex;
-        p.0
+        from_at(grid, i / 2)
     } else {
-        let c = grid.crossed(GridVertex(to_at(grid, i / 2)));
-        let p = c.vertex;
-        p.0
+        to_at(grid, i / 2)
     }
 }
 
-// Writes the ends of the edges of all visits, two a visit, over a list of their length.
-fn write_ends(grid: Grid, keys: &mut [u32])
-    requires { ⌜ (checkOf grid ≡ Fine) × (length (now keys) ≡ visitsOf grid * 2) ⌝ }
-    ensures { λ _. ⌜ now (keys .exit) ≡ endsOf grid ⌝ }
+// Writes the grid points at the ends of the first box's visits: how far from its box's origin each end lies.
+fn reaches(grid: Grid, reach: &mut [u32])
+    requires { ⌜ (checkOf grid ≡ Fine) × (length (now reach) ≡ visitsEach grid * 2) ⌝ }
+    ensures { λ _. ⌜ now (reach .exit) ≡ endReach grid ⌝ }
 {
     let mut i = 0;
-    while i < keys.len() {
-        keys[i] = end_vertex(grid, i);
+    while i < reach.len() {
+        reach[i] = end_point(grid, i);
         i += 1;
     }
 }
 
+// Writes the ends of the edges of all visits, two a visit, over a list of their length. The vertex of each point goes to a working list first.
+fn write_ends(grid: Grid, keys: &mut [u32], table: &mut [u32])
+    requires { ⌜ EndsLent grid (now keys) (now table) ⌝ }
+    ensures { λ _. ⌜ now (keys .exit) ≡ endsOf grid ⌝ }
+{
+    let points = grid_words::points(grid);
+    let ends = visits_each(grid) * 2;
+    let mut reach = [0u32; 2 * MOST_VISITS];
+    grid_words::vertices(grid, &mut table[..points]);
+    reaches(grid, &mut reach[..ends]);
+    grid_words::write_boxes(grid, &table[..points], &reach[..ends], keys);
+}
+
+// Writes what each visit of the first box measures.
+fn measure(grid: Grid, values: &mut [f64])
+    requires { ⌜ (checkOf grid ≡ Fine) × (length (now values) ≡ visitsEach grid) ⌝ }
+    ensures { λ _. ⌜ Valued grid (now (values .exit)) ⌝ }
+{
+    let mut r = 0;
+    while r < values.len() {
+        values[r] = measured(grid, r);
+        r += 1;
+    }
+}
+
+// The squared length that visit r measures: that of its place in the first box.
+fn value(grid: Grid, values: &[f64], r: usize) -> f64
+    requires { ⌜ Valued grid (now values) × (r < visitsOf grid) ⌝ }
+    ensures { λ x. ⌜ x ≡ squareAt grid r ⌝ }
+{
+    values[r % values.len()]
+}
+
 // What the note of an edge tells: 0 is none, and else it is one more than the number of a visit.
-fn told(grid: Grid, note: u32) -> EdgeLength
-    requires { ⌜ (checkOf grid ≡ Fine) × (note ≤ visitsOf grid) ⌝ }
+fn told(grid: Grid, values: &[f64], note: u32) -> EdgeLength
+    requires { ⌜ Valued grid (now values) × (note ≤ visitsOf grid) ⌝ }
     ensures { λ r. ⌜ r ≡ told grid note ⌝ }
 {
     if note == 0 {
         EdgeLength::NoEdge
     } else {
-        EdgeLength::Length(measured(grid, note as usize - 1))
+        EdgeLength::Length(value(grid, values, note as usize - 1))
     }
 }
 
 // Whether the value of visit r agrees with what the note of its edge tells.
-fn follows(grid: Grid, note: u32, r: usize) -> bool
-    requires { ⌜ (checkOf grid ≡ Fine) × (note ≤ visitsOf grid) × (r < visitsOf grid) ⌝ }
+fn follows(grid: Grid, values: &[f64], note: u32, r: usize) -> bool
+    requires { ⌜ Valued grid (now values) × (note ≤ visitsOf grid) × (r < visitsOf grid) ⌝ }
     ensures { λ x. ⌜ x ≡ isLength (metBy (told grid note) (squareAt grid r)) ⌝ }
 {
-    let known = told(grid, note);
-    let now = meet(known, measured(grid, r));
+    let known = told(grid, values, note);
+    let now = meet(known, value(grid, values, r));
     match now {
         EdgeLength::Length(_) => true,
         EdgeLength::Clash(_, _) => false,
@@ -303,22 +344,34 @@ fn wide(x: u32) -> usize
     x as usize
 }
 
-// Notes the last visit of each edge; false where two values of an edge clash.
-fn note_last(grid: Grid, total: usize, ids: &[u32], last: &mut [u32]) -> bool
-    requires { ⌜ Noting grid (now ids) (now last) × (total ≡ visitsOf grid) ⌝ }
+// Notes the last visit of each edge, where the values of one box are at hand; false where two values of an edge clash.
+fn note_each(grid: Grid, values: &[f64], total: usize, ids: &[u32], last: &mut [u32]) -> bool
+    requires { ⌜ Valued grid (now values) × Noting grid (now ids) (now last) × (total ≡ visitsOf grid) ⌝ }
     ensures yes { λ r. ⌜ (r ≡ true → Noted grid (now (ids .entry)) (now (last .exit))) ⌝ }
     ensures no { λ r. ⌜ (r ≡ false → Clashed grid) ⌝ }
 {
     let mut r = 0;
     while r < total {
         let id = wide(ids[r]);
-        if !follows(grid, last[id], r) {
+        if !follows(grid, values, last[id], r) {
             return false;
         }
         last[id] = r as u32 + 1;
         r += 1;
     }
     true
+}
+
+// Notes the last visit of each edge; false where two values of an edge clash.
+fn note_last(grid: Grid, total: usize, ids: &[u32], last: &mut [u32]) -> bool
+    requires { ⌜ Noting grid (now ids) (now last) × (total ≡ visitsOf grid) ⌝ }
+    ensures yes { λ r. ⌜ (r ≡ true → Noted grid (now (ids .entry)) (now (last .exit))) ⌝ }
+    ensures no { λ r. ⌜ (r ≡ false → Clashed grid) ⌝ }
+{
+    let each = visits_each(grid);
+    let mut values = [0f64; MOST_VISITS];
+    measure(grid, &mut values[..each]);
+    note_each(grid, &values[..each], total, ids, last)
 }
 
 // Numbers the glued edges, colex: the number of each visit's edge goes to `counts`. Returns how many edges there are.
@@ -334,10 +387,22 @@ fn classes(
 {
     let total = visits(grid);
     let ends = total * 2;
-    write_ends(grid, keys);
+    write_ends(grid, keys, rows);
     multiindex::word::sort_words(keys, 2, total);
     sorting::sort_rows(keys, 2, total, ends, rows, spare, counts);
     sorting::distinct(keys, 2, total, rows, spare, counts)
+}
+
+// Writes the value of the visit noted for each edge, where the values of one box are at hand.
+fn hand_each(grid: Grid, values: &[f64], last: &[u32], lengths: &mut [f64])
+    requires { ⌜ Valued grid (now values) × Handing grid (length (now lengths)) (now last) ⌝ }
+    ensures { λ _. ⌜ now (lengths .exit) ≡ tab (length (now (lengths .entry))) (λ i. squareAt grid (getD (now (last .entry)) i 0 - 1)) ⌝ }
+{
+    let mut i = 0;
+    while i < lengths.len() {
+        lengths[i] = value(grid, values, wide(last[i]) - 1);
+        i += 1;
+    }
 }
 
 // Writes the value of the visit noted for each edge.
@@ -345,11 +410,10 @@ fn hand_out(grid: Grid, last: &[u32], lengths: &mut [f64])
     requires { ⌜ Handing grid (length (now lengths)) (now last) ⌝ }
     ensures { λ _. ⌜ now (lengths .exit) ≡ tab (length (now (lengths .entry))) (λ i. squareAt grid (getD (now (last .entry)) i 0 - 1)) ⌝ }
 {
-    let mut i = 0;
-    while i < lengths.len() {
-        lengths[i] = measured(grid, wide(last[i]) - 1);
-        i += 1;
-    }
+    let each = visits_each(grid);
+    let mut values = [0f64; MOST_VISITS];
+    measure(grid, &mut values[..each]);
+    hand_each(grid, &values[..each], last, lengths);
 }
 
 // The work of `edge_lengths_sq`, in working lists of just the sizes that are needed.

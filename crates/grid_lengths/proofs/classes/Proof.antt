@@ -9,32 +9,31 @@ use Rattle.multiindex.specs.Sort.{sortWords}
 use Rattle.grid_lengths.specs.Noted.{endsOf}
 use Rattle.grid_lengths.proofs.Measuring.{visits-few}
 use Rattle.grid_lengths.proofs.Gathered.{keys-are, ends-table, classed}
+use Rattle.grid_lengths.proofs.Boxed.{points-ends}
 use Rattle.grid_lengths.proofs.classes.Statement.{statement}
 use Rattle.grid_lengths.proofs.classes.Tie as tie
-use Rattle.grid_lengths.proofs.classes.Reads as reads
-use Rattle.grid_lengths.proofs.classes.Lts as lts
 
 -- the keys are the ends, sorted visit by visit
-key-is : (c : tie.After-sort-words) → c .sort-words .last .0 ≡ sortWords 2 (c .before .before .before .before .before .before .visits .result) (endsOf (c .before .before .before .before .before .before .before .before .before .before .before .args .grid))
-key-is c = c .sort-words .ensures ∙ ap (sortWords 2 (c .before .before .before .before .before .before .visits .result)) (c .before .before .before .before .write-ends .ensures)
+key-is : (c : tie.After-sort-words) → c .sort-words .last .0 ≡ sortWords 2 (c .before .before .before .before .before .before .before .before .before .visits .result) (endsOf (c .before .before .before .before .before .before .before .before .before .before .before .before .before .before .args .grid))
+key-is c = c .sort-words .ensures ∙ ap (sortWords 2 (c .before .before .before .before .before .before .before .before .before .visits .result)) (c .before .before .before .before .before .before .write-ends .ensures)
 
 visits-requires : tie.Need-visits-requires
-visits-requires c κs = search needs
+visits-requires c κs = c .before .before .before .before .pre .taken
 
 mul-ends : tie.Need-mul-ends
-mul-ends c = let s = c .before .before .before .before .before in let g = s .args .grid in let t = s .pre .taken in omega (arith, visits-few g t, c .visits .ensures)
+mul-ends c = omega (arith, visits-few (c .before .before .before .before .before .args .grid) (c .before .before .before .before .before .pre .taken), c .visits .ensures)
 
 write-ends-requires : tie.Need-write-ends-requires
-write-ends-requires c κs = let s = c .before .before .before .before .before .before in let g = s .args .grid in let t = s .pre .taken in (t, s .pre .keys-long)
+write-ends-requires c κs = record { taken = c .before .before .before .before .before .before .before .pre .taken; keys-long = c .before .before .before .before .before .before .before .pre .keys-long; table-long = omega (arith, points-ends (c .before .before .before .before .before .before .before .args .grid) (c .before .before .before .before .before .before .before .pre .taken), c .before .before .before .before .before .before .before .pre .rows-long) }
 
 sort-words-requires : tie.Need-sort-words-requires
-sort-words-requires c κs = let s = c .before .before .before .before .before .before .before .before .before .before in let g = s .args .grid in let t = s .pre .taken in omega (arith, c .before .before .before .write-ends .kept, s .pre .keys-long, c .before .before .before .before .before .visits .ensures)
+sort-words-requires c κs = omega (arith, c .before .before .before .before .before .write-ends .kept, c .before .before .before .before .before .before .before .before .before .before .before .before .before .pre .keys-long, c .before .before .before .before .before .before .before .before .visits .ensures)
 
 sort-rows-requires : tie.Need-sort-rows-requires
-sort-rows-requires c κs = let s = c .before .before .before .before .before .before .before .before .before .before .before .before .before .before .before .before .before in let g = s .args .grid in let t = s .pre .taken in let z = c .before .before .before .before .before .before in let f = c .before .before .before .before .before .before .before .before .before .before .before .before .visits .ensures in (ends-table g t _ f _ (key-is z), (omega (arith, s .pre .rows-long, f), omega (arith, s .pre .spare-long, f), omega (arith, s .pre .counts-long, f)))
+sort-rows-requires c κs = let f = c .before .before .before .before .before .before .before .before .before .before .before .before .before .before .before .visits .ensures in let w = c .before .before .before .before .before .before .before .before .before .before .before .before .write-ends .kept in (ends-table (c .before .before .before .before .before .before .before .before .before .before .before .before .before .before .before .before .before .before .before .before .args .grid) (c .before .before .before .before .before .before .before .before .before .before .before .before .before .before .before .before .before .before .before .before .pre .taken) _ f _ (key-is (c .before .before .before .before .before .before)), (omega (arith, c .before .before .before .before .before .before .before .before .before .before .before .before .before .before .before .before .before .before .before .before .pre .rows-long, f, w), omega (arith, c .before .before .before .before .before .before .before .before .before .before .before .before .before .before .before .before .before .before .before .before .pre .spare-long, f), omega (arith, c .before .before .before .before .before .before .before .before .before .before .before .before .before .before .before .before .before .before .before .before .pre .counts-long, f)))
 
 distinct-requires : tie.Need-distinct-requires
-distinct-requires c κs = let s = c .before .before .before .before .before .before .before .before .before .before .before .before .before .before .before .before .before .before .before .before .before .before .before .before .before .before .before .before in let g = s .args .grid in let t = s .pre .taken in let z = c .before .before .before .before .before .before .before .before .before .before .before .before .before .before .before .before .before in let f = c .before .before .before .before .before .before .before .before .before .before .before .before .before .before .before .before .before .before .before .before .before .before .before .visits .ensures in let k = c .before .before .before .before .before .before .before .before .before .before .sort-rows .kept in (c .before .before .before .before .before .before .before .before .before .before .sort-rows .ensures .1, (omega (arith, visits-few g t, f), omega (arith, keys-are g t _ f _ (key-is z), f), omega (arith, s .pre .rows-long, k, f), omega (arith, s .pre .spare-long, k, f), omega (arith, s .pre .counts-long, k, f)))
+distinct-requires c κs = let f = c .before .before .before .before .before .before .before .before .before .before .before .before .before .before .before .before .before .before .before .before .before .before .before .before .before .before .visits .ensures in let w = c .before .before .before .before .before .before .before .before .before .before .before .before .before .before .before .before .before .before .before .before .before .before .before .write-ends .kept in let k = c .before .before .before .before .before .before .before .before .before .before .sort-rows .kept in (c .before .before .before .before .before .before .before .before .before .before .sort-rows .ensures .1, (omega (arith, visits-few (c .before .before .before .before .before .before .before .before .before .before .before .before .before .before .before .before .before .before .before .before .before .before .before .before .before .before .before .before .before .before .before .args .grid) (c .before .before .before .before .before .before .before .before .before .before .before .before .before .before .before .before .before .before .before .before .before .before .before .before .before .before .before .before .before .before .before .pre .taken), f), omega (arith, keys-are (c .before .before .before .before .before .before .before .before .before .before .before .before .before .before .before .before .before .before .before .before .before .before .before .before .before .before .before .before .before .before .before .args .grid) (c .before .before .before .before .before .before .before .before .before .before .before .before .before .before .before .before .before .before .before .before .before .before .before .before .before .before .before .before .before .before .before .pre .taken) _ f _ (key-is (c .before .before .before .before .before .before .before .before .before .before .before .before .before .before .before .before .before)), f), omega (arith, c .before .before .before .before .before .before .before .before .before .before .before .before .before .before .before .before .before .before .before .before .before .before .before .before .before .before .before .before .before .before .before .pre .rows-long, k, w, f), omega (arith, c .before .before .before .before .before .before .before .before .before .before .before .before .before .before .before .before .before .before .before .before .before .before .before .before .before .before .before .before .before .before .before .pre .spare-long, k, f), omega (arith, c .before .before .before .before .before .before .before .before .before .before .before .before .before .before .before .before .before .before .before .before .before .before .before .before .before .before .before .before .before .before .before .pre .counts-long, k, f)))
 
 same-length : tie.Need-same-length
 same-length c = search needs
@@ -49,20 +48,7 @@ same-length-4 : tie.Need-same-length-4
 same-length-4 c = search needs
 
 returns : tie.Need-returns
-returns c = let s = c .before .before .before .before .before .before .before .before .before .before .before .before .before .before .before .before .before .before .before .before .before .before .before .before .before .before .before .before .before .before .before .before .before in let g = s .args .grid in let t = s .pre .taken in let z = c .before .before .before .before .before .before .before .before .before .before .before .before .before .before .before .before .before .before .before .before .before .before in let f = c .before .before .before .before .before .before .before .before .before .before .before .before .before .before .before .before .before .before .before .before .before .before .before .before .before .before .before .before .visits .ensures in let k = c .before .before .before .before .before .before .before .before .before .before .before .before .before .before .before .sort-rows .kept in let q = c .before .before .before .before .distinct .ensures .1 in classed g t _ f _ (key-is z) (c .before .before .before .before .distinct .result) (c .before .before .before .before .distinct .last .1 .1 .1 .1 .0) (c .before .before .before .before .distinct .last .1 .1 .1 .1 .1 .0) q (omega (arith, q .few, s .pre .spare-long, k, c .before .before .before .before .distinct .kept, f))
+returns c = let f = c .before .before .before .before .before .before .before .before .before .before .before .before .before .before .before .before .before .before .before .before .before .before .before .before .before .before .before .before .before .before .before .visits .ensures in let k = c .before .before .before .before .before .before .before .before .before .before .before .before .before .before .before .sort-rows .kept in let q = c .before .before .before .before .distinct .ensures .1 in classed (c .before .before .before .before .before .before .before .before .before .before .before .before .before .before .before .before .before .before .before .before .before .before .before .before .before .before .before .before .before .before .before .before .before .before .before .before .args .grid) (c .before .before .before .before .before .before .before .before .before .before .before .before .before .before .before .before .before .before .before .before .before .before .before .before .before .before .before .before .before .before .before .before .before .before .before .before .pre .taken) _ f _ (key-is (c .before .before .before .before .before .before .before .before .before .before .before .before .before .before .before .before .before .before .before .before .before .before)) (c .before .before .before .before .distinct .result) (c .before .before .before .before .distinct .last .1 .1 .1 .1 .0) (c .before .before .before .before .distinct .last .1 .1 .1 .1 .1 .0) q (omega (arith, q .few, c .before .before .before .before .before .before .before .before .before .before .before .before .before .before .before .before .before .before .before .before .before .before .before .before .before .before .before .before .before .before .before .before .before .before .before .before .pre .spare-long, k, c .before .before .before .before .distinct .kept, f))
 
 pub classes-spec : {M : Type 1} → statement M
-classes-spec =
-    tie.close
-    (tie.spec
-    visits-requires
-    mul-ends
-    write-ends-requires
-    sort-words-requires
-    sort-rows-requires
-    distinct-requires
-    same-length
-    same-length-2
-    same-length-3
-    same-length-4
-    returns)
+classes-spec = tie.close (tie.spec visits-requires mul-ends write-ends-requires sort-words-requires sort-rows-requires distinct-requires same-length same-length-2 same-length-3 same-length-4 returns)

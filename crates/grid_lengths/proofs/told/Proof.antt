@@ -9,17 +9,17 @@ use Rattle.grid_lengths.proofs.Notes.{told-some}
 use Rattle.grid_lengths.proofs.told.Statement.{statement}
 use Rattle.grid_lengths.proofs.told.Tie as tie
 
-sub-measured : tie.Need-sub-measured
-sub-measured c = search needs
+sub-value : tie.Need-sub-value
+sub-value c = search needs
 
-measured-requires : tie.Need-measured-requires
-measured-requires c κs = search needs
+value-requires : tie.Need-value-requires
+value-requires c κs = search needs
 
 returns : tie.Need-returns
-returns c = let s = c .before in rw (c .if1 .taken)
+returns c = rw (c .if1 .taken)
 
 returns-2 : tie.Need-returns-2
-returns-2 c = let s = c .before .before in told-some (s .args .grid) (s .args .note) _ (c .before .if1 .left) (c .measured .ensures)
+returns-2 c = told-some (c .before .before .before .args .grid) (c .before .before .before .args .note) _ (c .before .if1 .left) (c .value .ensures)
 
 pub told-spec : {M : Type 1} → statement M
-told-spec = tie.close (tie.spec sub-measured measured-requires returns returns-2)
+told-spec = tie.close (tie.spec sub-value value-requires returns returns-2)

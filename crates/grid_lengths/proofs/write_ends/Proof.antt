@@ -1,73 +1,74 @@
--- `grid_lengths::write_ends` meets its contract. The invariant: the first i ends are written. Assumes nothing.
+-- `grid_lengths::write_ends` meets its contract: the ends of the first box's visits, moved to every box (proofs/Boxed). Assumes nothing.
 use mathlib.Core.Path.{_≡_, refl, sym, ap, _∙_, subst}
 use mathlib.Core.List.{List, [], _∷_, _++_}
 use Prim.Native.Nat.{ℕ, zero, suc, _+_, _*_, _-_, _/_, _%_, _^_, _≤_, _<_}
 use native.Mathlib.Omega.{arith}
 use borrow.Author.Needs.{needs}
 use lib.ListN.{length, getD, take, drop, set, replicate, length-set}
-use Rattle.lists.proofs.Laws.{store, copied}
-use Rattle.lists.proofs.Tables.{length-tab, getD-tab}
-use Rattle.grid_lengths.specs.Edges.{visitsOf}
-use Rattle.grid_lengths.specs.Noted.{endOf, endsOf}
+use lib.Seq.{length-take-le}
+use Rattle.quotient.specs.declared.Grid.{Grid}
+use Rattle.refusal.specs.declared.Answer.the-variants.{Fine}
+use Rattle.quotient.specs.Shape.{checkOf}
+use Rattle.grid_words.specs.Work.{movedBy}
+use Rattle.grid_words.proofs.Moved.{front-is, front-fits}
+use Rattle.grid_lengths.specs.Work.{visitsEach}
+use Rattle.grid_lengths.proofs.Boxed.{each-visits-few, moving-ends, ends-moved}
 use Rattle.grid_lengths.proofs.write_ends.Statement.{statement}
 use Rattle.grid_lengths.proofs.write_ends.Tie as tie
 
-abbrev Inv-loop : tie.InvT-loop
-Inv-loop grid keys₀ i₀ keys i = (i ≤ length keys₀) × (keys ≡ take i (endsOf grid) ++ drop i keys₀) × (length keys ≡ length keys₀)
+ends-few : (g : Grid) → checkOf g ≡ Fine → (n : ℕ) → n ≡ visitsEach g → n * 2 ≤ 72
+ends-few g fine n e = omega (arith, each-visits-few g fine)
 
-abbrev μ-loop : tie.MeasureT-loop
-μ-loop grid keys₀ i₀ keys i = length keys₀ - i
+points-requires : tie.Need-points-requires
+points-requires c κs = c .before .before .pre .taken
 
-loop-holds : tie.Need-loop-holds Inv-loop μ-loop
-loop-holds c = (search needs, refl, refl)
+visits-each-requires : tie.Need-visits-each-requires
+visits-each-requires c κs = c .before .before .before .pre .taken
 
-end-vertex-requires : tie.Need-end-vertex-requires Inv-loop μ-loop
-end-vertex-requires c κs = let s = c .before .before .before in (s .pre .0, omega (arith, s .pre .1))
+mul-ends : tie.Need-mul-ends
+mul-ends c = omega (arith, ends-few (c .before .before .before .before .args .grid) (c .before .before .before .before .pre .taken) _ (c .visits-each .ensures))
 
-mul-keys : tie.Need-mul-keys Inv-loop μ-loop
-mul-keys c = search needs
+slice-relend-prefix-vertices : tie.Need-slice-relend-prefix-vertices
+slice-relend-prefix-vertices c = omega (arith, c .before .points .ensures, c .before .before .before .before .pre .table-long)
 
-slice-write-keys : tie.Need-slice-write-keys Inv-loop μ-loop
-slice-write-keys c = search needs
+slice-aggregate-vertices : tie.Need-slice-aggregate-vertices
+slice-aggregate-vertices c = sym (length-take-le _ _ (omega (arith, c .before .before .points .ensures, c .before .before .before .before .before .pre .table-long)))
 
-add-i : tie.Need-add-i Inv-loop μ-loop
-add-i c = search needs
+vertices-requires : tie.Need-vertices-requires
+vertices-requires c κs = (c .before .before .before .before .before .pre .taken, length-take-le _ _ (omega (arith, c .before .before .points .ensures, c .before .before .before .before .before .pre .table-long)) ∙ c .before .before .points .ensures)
 
-loop-less : tie.Need-loop-less Inv-loop μ-loop
-loop-less c = search needs
+array-borrow-prefix-reach : tie.Need-array-borrow-prefix-reach
+array-borrow-prefix-reach c = ends-few (c .before .before .before .before .before .before .before .before .args .grid) (c .before .before .before .before .before .before .before .before .pre .taken) _ (c .before .before .before .before .visits-each .ensures)
 
-loop-again : tie.Need-loop-again Inv-loop μ-loop
-loop-again c =
-    let l = c .before .before in
-    let s = l .before .before in
-    let g = s .args .grid in
-    let h : l .loop .i < length (s .args .keys .now) = omega arith in
-    let b : l .loop .i < visitsOf g * 2 = omega (arith, s .pre .1) in
-    let e = c .end-vertex .ensures ∙ sym (getD-tab (visitsOf g * 2) (endOf g) (l .loop .i) 0 b) in
-    (search needs, rw (l .loop .inv .1, e) (store _ _ _ (omega (arith, length-tab (visitsOf g * 2) (endOf g))) h), simp length-set (l .loop .inv .2))
+slice-aggregate-reaches : tie.Need-slice-aggregate-reaches
+slice-aggregate-reaches c = sym (length-take-le _ _ (ends-few (c .before .before .before .before .before .before .before .before .before .args .grid) (c .before .before .before .before .before .before .before .before .before .pre .taken) _ (c .before .before .before .before .before .visits-each .ensures)))
 
-same-length : tie.Need-same-length Inv-loop μ-loop
+reaches-requires : tie.Need-reaches-requires
+reaches-requires c κs = (c .before .before .before .before .before .before .before .before .before .pre .taken, length-take-le _ _ (ends-few (c .before .before .before .before .before .before .before .before .before .args .grid) (c .before .before .before .before .before .before .before .before .before .pre .taken) _ (c .before .before .before .before .before .visits-each .ensures)) ∙ ap (λ (n : ℕ). n * 2) (c .before .before .before .before .before .visits-each .ensures))
+
+slice-reshare-prefix-write-boxes : tie.Need-slice-reshare-prefix-write-boxes
+slice-reshare-prefix-write-boxes c = front-fits (c .before .before .before .before .before .before .before .before .points .result) (c .before .before .before .before .before .before .before .before .before .before .before .args .table .now) (c .before .before .before .before .before .vertices .last .1 .0) (omega (arith, c .before .before .before .before .before .before .before .before .points .ensures, c .before .before .before .before .before .before .before .before .before .before .before .pre .table-long)) (c .before .before .before .before .before .vertices .kept .1 .0)
+
+slice-aggregate-write-boxes : tie.Need-slice-aggregate-write-boxes
+slice-aggregate-write-boxes c = sym (length-take-le _ _ (front-fits (c .before .before .before .before .before .before .before .before .before .points .result) (c .before .before .before .before .before .before .before .before .before .before .before .before .args .table .now) (c .before .before .before .before .before .before .vertices .last .1 .0) (omega (arith, c .before .before .before .before .before .before .before .before .before .points .ensures, c .before .before .before .before .before .before .before .before .before .before .before .before .pre .table-long)) (c .before .before .before .before .before .before .vertices .kept .1 .0)))
+
+array-share-prefix-reach : tie.Need-array-share-prefix-reach
+array-share-prefix-reach c = front-fits (c .before .before .before .before .before .before .before .before .visits-each .result * 2) (replicate {A = ℕ} 72 0) (c .before .before .reaches .last .1 .0) (ends-few (c .before .before .before .before .before .before .before .before .before .before .before .before .args .grid) (c .before .before .before .before .before .before .before .before .before .before .before .before .pre .taken) _ (c .before .before .before .before .before .before .before .before .visits-each .ensures)) (c .before .before .reaches .kept .1 .0)
+
+slice-aggregate-write-boxes-2 : tie.Need-slice-aggregate-write-boxes-2
+slice-aggregate-write-boxes-2 c = sym (length-take-le _ _ (front-fits (c .before .before .before .before .before .before .before .before .before .visits-each .result * 2) (replicate {A = ℕ} 72 0) (c .before .before .before .reaches .last .1 .0) (ends-few (c .before .before .before .before .before .before .before .before .before .before .before .before .before .args .grid) (c .before .before .before .before .before .before .before .before .before .before .before .before .before .pre .taken) _ (c .before .before .before .before .before .before .before .before .before .visits-each .ensures)) (c .before .before .before .reaches .kept .1 .0)))
+
+write-boxes-requires : tie.Need-write-boxes-requires
+write-boxes-requires c κs = moving-ends (c .before .before .before .before .before .before .before .before .before .before .before .before .before .before .args .grid) (c .before .before .before .before .before .before .before .before .before .before .before .before .before .before .pre .taken) _ _ _ (front-is (c .before .before .before .before .before .before .before .before .before .before .before .points .result) (c .before .before .before .before .before .before .before .before .before .before .before .before .before .before .args .table .now) (c .before .before .before .before .before .before .before .before .vertices .last .1 .0) _ (omega (arith, c .before .before .before .before .before .before .before .before .before .before .before .points .ensures, c .before .before .before .before .before .before .before .before .before .before .before .before .before .before .pre .table-long)) (c .before .before .before .before .before .before .before .before .vertices .kept .1 .0) (c .before .before .before .before .before .before .before .before .vertices .ensures)) (front-is (c .before .before .before .before .before .before .before .before .before .before .visits-each .result * 2) (replicate {A = ℕ} 72 0) (c .before .before .before .before .reaches .last .1 .0) _ (ends-few (c .before .before .before .before .before .before .before .before .before .before .before .before .before .before .args .grid) (c .before .before .before .before .before .before .before .before .before .before .before .before .before .before .pre .taken) _ (c .before .before .before .before .before .before .before .before .before .before .visits-each .ensures)) (c .before .before .before .before .reaches .kept .1 .0) (c .before .before .before .before .reaches .ensures)) (c .before .before .before .before .before .before .before .before .before .before .before .before .before .before .pre .keys-long)
+
+same-length : tie.Need-same-length
 same-length c = search needs
 
-returns : tie.Need-returns Inv-loop μ-loop
-returns c =
-    let l = c .before in
-    let s = l .before .before in
-    let g = s .args .grid in
-    l .loop .inv .1 ∙ copied (endsOf g) (s .args .keys .now) (l .loop .i) (omega (arith, length-tab (visitsOf g * 2) (endOf g), s .pre .1)) (omega arith)
+same-length-2 : tie.Need-same-length-2
+same-length-2 c = search needs
+
+returns : tie.Need-returns
+returns c = c .before .before .write-boxes .ensures ∙ ap (movedBy (c .before .before .before .before .before .before .before .before .before .before .before .before .before .before .before .before .before .args .grid)) (front-is (c .before .before .before .before .before .before .before .before .before .before .before .before .before .visits-each .result * 2) (replicate {A = ℕ} 72 0) (c .before .before .before .before .before .before .before .reaches .last .1 .0) _ (ends-few (c .before .before .before .before .before .before .before .before .before .before .before .before .before .before .before .before .before .args .grid) (c .before .before .before .before .before .before .before .before .before .before .before .before .before .before .before .before .before .pre .taken) _ (c .before .before .before .before .before .before .before .before .before .before .before .before .before .visits-each .ensures)) (c .before .before .before .before .before .before .before .reaches .kept .1 .0) (c .before .before .before .before .before .before .before .reaches .ensures)) ∙ ends-moved (c .before .before .before .before .before .before .before .before .before .before .before .before .before .before .before .before .before .args .grid) (c .before .before .before .before .before .before .before .before .before .before .before .before .before .before .before .before .before .pre .taken)
 
 pub write-ends-spec : {M : Type 1} → statement M
-write-ends-spec =
-    tie.close
-    (tie.spec
-    Inv-loop
-    μ-loop
-    loop-holds
-    end-vertex-requires
-    mul-keys
-    slice-write-keys
-    add-i
-    loop-less
-    loop-again
-    same-length
-    returns)
+write-ends-spec = tie.close (tie.spec points-requires visits-each-requires mul-ends slice-relend-prefix-vertices slice-aggregate-vertices vertices-requires array-borrow-prefix-reach slice-aggregate-reaches reaches-requires slice-reshare-prefix-write-boxes slice-aggregate-write-boxes array-share-prefix-reach slice-aggregate-write-boxes-2 write-boxes-requires same-length same-length-2 returns)
