@@ -170,6 +170,14 @@ def random_list(rnd, most=24):
     return d, ws
 
 
+def accepted_list(rnd, most=24):
+    """a list of cells that passes its checks"""
+    while True:
+        d, ws = random_list(rnd, most)
+        if m.check_cells(d, ws) is None:
+            return d, ws
+
+
 def order_for(rnd, d, cells):
     """an order: agreeing on facets (by ranks of the vertices), loose, or with one thing wrong"""
     rank = list(range(max(v for w in cells for v in w) + 1))
