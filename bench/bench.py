@@ -79,7 +79,7 @@ class Case:
         lists = [grid_, [1, 2, 3][:d] if kind == "grid" else [], words, words, [int(s > 0) for s in signs]]
         self.ours = " ".join([call, str(d), str(r)] + [" ".join(map(str, [len(x)] + x)) for x in lists])
         if kind == "grid":
-            self.rust = "grid %s %s" % (call, m.grid_text(d, data, [m.bits(float(x)) for x in lists[1]]))
+            self.rust = "grid %s %s" % (RUST_CALL.get(call, call), m.grid_text(d, data, [m.bits(float(x)) for x in lists[1]]))
             self.cells = len(m.words_of(d, data))
         else:
             self.rust = "words %s %s" % (call, ";".join(",".join(map(str, w)) for w in m.chunks(words, d + 1)))
