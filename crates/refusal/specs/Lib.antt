@@ -3,3 +3,4 @@ pub mod Table
 pub mod Refuse
 pub mod Lent
 pub mod Call
+pub mod Told

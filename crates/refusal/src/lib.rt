@@ -12,6 +12,13 @@ pub const MOST_VERTICES: usize = 4096;
 
 pub const MOST_REFINEMENT: u32 = 64;
 
+// The most numbers in a word, in a square of numbers, and the most corners of a cell list.
+pub const ROW_MOST: usize = 4;
+
+pub const SQUARE_MOST: usize = 9;
+
+pub const MOST_CORNERS: usize = 16384;
+
 // The numbers of document 01's table: specs/Table.antt has the same, and document 02's.
 pub const BAD_DIMENSION: u32 = 1;
 
