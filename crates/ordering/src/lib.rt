@@ -18,7 +18,7 @@ use refusal::Verdict;
 ghost use mathlib.Core.Path.{_≡_};
 ghost use Prim.Native.Nat.{_<_, _≤_};
 ghost use lib.ListN.{length};
-ghost use Rattle.refusal.specs.Limits.{mostDimension};
+ghost use Rattle.refusal.specs.Limits.{mostDimension, manyCorners};
 ghost use Rattle.lists.specs.Zero.{AllZero};
 ghost use Rattle.complex.specs.Cells.{cellsOf};
 ghost use Rattle.ordering.specs.Promise.{orderNeed, Preparing, Prepared, Worked, Wound, Ordering, Induced};
@@ -117,7 +117,7 @@ fn order_cleared(
 
 // What a call on an order needs of its working lists.
 pub fn need(d: usize, len: usize) -> Room
-    requires { ⌜ (d ≤ mostDimension) × (len < 65536) ⌝ }
+    requires { ⌜ (d ≤ mostDimension) × (len < manyCorners) ⌝ }
     ensures { λ r. ⌜ r ≡ orderNeed d len ⌝ }
 {
     let base = complex::need(d, len);
