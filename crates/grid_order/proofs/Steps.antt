@@ -31,9 +31,9 @@ use Rattle.grid_words.proofs.Good.{words-count, words-pass}
 use Rattle.grid_mesh.specs.Words.{gluedCells, cornersOf}
 use Rattle.grid_mesh.proofs.Steps.{grid-made, corners-are, corners-few}
 use Rattle.lists.specs.Words.{without, none}
-use Rattle.ordering.specs.Order.{wordOf, AgreeOnFacets}
+use Rattle.ordering_words.specs.Order.{wordOf, AgreeOnFacets}
 use Rattle.ordering.specs.WorkAgree.{rowWord, AgreesAt, Clash}
-use Rattle.ordering.proofs.Orders.{word-first}
+use Rattle.ordering_words.proofs.Orders.{word-first}
 use Rattle.grid_order.specs.declared.Triangulated.the-variants.{Ordered, Unordered, Refused}
 use Rattle.grid_order.specs.Promise.{nothing}
 use Rattle.grid_order.specs.Work.{Found, Laying, Laid, Decided, Handing, Out, short, short-order, ordered, unordered, HandedOut}

@@ -16,7 +16,7 @@ use Rattle.quotient.specs.declared.Grid.{Grid}
 use Rattle.quotient.specs.Shape.{checkOf, cellCount}
 use Rattle.grid_words.specs.Cells.{flatWords}
 use Rattle.grid_mesh.specs.Words.{gluedCells, cornersOf}
-use Rattle.ordering.specs.Order.{wordOf}
+use Rattle.ordering_words.specs.Order.{wordOf}
 use Rattle.ordering.specs.WorkAgree.{AgreesAt, Clash}
 use Rattle.grid_order.specs.declared.Triangulated.{Triangulated}
 use Rattle.grid_order.specs.declared.Triangulated.the-variants.{Ordered, Unordered, Refused}
