@@ -22,14 +22,15 @@ use Rattle.complex.specs.Skeleton.{inColex, facetRowOf, facetsOf, numbers, rows
 use Rattle.complex_cells.specs.WorkNamed.{rowList, Naming, Named}
 use Rattle.complex_cells.proofs.Words.{Word, In}
 use Rattle.complex_cells.proofs.Named.{named, rowList-at}
-use Rattle.complex_mates.specs.Table.{Written, Grouped, Three, Meeting}
-use Rattle.complex_mates.proofs.Meeting.{crowd, grouped, slots-most}
-use Rattle.complex_facets.specs.WorkClasses.{Seconds, Seeking, Classes}
+use Rattle.complex_mates.specs.Table.{Written, Paired, Three, Meet, MateTable, Meeting}
+use Rattle.complex_mates.proofs.Meeting.{crowd, mate-table, slots-most}
+use Rattle.complex_facets.specs.WorkClasses.{Classes, Pass}
 use Rattle.lists.proofs.Words.{same-word, word-true, word-false}
 use Rattle.complex_facets.proofs.Numbers.{numbers-one, numbers-two, tab-in, in-tab}
 
 module _ (d m b : ℕ) (keys rows spare counts : List ℕ) (a : Meeting d m b keys rows spare counts) (keys′ : List ℕ) (l : length keys′ ≡ length keys) (w : Written d (slots d) rows keys′ (m * slots d))
-    (f : ℕ) (reps ids others : List ℕ) (q : Distinct (cell keys′ d) d (m * slots d) f reps ids) (lr : m * slots d ≤ length reps) (lo : length others ≡ m * slots d) (s : Seconds (m * slots d) reps ids others) (narrow : m * slots d * d < 4294967296) where
+    (f : ℕ) (reps ids others mates : List ℕ) (q : Distinct (cell keys′ d) d (m * slots d) f reps ids) (lr : m * slots d ≤ length reps) (lo : f ≤ length others) (s : Paired (m * slots d) ids mates)
+    (turned : (i : ℕ) → i < f → getD others i 0 ≡ getD mates (getD reps i 0) 0) (narrow : m * slots d * d < 4294967296) where
   room : m * slots d * d ≤ length keys′
   room = omega (arith, a .keys-long)
 
@@ -75,24 +76,31 @@ module _ (d m b : ℕ) (keys rows spare counts : List ℕ) (a : Meeting d m b ke
     fails : (z : ℕ) → z < m * slots d → (getD ids z 0 ≡ i → ⊥) → sameWord (facetRowOf d (cut (suc d) m rows) z) (getD (facetsOf d (cut (suc d) m rows)) i []) ≡ false
     fails z k n = word-false _ _ (λ e. n (its-id z k e))
 
-    in-others : i < length others
-    in-others = omega (arith, q .few)
-
     its-rep : getD ids (getD reps i 0) 0 ≡ i
     its-rep = id-rep (cell keys′ d) d (m * slots d) f reps ids q i h
+
+    -- a row of the class other than the first is the first one's mate
+    alone : getD others i 0 ≡ none → (z : ℕ) → z < m * slots d → getD ids z 0 ≡ i → z ≡ getD reps i 0
+    alone e z k t =
+        elim (ℕ-discrete z (getD reps i 0)) [
+          | yes u ↦ u
+          | no n ↦ absurd (omega (arith, s .all (getD reps i 0) z rep-below k (λ u. n (sym u)) (its-rep ∙ sym t), turned i h, e, rows-few))
+        ]
+
+    mated : (getD others i 0 ≡ none → ⊥) → getD mates (getD reps i 0) 0 ≡ none → ⊥
+    mated n u = n (turned i h ∙ u)
 
     pub one-row : getD others i 0 ≡ none → rowsWith d (cut (suc d) m rows) (getD (facetsOf d (cut (suc d) m rows)) i []) ≡ getD reps i 0 ∷ []
     one-row e =
         subst (λ (n : ℕ). numbers (λ x. sameWord (facetRowOf d (cut (suc d) m rows) x) (getD (facetsOf d (cut (suc d) m rows)) i [])) n ≡ getD reps i 0 ∷ []) (sym total)
         (numbers-one (λ x. sameWord (facetRowOf d (cut (suc d) m rows) x) (getD (facetsOf d (cut (suc d) m rows)) i [])) (m * slots d) (getD reps i 0) rep-below (passes (getD reps i 0) rep-below its-rep)
-        (λ z k n. fails z k (λ t. n (s .alone i z in-others e k t))))
+        (λ z k n. fails z k (λ t. n (alone e z k t))))
 
     pub two-rows : (Crowded d (cut (suc d) m rows) → ⊥) → (getD others i 0 ≡ none → ⊥) → rowsWith d (cut (suc d) m rows) (getD (facetsOf d (cut (suc d) m rows)) i []) ≡ getD reps i 0 ∷ getD others i 0 ∷ []
     two-rows free e =
-        let y = getD others i 0 in
-        let hy : getD others i 0 < m * slots d = s .below i in-others e in
-        let iy : getD ids (getD others i 0) 0 ≡ i = s .same i in-others e in
-        let ny : getD others i 0 ≡ getD reps i 0 → ⊥ = s .apart i in-others e in
+        let hy : getD others i 0 < m * slots d = omega (arith, turned i h, s .below (getD reps i 0) rep-below (mated e)) in
+        let iy : getD ids (getD others i 0) 0 ≡ i = ap (λ (z : ℕ). getD ids z 0) (turned i h) ∙ s .same (getD reps i 0) rep-below (mated e) ∙ its-rep in
+        let ny : getD others i 0 ≡ getD reps i 0 → ⊥ = λ u. s .other (getD reps i 0) rep-below (mated e) (sym (turned i h) ∙ u) in
         let le : getD reps i 0 ≤ getD others i 0 = q .least i (getD others i 0) h hy (subst (λ (c : ℕ). SameRow (cell keys′ d) d (getD reps c 0) (getD others i 0)) iy (q .id-same (getD others i 0) hy)) in
         subst (λ (n : ℕ). numbers (λ x. sameWord (facetRowOf d (cut (suc d) m rows) x) (getD (facetsOf d (cut (suc d) m rows)) i [])) n ≡ getD reps i 0 ∷ getD others i 0 ∷ []) (sym total)
         (numbers-two (λ x. sameWord (facetRowOf d (cut (suc d) m rows) x) (getD (facetsOf d (cut (suc d) m rows)) i [])) (m * slots d) (getD reps i 0) (getD others i 0) (omega arith) hy (passes (getD reps i 0) rep-below its-rep) (passes (getD others i 0) hy iy)
@@ -115,47 +123,31 @@ module _ (d m b : ℕ) (keys rows spare counts : List ℕ) (a : Meeting d m b ke
           x-z = its-rep ∙ sym t;
         })))))
 
-  pub classes : Classes d (cut (suc d) m rows) f keys′ reps others
+  classes : Classes d (cut (suc d) m rows) f keys′ reps others
   classes =
       record {
         named = facets-named;
-        long = omega (arith, q .few);
+        long = lo;
         one = λ i h e. one-row i h e;
         two = λ free i h e. two-rows i h free e;
         small = λ i h. omega (arith, q .below i h, rows-few);
         most = rw total (q .few);
       }
 
--- what `seconds` asks, from the classes that `distinct` leaves and a blank list
-pub seeking : (k : ℕ → ℕ → ℕ) (cols n f : ℕ) (reps ids : List ℕ) → Distinct k cols n f reps ids → n < none → n ≤ length reps → n ≤ length ids → (part : List ℕ) → part ≡ replicate n none → Seeking n reps ids part
-seeking k cols n f reps ids q few lr li part e =
-    let l : length part ≡ n = ap length e ∙ length-replicate n none in
-    record {
-      few = few;
-      long = li;
-      in-reps = λ x h. omega (arith, q .id-below x h, q .few);
-      in-others = λ x h. omega (arith, q .id-below x h, q .few);
-      blank = λ i h. ap (λ (v : List ℕ). getD v i 0) e ∙ getD-replicate n i none 0 (omega arith);
-    }
+  table : MateTable d (cut (suc d) m rows) mates
+  table = mate-table d m rows keys′ reps ids (a .cells) room w f q mates s
 
--- the list of other rows may be the front of a longer one
-pub classes-front : (d : ℕ) (cs : List Word) (f : ℕ) (keys reps part tail : List ℕ) → Classes d cs f keys reps part → Classes d cs f keys reps (part ++ tail)
-classes-front d cs f keys reps part tail c =
-    record {
-      named = c .named;
-      long = omega (arith, c .long, length-append part tail);
-      one = λ i h e. c .one i h (sym (at i h) ∙ e);
-      two = λ free i h n. c .two free i h (λ e. n (at i h ∙ e)) ∙ ap (λ (y : ℕ). getD reps i 0 ∷ y ∷ []) (sym (at i h));
-      small = c .small;
-      most = c .most;
-    }
-  where
-    at : (i : ℕ) → i < f → getD (part ++ tail) i 0 ≡ getD part i 0
-    at i h = List·getD-append part tail 0 i (omega (arith, c .long))
+  meet : (i : ℕ) (h : i < f) → (getD others i 0 ≡ none → ⊥) → Meet d (cut (suc d) m rows) (getD reps i 0) (getD others i 0)
+  meet i h n =
+      subst (λ (y : ℕ). Meet d (cut (suc d) m rows) (getD reps i 0) y) (sym (turned i h))
+      (table .meet (getD reps i 0) (subst (λ (z : ℕ). getD reps i 0 < z) (sym total) (q .below i h)) (λ u. n (turned i h ∙ u)))
+
+  pub pass : Pass d (cut (suc d) m rows) f keys′ reps others mates
+  pass = record { classes = classes; mates = table; meet = meet }
 
 -- the same, with the number of rows a cell as the code has it
-pub classes-done : (d m b : ℕ) (keys rows spare counts : List ℕ) → Meeting d m b keys rows spare counts → m * slots d * d < 4294967296 → (k : ℕ) → k ≡ slots d → (keys′ : List ℕ) → length keys′ ≡ length keys → (f : ℕ) (reps ids part tail : List ℕ) →
-    Written d k rows keys′ (m * k) → Distinct (cell keys′ d) d (m * k) f reps ids → m * k ≤ length reps → length part ≡ m * k → Seconds (m * k) reps ids part → Classes d (cut (suc d) m rows) f keys′ reps (part ++ tail)
-classes-done d m b keys rows spare counts a narrow k e keys′ l f reps ids part tail =
-    subst (λ (z : ℕ). Written d z rows keys′ (m * z) → Distinct (cell keys′ d) d (m * z) f reps ids → m * z ≤ length reps → length part ≡ m * z → Seconds (m * z) reps ids part → Classes d (cut (suc d) m rows) f keys′ reps (part ++ tail)) (sym e)
-    (λ w q lr lo s. classes-front d (cut (suc d) m rows) f keys′ reps part tail (classes d m b keys rows spare counts a keys′ l w f reps ids part q lr lo s narrow))
+pub pass-done : (d m b : ℕ) (keys rows spare counts : List ℕ) → Meeting d m b keys rows spare counts → m * slots d * d < 4294967296 → (k : ℕ) → k ≡ slots d → (keys′ : List ℕ) → length keys′ ≡ length keys → (f : ℕ) (reps ids others mates : List ℕ) →
+    Written d k rows keys′ (m * k) → Distinct (cell keys′ d) d (m * k) f reps ids → m * k ≤ length reps → f ≤ length others → Paired (m * k) ids mates → ((i : ℕ) → i < f → getD others i 0 ≡ getD mates (getD reps i 0) 0) → Pass d (cut (suc d) m rows) f keys′ reps others mates
+pass-done d m b keys rows spare counts a narrow k e keys′ l f reps ids others mates =
+    subst (λ (z : ℕ). Written d z rows keys′ (m * z) → Distinct (cell keys′ d) d (m * z) f reps ids → m * z ≤ length reps → f ≤ length others → Paired (m * z) ids mates → ((i : ℕ) → i < f → getD others i 0 ≡ getD mates (getD reps i 0) 0) → Pass d (cut (suc d) m rows) f keys′ reps others mates) (sym e)
+    (λ w q lr lo p o. pass d m b keys rows spare counts a keys′ l w f reps ids others mates q lr lo p o narrow)

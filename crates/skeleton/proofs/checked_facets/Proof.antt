@@ -1,11 +1,11 @@
--- `skeleton::facets` meets its contract, by its three ways out (proofs/Entry): a refusal and too little room touch nothing; else the work's end stands, and what was
+-- `skeleton::checked_facets` meets its contract, by its three ways out (proofs/Entry): a refusal and too little room touch nothing; else the work's end stands, and what was
 -- lent to it came back as zeros. Assumes nothing.
 use lib.Seq.{length-take-le}
 use borrow.Author.Tests.{not-true, not-false}
 use Rattle.complex.specs.Cells.{cellsOf}
 use Rattle.complex.specs.Room.{needOf}
 use Rattle.complex.specs.Skeleton.{facetsOf}
-use Rattle.complex_facets.specs.Sides.{tableOf}
+use Rattle.skeleton.specs.Parts.{besideFor}
 use Rattle.complex.proofs.Fine.{fine-passed}
 use Rattle.complex_cells.proofs.Making.{few-corners}
 use Rattle.skeleton.specs.Promise.{GivesBoth}
@@ -16,10 +16,10 @@ use mathlib.Core.List.{List, []}
 use Prim.Native.Nat.{ℕ, _*_, _<_, _≤_}
 use lib.ListN.{length, take, drop}
 use borrow.Author.Needs.{needs}
-use Rattle.skeleton.proofs.facets.Statement.{statement}
-use Rattle.skeleton.proofs.facets.Tie as tie
-use Rattle.skeleton.proofs.facets.Reads as reads
-use Rattle.skeleton.proofs.facets.Lts as lts
+use Rattle.skeleton.proofs.checked_facets.Statement.{statement}
+use Rattle.skeleton.proofs.checked_facets.Tie as tie
+use Rattle.skeleton.proofs.checked_facets.Reads as reads
+use Rattle.skeleton.proofs.checked_facets.Lts as lts
 use Rattle.complex.proofs.check_cells.Reads as check-cells-reads
 use Rattle.complex.proofs.need.Reads as need-reads
 use Rattle.refusal.proofs.has_room.Reads as has-room-reads
@@ -35,7 +35,7 @@ returns : tie.Need-returns
 returns c =
     let s = c .before .before .before .before .before .before .before .before .before .before .before in
     let k = c .before .before .before .check-cells in
-    record { handed = ([], []); call = out-refused ([], []) (needOf (s .args .d) (length (s .args .words .now))) (GivesBoth (facetsOf (s .args .d) (cellsOf (s .args .d) (s .args .words .now))) (tableOf (s .args .d) (cellsOf (s .args .d) (s .args .words .now))) (length (s .args .facets .now)) (length (s .args .table .now))) (s .args .d) (s .args .words .now) (s .args .keys .now) (s .args .rows .now) (s .args .spare .now) (s .args .counts .now) _ _ (sym (k .ensures) ∙ c .before .answer .given .1); result = refl; sides = refl }
+    record { handed = ([], []); call = out-refused ([], []) (needOf (s .args .d) (length (s .args .words .now))) (GivesBoth (facetsOf (s .args .d) (cellsOf (s .args .d) (s .args .words .now))) (besideFor (s .args .beside) (s .args .d) (cellsOf (s .args .d) (s .args .words .now))) (length (s .args .facets .now)) (length (s .args .list .now))) (s .args .d) (s .args .words .now) (s .args .keys .now) (s .args .rows .now) (s .args .spare .now) (s .args .counts .now) _ _ (sym (k .ensures) ∙ c .before .answer .given .1); result = refl; sides = refl }
 
 enum-told : tie.Need-enum-told
 enum-told c = search needs
@@ -54,7 +54,7 @@ returns-2 c =
     let s = c .before .before .before .before .before .before .before .before .before .before .before .before .before in
     let k = c .before .before .before .before .before .check-cells in
     let n = c .before .before .need in
-    record { handed = ([], []); call = out-cramped ([], []) (needOf (s .args .d) (length (s .args .words .now))) (GivesBoth (facetsOf (s .args .d) (cellsOf (s .args .d) (s .args .words .now))) (tableOf (s .args .d) (cellsOf (s .args .d) (s .args .words .now))) (length (s .args .facets .now)) (length (s .args .table .now))) (s .args .d) (s .args .words .now) (s .args .keys .now) (s .args .rows .now) (s .args .spare .now) (s .args .counts .now) (sym (k .ensures) ∙ c .before .before .before .enum-told .given .1) (n .result) (n .ensures) (c .before .has-room .ensures .no (not-true _ (c .if1 .taken))); result = refl; sides = refl }
+    record { handed = ([], []); call = out-cramped ([], []) (needOf (s .args .d) (length (s .args .words .now))) (GivesBoth (facetsOf (s .args .d) (cellsOf (s .args .d) (s .args .words .now))) (besideFor (s .args .beside) (s .args .d) (cellsOf (s .args .d) (s .args .words .now))) (length (s .args .facets .now)) (length (s .args .list .now))) (s .args .d) (s .args .words .now) (s .args .keys .now) (s .args .rows .now) (s .args .spare .now) (s .args .counts .now) (sym (k .ensures) ∙ c .before .before .before .enum-told .given .1) (n .result) (n .ensures) (c .before .has-room .ensures .no (not-true _ (c .if1 .taken))); result = refl; sides = refl }
 
 slice-relend-prefix-facet-cleared : tie.Need-slice-relend-prefix-facet-cleared
 slice-relend-prefix-facet-cleared c =
@@ -91,7 +91,7 @@ slice-aggregate-facet-cleared-4 c =
 facet-cleared-requires : tie.Need-facet-cleared-requires
 facet-cleared-requires c κs =
     let s = c .before .before .before .before .before .before .before .before .before .before .before .before .before .before .before .before .before .before .before in
-    working ([], []) (needOf (s .args .d) (length (s .args .words .now))) (GivesBoth (facetsOf (s .args .d) (cellsOf (s .args .d) (s .args .words .now))) (tableOf (s .args .d) (cellsOf (s .args .d) (s .args .words .now))) (length (s .args .facets .now)) (length (s .args .table .now))) (s .args .d) (s .args .words .now) (s .args .keys .now) (s .args .rows .now) (s .args .spare .now) (s .args .counts .now) (sym (c .before .before .before .before .before .before .before .before .before .before .before .check-cells .ensures) ∙ c .before .before .before .before .before .before .before .before .before .enum-told .given .1) (c .before .before .before .before .before .before .before .before .need .result) (c .before .before .before .before .before .before .before .before .need .ensures) (c .before .before .before .before .before .before .before .has-room .ensures .yes (not-false _ (c .before .before .before .before .before .before .if1 .left)))
+    working ([], []) (needOf (s .args .d) (length (s .args .words .now))) (GivesBoth (facetsOf (s .args .d) (cellsOf (s .args .d) (s .args .words .now))) (besideFor (s .args .beside) (s .args .d) (cellsOf (s .args .d) (s .args .words .now))) (length (s .args .facets .now)) (length (s .args .list .now))) (s .args .d) (s .args .words .now) (s .args .keys .now) (s .args .rows .now) (s .args .spare .now) (s .args .counts .now) (sym (c .before .before .before .before .before .before .before .before .before .before .before .check-cells .ensures) ∙ c .before .before .before .before .before .before .before .before .before .enum-told .given .1) (c .before .before .before .before .before .before .before .before .need .result) (c .before .before .before .before .before .before .before .before .need .ensures) (c .before .before .before .before .before .before .before .has-room .ensures .yes (not-false _ (c .before .before .before .before .before .before .if1 .left)))
 
 same-length : tie.Need-same-length
 same-length c = search needs
@@ -118,13 +118,13 @@ returns-3 c =
     let v = w .ensures .0 in
     record {
       handed = v .handed;
-      call = out-ended ([], []) (needOf (s .args .d) (length (s .args .words .now))) (GivesBoth (facetsOf (s .args .d) (cellsOf (s .args .d) (s .args .words .now))) (tableOf (s .args .d) (cellsOf (s .args .d) (s .args .words .now))) (length (s .args .facets .now)) (length (s .args .table .now))) (s .args .d) (s .args .words .now) (s .args .keys .now) (s .args .rows .now) (s .args .spare .now) (s .args .counts .now) (sym (c .before .before .before .before .before .before .before .before .before .before .before .before .before .before .before .before .before .before .before .before .before .before .before .before .check-cells .ensures) ∙ c .before .before .before .before .before .before .before .before .before .before .before .before .before .before .before .before .before .before .before .before .before .before .enum-told .given .1) (c .before .before .before .before .before .before .before .before .before .before .before .before .before .before .before .before .before .before .before .before .before .need .result) (c .before .before .before .before .before .before .before .before .before .before .before .before .before .before .before .before .before .before .before .before .before .need .ensures) (c .before .before .before .before .before .before .before .before .before .before .before .before .before .before .before .before .before .before .before .before .has-room .ensures .yes (not-false _ (c .before .before .before .before .before .before .before .before .before .before .before .before .before .before .before .before .before .before .before .if1 .left))) (w .result) (v .handed) _ _ _ _ (v .ends) (w .ensures .1);
+      call = out-ended ([], []) (needOf (s .args .d) (length (s .args .words .now))) (GivesBoth (facetsOf (s .args .d) (cellsOf (s .args .d) (s .args .words .now))) (besideFor (s .args .beside) (s .args .d) (cellsOf (s .args .d) (s .args .words .now))) (length (s .args .facets .now)) (length (s .args .list .now))) (s .args .d) (s .args .words .now) (s .args .keys .now) (s .args .rows .now) (s .args .spare .now) (s .args .counts .now) (sym (c .before .before .before .before .before .before .before .before .before .before .before .before .before .before .before .before .before .before .before .before .before .before .before .before .check-cells .ensures) ∙ c .before .before .before .before .before .before .before .before .before .before .before .before .before .before .before .before .before .before .before .before .before .before .enum-told .given .1) (c .before .before .before .before .before .before .before .before .before .before .before .before .before .before .before .before .before .before .before .before .before .need .result) (c .before .before .before .before .before .before .before .before .before .before .before .before .before .before .before .before .before .before .before .before .before .need .ensures) (c .before .before .before .before .before .before .before .before .before .before .before .before .before .before .before .before .before .before .before .before .has-room .ensures .yes (not-false _ (c .before .before .before .before .before .before .before .before .before .before .before .before .before .before .before .before .before .before .before .if1 .left))) (w .result) (v .handed) _ _ _ _ (v .ends) (w .ensures .1);
       result = v .result;
       sides = v .sides;
     }
 
-pub facets-spec : {M : Type 1} → statement M
-facets-spec =
+pub checked-facets-spec : {M : Type 1} → statement M
+checked-facets-spec =
     tie.close
     (tie.spec
     check-cells-requires
