@@ -8,7 +8,7 @@ use Rattle.lists.specs.Rows.{rows, flat}
 use Rattle.complex.specs.Check.{Passed}
 use Rattle.complex.specs.Cells.{cellsOf}
 use Rattle.complex.proofs.Fine.{fine-passed}
-use Rattle.ordering.specs.Order.{Orders}
+use Rattle.ordering_words.specs.Order.{Orders}
 use Rattle.refine_lattice.specs.Complex.{through}
 use Rattle.refine_lattice.specs.Refine.{vertices, share}
 use Rattle.lists.proofs.Sums.{sum-ext}

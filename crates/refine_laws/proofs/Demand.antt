@@ -18,7 +18,7 @@ use Rattle.complex.specs.Check.{Passed}
 use Rattle.complex.specs.Cells.{cellsOf}
 use Rattle.complex.specs.Facets.{cellAt}
 use Rattle.complex.proofs.Fine.{fine-passed}
-use Rattle.ordering.specs.Order.{Orders}
+use Rattle.ordering_words.specs.Order.{Orders}
 use Rattle.refine_lattice.specs.Refine.{births, vertices, share, In}
 use Rattle.refine_lattice.specs.Conform.{Sound}
 use Rattle.refine_lattice.proofs.Count.{Nodup, length-gather}

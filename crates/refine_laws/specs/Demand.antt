@@ -9,7 +9,7 @@ use lib.ListN.{take}
 use Rattle.refusal.specs.Limits.{squareMost}
 use Rattle.refusal.specs.Table.{tooShort}
 use Rattle.complex.specs.Cells.{cellsOf}
-use Rattle.ordering.specs.Order.{Orders, AgreeOnFacets}
+use Rattle.ordering_words.specs.Order.{Orders, AgreeOnFacets}
 use Rattle.refine_results.specs.declared.Refinement.{Refinement}
 use Rattle.refine_results.specs.declared.Refinement.the-variants.{Made, Refused}
 use Rattle.refine_results.specs.Refined.{coarse, orderWords}

@@ -9,7 +9,7 @@ use Rattle.lists.specs.Rows.{flat}
 use Rattle.complex.specs.Check.{Passed}
 use Rattle.complex.specs.Cells.{cellsOf}
 use Rattle.complex.specs.Facets.{cellAt}
-use Rattle.ordering.specs.Order.{Orders}
+use Rattle.ordering_words.specs.Order.{Orders}
 use Rattle.refine_results.specs.Refined.{orderWords}
 use Rattle.refine_values.specs.Reading.{wordAlong}
 
