@@ -18,7 +18,8 @@
  *
  * A GRID is its dimension d, a list `axes` with two numbers for each axis, its count of cells and its gluing, and a list `sides` where the
  * call reads them. A gluing is PLANNER_OPEN, PLANNER_PERIODIC or PLANNER_TWISTED(mask), where bit j of the mask is set if axis j is
- * reflected. Of the other numbers 1 to 255 are open, 257 to 511 periodic, and from 768 on only the lowest byte counts as the mask. An axis
+ * reflected. Of the other numbers 1 to 255 are open and 257 to 511 periodic; from 768 on the mask names an axis past the eighth, which no grid
+ * has, and is refused with 9. PLANNER_TWISTED cuts no mask: one from 256 on gives such a number. An axis
  * that is not in the list has no cells (refused with 8), one whose count is in the list and whose gluing is not is open, a side that is not
  * there is 0 (refused with 10). What stands past d is not looked at.
  *
@@ -78,7 +79,7 @@ enum {
 
 #define PLANNER_OPEN 0u
 #define PLANNER_PERIODIC 256u
-#define PLANNER_TWISTED(mask) (512u + (uint32_t)(mask))
+#define PLANNER_TWISTED(mask) ((uint64_t)(mask) < 256u ? 512u + (uint32_t)(mask) : 768u)
 #define PLANNER_NO_VERTEX 4294967295u
 #define PLANNER_NO_CELL 4294967295u
 

@@ -17,7 +17,7 @@ use Rattle.complex_cells.proofs.Order.{Colex, colex-irr, colex-trans, order-ris
 use Rattle.sorting.specs.Gather.{rowsOf}
 use Rattle.lists.specs.Words.{sameWord}
 use Rattle.lists.proofs.Words.{same-word, word-true, word-false}
-use Rattle.ordering.specs.Order.{wordIf, wordOf, byCell, IsOrder}
+use Rattle.ordering_words.specs.Order.{wordIf, wordOf, byCell, IsOrder}
 
 -- ---- the first word of a cell
 pub word-first : (ows : List Word) (cell : Word) (r : ℕ) → r < length ows → sortWord (getD ows r []) ≡ cell → ((s : ℕ) → s < r → sortWord (getD ows s []) ≡ cell → ⊥) → wordOf ows cell ≡ getD ows r []

@@ -1,17 +1,12 @@
-// An order's words, matched to the cells: sorted, and then in order, they are the cells, or they are no order.
+// An order's words by cell: matched to the cells, for sorted and then in order they are the cells, or they are no order.
+// Follows `CellOrdering::try_new` (crates/simplicial/src/topology/ordering.rs).
 ghost use mathlib.Core.Bool.{true, false};
 ghost use mathlib.Core.Path.{_≡_};
 ghost use mathlib.Core.List.{_++_};
 ghost use Prim.Native.Nat.{ℕ, _+_, _*_, _<_, _≤_};
 ghost use lib.ListN.{length, getD, take, drop};
 ghost use Rattle.multiindex.specs.Sort.{sortWords};
-ghost use Rattle.ordering.specs.WorkArrange.{Matching, Matched, Arranging, Arranged};
-
-fn wide(x: u32) -> usize
-    ensures { λ r. ⌜ r ≡ x ⌝ }
-{
-    x as usize
-}
+ghost use Rattle.ordering_words.specs.WorkArrange.{Matching, Matched, Arranging, Arranged};
 
 // Whether all the numbers are below b.
 fn all_below(ws: &[u32], b: usize) -> bool
@@ -20,23 +15,7 @@ fn all_below(ws: &[u32], b: usize) -> bool
 {
     let mut i = 0;
     while i < ws.len() {
-        if b <= wide(ws[i]) {
-            return false;
-        }
-        i += 1;
-    }
-    true
-}
-
-// Whether two lists of one length are equal.
-fn same(a: &[u32], b: &[u32]) -> bool
-    requires { ⌜ length (now a) ≡ length (now b) ⌝ }
-    ensures equal { λ r. ⌜ (r ≡ true → now (a .entry) ≡ now (b .entry)) ⌝ }
-    ensures differ { λ r. ⌜ (r ≡ false → now (a .entry) ≡ now (b .entry) → ⊥) ⌝ }
-{
-    let mut i = 0;
-    while i < a.len() {
-        if a[i] != b[i] {
+        if b <= lists::wide(ws[i]) {
             return false;
         }
         i += 1;
@@ -79,7 +58,7 @@ fn matched(
     if classes != m {
         return false;
     }
-    same(&cells[..len], &keys[len..end])
+    lists::same(&cells[..len], &keys[len..end])
 }
 
 // Whether `order` is an order of the m cells in `cells`, whose numbers are below b. If it is, its words by cell stand in `keys`, and behind them the cells.

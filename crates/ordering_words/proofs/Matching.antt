@@ -19,10 +19,10 @@ use Rattle.sorting.proofs.Rows.{pos-room}
 use Rattle.complex.specs.Cells.{inOrder}
 use Rattle.complex_cells.proofs.Words.{Word}
 use Rattle.complex_cells.proofs.Making.{key-table, key-length, key-row, made-cell, made-same}
-use Rattle.ordering.specs.Order.{wordOf}
-use Rattle.ordering.specs.WorkArrange.{Matching, Fits, Matched}
-use Rattle.ordering.proofs.Orders.{word-first}
-use Rattle.ordering.proofs.Lists.{cut-front, front-cut, words-drop}
+use Rattle.ordering_words.specs.Order.{wordOf}
+use Rattle.ordering_words.specs.WorkArrange.{Matching, Fits, Matched}
+use Rattle.ordering_words.proofs.Orders.{word-first}
+use Rattle.ordering_words.proofs.Lists.{cut-front, front-cut, words-drop}
 
 -- no more words than numbers
 pub many-numbers : (n m : ℕ) → 0 < n → m ≤ m * n

@@ -1,4 +1,4 @@
--- `ordering::arranged::arrange` meets its contract, by its four ways out (proofs/Arranging). Assumes nothing.
+-- `ordering_words::arrange` meets its contract, by its four ways out (proofs/Arranging). Assumes nothing.
 use mathlib.Core.Path.{_≡_, refl, sym, ap, _∙_, subst}
 use mathlib.Core.List.{List, [], _∷_, _++_}
 use Prim.Native.Nat.{ℕ, zero, suc, _+_, _*_, _-_, _/_, _%_, _≤_, _<_}
@@ -7,15 +7,15 @@ use lib.ListN.{length, getD, take, drop, set, replicate, length-set}
 use lib.Seq.{length-take-le}
 use borrow.Author.Tests.{not-true, not-false}
 use Rattle.lists.proofs.Rows.{part-size}
-use Rattle.ordering.proofs.Arranging.{out-length, out-high, matching, size-fits, room-keys, room-cells, room-spare, out-other, reps-rows, out-arranged}
+use Rattle.ordering_words.proofs.Arranging.{out-length, out-high, matching, size-fits, room-keys, room-cells, room-spare, out-other, reps-rows, out-arranged}
 use borrow.Author.Needs.{needs}
-use Rattle.ordering.proofs.arranged.arrange.Statement.{statement}
-use Rattle.ordering.proofs.arranged.arrange.Tie as tie
-use Rattle.ordering.proofs.arranged.arrange.Reads as reads
-use Rattle.ordering.proofs.arranged.arrange.Lts as lts
+use Rattle.ordering_words.proofs.arrange.Statement.{statement}
+use Rattle.ordering_words.proofs.arrange.Tie as tie
+use Rattle.ordering_words.proofs.arrange.Reads as reads
+use Rattle.ordering_words.proofs.arrange.Lts as lts
 use Rattle.lists.proofs.copy.Reads as copy-reads
-use Rattle.ordering.proofs.arranged.all_below.Reads as all-below-reads
-use Rattle.ordering.proofs.arranged.matched.Reads as matched-reads
+use Rattle.ordering_words.proofs.all_below.Reads as all-below-reads
+use Rattle.ordering_words.proofs.matched.Reads as matched-reads
 use Rattle.sorting.proofs.gather.Reads as gather-reads
 
 add-n : tie.Need-add-n

@@ -11,6 +11,8 @@ use lib.Seq.{length-take-le, take-at, drop-at, take-take, drop-drop, drop-append
 use Rattle.lists.specs.Rows.{cut, flat}
 use Rattle.lists.proofs.Flat.{flat-cut}
 use Rattle.lists.proofs.Members.{All}
+use Rattle.complex.specs.Facets.{Cells}
+use Rattle.complex_cells.specs.WorkMade.{Made}
 use Rattle.multiindex.specs.Sort.{insertBy, insert, sortWord, sortWords}
 use Rattle.multiindex.proofs.SortLaws.{sort-length}
 
@@ -82,3 +84,15 @@ pub sort-back : (P : ℕ → Type 0) (w : List ℕ) → All P (sortWord w) → A
 unfolding sortWord
 sort-back P [] a = tt
 sort-back P (x ∷ w) a = let s = insert-back P x (sortWord w) a in (s .0, sort-back P w (s .1))
+
+-- cells that stay in the front are made again
+pub made-again : (d : ℕ) (ws : List ℕ) (m : ℕ) (l k : List ℕ) → Made d ws m l → take (m * suc d) k ≡ take (m * suc d) l → Made d ws m k
+made-again d ws m l k a e =
+    let c : cut (suc d) m k ≡ cut (suc d) m l = cut-front (suc d) m k l e in
+    record {
+      same = c ∙ a .same;
+      cells = subst (λ (cs : List (List ℕ)). Cells d cs) (sym c) (a .cells);
+      most = a .most;
+      below = λ i h. rw (front-at (m * suc d) k l i h e) (a .below i h);
+      corners = a .corners;
+    }

@@ -8,6 +8,7 @@ use native.Mathlib.Numerals.{add-one}
 use native.Mathlib.Omega.{arith}
 use lib.ListN.{length, getD, take, drop, length-append, length-drop}
 use lib.Seq.{length-take-le, take-at, drop-at, getD-take}
+use Rattle.refusal.specs.Limits.{manyCorners}
 use Rattle.lists.specs.Rows.{cut, rows, flat, row}
 use Rattle.lists.proofs.Rows.{cut-length, cut-at}
 use Rattle.lists.proofs.Members.{All, All-at, All-of}
@@ -19,10 +20,10 @@ use Rattle.complex.specs.Cells.{inOrder, cellsOf}
 use Rattle.complex_cells.specs.WorkMade.{Made}
 use Rattle.complex_cells.proofs.Words.{Word, Each, Rising, In, each-of, in-at, at-in}
 use Rattle.complex_cells.proofs.Order.{Colex, order-rising, order-has}
-use Rattle.ordering.specs.Order.{wordOf, byCell, IsOrder, Orders}
-use Rattle.ordering.specs.WorkArrange.{Matching, Fits, Matched, Arranging, Arranged}
-use Rattle.ordering.proofs.Orders.{order-same, same-order, by-cell-rows}
-use Rattle.ordering.proofs.Lists.{sort-back}
+use Rattle.ordering_words.specs.Order.{wordOf, byCell, IsOrder, Orders}
+use Rattle.ordering_words.specs.WorkArrange.{Matching, Fits, Matched, Arranging, Arranged}
+use Rattle.ordering_words.proofs.Orders.{order-same, same-order, by-cell-rows}
+use Rattle.ordering_words.proofs.Lists.{sort-back}
 
 -- the words of a whole list have n numbers
 words-long : (n m : ℕ) (order : List ℕ) → m * n ≡ length order → Each (λ v. length v ≡ n) (cut n m order)
@@ -118,7 +119,7 @@ module _ (d m b : ℕ) (keys cells spare counts : List ℕ) (w : Arranging d m b
   size-most : m * (d + 1) ≤ length (w .ws)
   size-most = omega (arith, ap (λ (x : ℕ). m * x) (add-one d), w .made .most)
 
-  pub size-fits : m * (d + 1) < 65536
+  pub size-fits : m * (d + 1) < manyCorners
   size-fits = omega (arith, size-most, w .made .corners)
 
   pub room-keys : m * (d + 1) + m * (d + 1) ≤ length keys

@@ -1,4 +1,4 @@
--- `ordering::arranged::all_below` meets its contract. The loop's invariant: the first i numbers are below b. Assumes nothing.
+-- `ordering_words::all_below` meets its contract. The loop's invariant: the first i numbers are below b. Assumes nothing.
 use mathlib.Core.Path.{_≡_, refl, sym, ap, _∙_, subst}
 use mathlib.Core.List.{List, [], _∷_, _++_}
 use Prim.Native.Nat.{ℕ, zero, suc, _+_, _*_, _-_, _/_, _%_, _≤_, _<_}
@@ -6,11 +6,11 @@ use native.Mathlib.Omega.{arith}
 use lib.ListN.{length, getD, take, drop, set, replicate, length-set}
 use borrow.Author.Needs.{needs}
 use borrow.Author.Count.{below-more}
-use Rattle.ordering.proofs.arranged.all_below.Statement.{statement}
-use Rattle.ordering.proofs.arranged.all_below.Tie as tie
-use Rattle.ordering.proofs.arranged.all_below.Reads as reads
-use Rattle.ordering.proofs.arranged.all_below.Lts as lts
-use Rattle.ordering.proofs.arranged.wide.Reads as wide-reads
+use Rattle.ordering_words.proofs.all_below.Statement.{statement}
+use Rattle.ordering_words.proofs.all_below.Tie as tie
+use Rattle.ordering_words.proofs.all_below.Reads as reads
+use Rattle.ordering_words.proofs.all_below.Lts as lts
+use Rattle.lists.proofs.wide.Reads as wide-reads
 
 abbrev Inv-loop : tie.InvT-loop
 Inv-loop ws b i₀ i = (i ≤ length ws) × ((k : ℕ) → k < i → getD ws k 0 < b)

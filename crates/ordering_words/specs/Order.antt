@@ -25,6 +25,10 @@ unfoldable pub byCell : List (List ℕ) → List (List ℕ) → List (List ℕ)
 byCell ows [] = []
 byCell ows (cell ∷ cs) = wordOf ows cell ∷ byCell ows cs
 
+-- the words by cell of a flat list of order words of cells of dimension d
+abbrev pub wordsBy : ℕ → List (List ℕ) → List ℕ → List (List ℕ)
+wordsBy d cs order = byCell (rows (suc d) order) cs
+
 -- the words are an order of the cells: one for each cell, no more
 pub record IsOrder (cs ows : List (List ℕ)) : Type 0 where
   pub many : length ows ≡ length cs

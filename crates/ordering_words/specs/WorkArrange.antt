@@ -4,10 +4,11 @@ use mathlib.Core.List.{List, []}
 use mathlib.Core.Path.{_≡_}
 use Prim.Native.Nat.{ℕ, suc, _+_, _*_, _<_, _≤_, _^_}
 use lib.ListN.{length, getD, take, drop}
+use Rattle.refusal.specs.Limits.{manyCorners}
 use Rattle.lists.specs.Rows.{cut, rows, flat, row}
 use Rattle.complex.specs.Cells.{inOrder}
 use Rattle.complex_cells.specs.WorkMade.{Made}
-use Rattle.ordering.specs.Order.{wordOf, byCell, Orders}
+use Rattle.ordering_words.specs.Order.{wordOf, byCell, Orders}
 
 -- m order words of n numbers below b, as many cells in `cells`, and room
 pub record Matching (n m b : ℕ) (order keys cells spare counts : List ℕ) : Type 0 where
@@ -20,7 +21,7 @@ pub record Matching (n m b : ℕ) (order keys cells spare counts : List ℕ) : T
   pub counts-long : m ≤ length counts
   pub buckets : b ≤ length counts
   pub few : m < 2 ^ 32
-  pub short : length order < 65536
+  pub short : length order < manyCorners
 
 -- the words sorted and in order are the cells; reps has the row of each cell's word
 pub record Fits (n m : ℕ) (order cells reps : List ℕ) : Type 0 where
@@ -43,7 +44,7 @@ pub record Arranging (d m b : ℕ) (keys cells spare counts : List ℕ) : Type 0
   pub cells-long : length ws ≤ length cells
   pub spare-long : length ws ≤ length spare
   pub counts-long : length ws ≤ length counts
-  pub dim : d < 65536
+  pub dim : d < manyCorners
 
 -- whether it is an order; if so its words by cell stand in keys, and behind them the cells. The cells stay.
 pub record Arranged (d m : ℕ) (order cells : List ℕ) (r : Bool) (keys′ cells′ : List ℕ) : Type 0 where

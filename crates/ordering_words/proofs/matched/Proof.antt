@@ -1,4 +1,4 @@
--- `ordering::arranged::matched` meets its contract: the distinct words, sorted, are gathered in order and compared with the cells (proofs/Matching). Assumes nothing.
+-- `ordering_words::matched` meets its contract: the distinct words, sorted, are gathered in order and compared with the cells (proofs/Matching). Assumes nothing.
 use mathlib.Core.Path.{_≡_, refl, sym, ap, _∙_, subst}
 use mathlib.Core.List.{List, [], _∷_, _++_}
 use Prim.Native.Nat.{ℕ, zero, suc, _+_, _*_, _-_, _/_, _%_, _≤_, _<_}
@@ -7,14 +7,14 @@ use lib.ListN.{length, getD, take, drop, set, replicate, length-set}
 use lib.Seq.{length-take-le}
 use native.Mathlib.Nat.{mul-le-mul-right}
 use Rattle.lists.proofs.Rows.{part-size}
-use Rattle.ordering.proofs.Matching.{many-numbers, key-long, table, rows-fit, reps-in, matched-fewer, matched-compared}
+use Rattle.ordering_words.proofs.Matching.{many-numbers, key-long, table, rows-fit, reps-in, matched-fewer, matched-compared}
 use borrow.Author.Needs.{needs}
-use Rattle.ordering.proofs.arranged.matched.Statement.{statement}
-use Rattle.ordering.proofs.arranged.matched.Tie as tie
-use Rattle.ordering.proofs.arranged.matched.Reads as reads
-use Rattle.ordering.proofs.arranged.matched.Lts as lts
-use Rattle.ordering.proofs.arranged.lay_out.Reads as lay-out-reads
-use Rattle.ordering.proofs.arranged.same.Reads as same-reads
+use Rattle.ordering_words.proofs.matched.Statement.{statement}
+use Rattle.ordering_words.proofs.matched.Tie as tie
+use Rattle.ordering_words.proofs.matched.Reads as reads
+use Rattle.ordering_words.proofs.matched.Lts as lts
+use Rattle.ordering_words.proofs.lay_out.Reads as lay-out-reads
+use Rattle.lists.proofs.same.Reads as same-reads
 use Rattle.sorting.proofs.distinct.Reads as distinct-reads
 use Rattle.sorting.proofs.gather.Reads as gather-reads
 use Rattle.sorting.proofs.sort_rows.Reads as sort-rows-reads

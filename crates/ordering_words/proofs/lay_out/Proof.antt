@@ -1,4 +1,4 @@
--- `ordering::arranged::lay_out` meets its contract: two parts of the keys are written, and the words of the first are sorted (proofs/Lists). Assumes nothing.
+-- `ordering_words::lay_out` meets its contract: two parts of the keys are written, and the words of the first are sorted (proofs/Lists). Assumes nothing.
 use mathlib.Core.Path.{_≡_, refl, sym, ap, _∙_, subst}
 use mathlib.Core.List.{List, [], _∷_, _++_}
 use Prim.Native.Nat.{ℕ, zero, suc, _+_, _*_, _-_, _/_, _%_, _≤_, _<_}
@@ -8,12 +8,12 @@ use lib.ListN.{length-append, length-drop}
 use lib.Seq.{length-take-le}
 use Rattle.multiindex.specs.Sort.{sortWords}
 use Rattle.lists.proofs.Rows.{part-size}
-use Rattle.ordering.proofs.Lists.{laid}
+use Rattle.ordering_words.proofs.Lists.{laid}
 use borrow.Author.Needs.{needs}
-use Rattle.ordering.proofs.arranged.lay_out.Statement.{statement}
-use Rattle.ordering.proofs.arranged.lay_out.Tie as tie
-use Rattle.ordering.proofs.arranged.lay_out.Reads as reads
-use Rattle.ordering.proofs.arranged.lay_out.Lts as lts
+use Rattle.ordering_words.proofs.lay_out.Statement.{statement}
+use Rattle.ordering_words.proofs.lay_out.Tie as tie
+use Rattle.ordering_words.proofs.lay_out.Reads as reads
+use Rattle.ordering_words.proofs.lay_out.Lts as lts
 use Rattle.lists.proofs.copy.Reads as copy-reads
 use Rattle.multiindex.proofs.word.sort_words.Reads as sort-words-reads
 
