@@ -1,17 +1,15 @@
 -- CHILDREN INHERIT DIRECTION over the calls themselves: from their promises, a refinement that is not refused hands out the defined lists of an accepted complex.
 -- Assumes nothing.
-use mathlib.Core.Path.{_≡_, refl, sym, ap, _∙_, subst}
+use mathlib.Core.Path.{_≡_, sym, ap, _∙_, subst}
 use mathlib.Core.List.{List, List·Memᴰ}
 use Prim.Native.Nat.{ℕ, suc, _≤_, _<_}
 use native.Mathlib.Omega.{arith}
 use lib.ListN.{length}
-use Rattle.refusal.specs.declared.Answer.the-variants as answers
 use Rattle.refusal.specs.Limits.{mostDimension}
-use Rattle.refusal.specs.Call.{refused, cramped, ended}
 use Rattle.lists.specs.Rows.{rows, flat}
 use Rattle.lists.proofs.Flat.{rows-flat}
 use Rattle.multiindex.specs.Sign.{Sign}
-use Rattle.complex.specs.Check.{answerOf, Passed}
+use Rattle.complex.specs.Check.{Passed}
 use Rattle.complex.specs.Cells.{cellsOf}
 use Rattle.complex.proofs.Fine.{fine-passed}
 use Rattle.complex_cells.proofs.Words.{at-in}
@@ -22,62 +20,24 @@ use Rattle.orientation_laws.proofs.Coherent.{coherent-yes, coherent-found}
 use Rattle.ordering_words.specs.Order.{Orders}
 use Rattle.refine_lattice.specs.Refine.{words, vertices}
 use Rattle.refine_lattice.proofs.Fits.{Stage}
-use Rattle.refine_results.specs.declared.Refinement.{Refinement}
-use Rattle.refine_results.specs.declared.Refinement.the-variants.{Made, Refused}
+use Rattle.refine_results.specs.declared.Refinement.the-variants.{Made}
 use Rattle.refine_results.specs.Refined.{coarse, orderWords, refinedCells, refinedWords}
-use Rattle.refine_results.specs.Results.{Results, Lengths, Refines, resultsOf, Finishes, outside, many-cells, many-vertices, short, made}
-use Rattle.refine.specs.declared.Space.{Space}
-use Rattle.refine.specs.Promise.{Ends, crowded, unordered, finished, Comes}
+use Rattle.refine_results.specs.Results.{Results, Refines, resultsOf}
 use Rattle.refine_laws.specs.Composition.{Accepted}
 use Rattle.refine_laws.specs.Refinement.{Taken}
 use Rattle.refine_laws.specs.Calls.{Called}
+use Rattle.refine_laws.specs.Demand.{childrenSaid}
 use Rattle.refine_laws.proofs.Words.{of-mem}
 use Rattle.refine_laws.proofs.Listed.{Listed}
 use Rattle.refine_laws.proofs.Checked.{cells-listed, order-listed, stage-of, stage-sorted}
 use Rattle.refine_laws.proofs.Flat.{flat-cells}
 use Rattle.refine_laws.proofs.Again.{refined-listed}
+use Rattle.refine_laws.proofs.Made.{IsMade, Makes, tells}
 use Rattle.refine_laws.proofs.Accepted.{refinement-taken, refinement-taken-sorted}
 use Rattle.refine_direction.specs.Direction.{inherited, Inherits, InheritLaw, InheritLawSorted}
 use Rattle.refine_direction.proofs.Children.{unit-at, children-coherent}
 
--- ---- a call that is not refused
-abbrev cells-said : Refinement → ℕ
-cells-said (Made m N) = m
-cells-said (Refused n p) = 0
-
-unfoldable pub IsMade : Refinement → Type 0
-IsMade (Made m N) = Unit {0}
-IsMade (Refused n p) = ⊥
-
-record Makes (d R : ℕ) (ws : List ℕ) (Good : Type 0) (ks : List (List ℕ)) (r : Refinement) (h : Results) : Type 0 where
-  accepted : Accepted d ws
-  good : Good
-  fits : Refines d R (coarse ws) ks
-  says : cells-said r ≡ length (refinedCells d R (coarse ws) ks)
-  hands : h ≡ resultsOf d R (coarse ws) (cellsOf d ws) ks
-
-module _ (d R : ℕ) (ws : List ℕ) (Good : Type 0) (ks : List (List ℕ)) (given : Lengths) where
-  finish-tells : (r : Refinement) (h : Results) → Accepted d ws → Good → Finishes d R (coarse ws) (cellsOf d ws) ks given r h → IsMade r → Makes d R ws Good ks r h
-  unfolding IsMade
-  finish-tells r h a g (outside f) x = absurd x
-  finish-tells r h a g (many-cells i f) x = absurd x
-  finish-tells r h a g (many-vertices i f k) x = absurd x
-  finish-tells r h a g (short f k) x = absurd x
-  finish-tells r h a g (made f k) x = record { accepted = a; good = g; fits = f; says = refl; hands = refl }
-
-  end-tells : (r : Refinement) (h : Results) → answerOf d ws ≡ answers.Fine → Ends d R ws Good ks given r h → IsMade r → Makes d R ws Good ks r h
-  unfolding IsMade
-  end-tells r h e (crowded c) x = absurd x
-  end-tells r h e (unordered c f) x = absurd x
-  end-tells r h e (finished c g f) x = finish-tells r h (record { fine = e; uncrowded = c }) g f x
-
-  tells : (have used : Space) (r : Refinement) (h : Results) → Comes d R ws Good ks given have r h used → IsMade r → Makes d R ws Good ks r h
-  unfolding IsMade
-  tells have used r h (refused e) x = absurd x
-  tells have used r h (cramped e f) x = absurd x
-  tells have used r h (ended e f n) x = end-tells r h e n x
-
--- ---- what it hands out
+-- ---- what a call that is not refused hands out
 module _ (d R n : ℕ) (cs ks : List (List ℕ)) (l : Listed d n cs ks) (stage : Stage d n ks) (σ : ℕ → Sign) (co : Coherent d cs σ) (small : d ≤ mostDimension) (some : 0 < R) (taken : Taken d R n ks) where
   abbrev h : Results
   h = resultsOf d R n cs ks
@@ -122,7 +82,7 @@ inherit-of d R ws Good ks f m N h σ x co =
     let k : Makes d R ws Good ks (Made m N) h = tells d R ws Good ks (x .given) (x .have) (x .used) (Made m N) h (x .comes) tt in
     let y : Ready d R ws ks = f (k .accepted) (k .good) (k .fits) in
     let p : Passed d ws = fine-passed d ws (k .accepted .fine) in
-    subst (λ (i : ℕ). Inherits d i h σ) (sym (k .says))
+    subst (λ (i : ℕ). Inherits d i h σ) (ap childrenSaid (sym (k .says)))
     (subst (λ (z : Results). Inherits d (length (refinedCells d R (coarse ws) ks)) z σ) (sym (k .hands))
     (lists-inherit d R (coarse ws) (cellsOf d ws) ks (y .listed) (y .stage) σ co (p .small) (k .fits .least) (y .taken)))
 

@@ -2,7 +2,6 @@ pub mod Ranks
 pub mod Parity
 pub mod Children
 pub mod Direction
-pub mod Stored
 pub mod Tested
 pub mod Figures
 pub mod Strip

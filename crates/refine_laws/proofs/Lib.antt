@@ -14,4 +14,7 @@ pub mod Composition
 pub mod Figures
 pub mod Strip
 pub mod Told
+pub mod Word
+pub mod Made
 pub mod Calls
+pub mod Demand

@@ -1,4 +1,4 @@
--- Demand 3 over the calls themselves: what three calls say and what stands in the lists that they hand out. Assumes nothing.
+-- What three calls of a tower say and hand out: the words of demand 3, which Demand states over the calls' promise and the caller's lists. Assumes nothing.
 use mathlib.Core.List.{List}
 use mathlib.Core.Path.{_≡_}
 use Prim.Native.Nat.{ℕ, suc, _*_, _-_}
@@ -6,7 +6,7 @@ use lib.Dec.{ltb}
 use lib.ListN.{length}
 use Rattle.lists.specs.Rows.{rows, row}
 use Rattle.complex.specs.Cells.{cellsOf}
-use Rattle.ordering_words.specs.Order.{Orders, AgreeOnFacets}
+use Rattle.ordering_words.specs.Order.{Orders}
 use Rattle.refine_lattice.specs.Children.{pick}
 use Rattle.lists.specs.Words.{same}
 use Rattle.refine_lattice.specs.Complex.{weigh, through}
@@ -50,22 +50,3 @@ pub record Tower (d a b : ℕ) (ws : List ℕ) (m N : ℕ) (h : Results) (r₁ :
   -- and its words are the single call's, up to a one-to-one renaming of the vertices that fixes the coarse ones and keeps every vertex's shares, multiplied through the middle step
   pub words : Renamed (coarse ws) N N (rows (suc d) (h₂ .words-out)) (rows (suc d) (h .words-out))
       (through (coarse (h₁ .cells-out)) (told d a (coarse ws) h₁) (told d b (coarse (h₁ .cells-out)) h₂)) (told d (a * b) (coarse ws) h)
-
--- DEMAND 3, for an order that agrees on every shared facet. The single call is accepted; nothing else is asked of the others than that they have room.
-unfoldable pub TowerLaw : ℕ → ℕ → ℕ → List ℕ → List ℕ → Type 0
-TowerLaw d a b ws os =
-    (m N : ℕ) (h : Results) (r₁ : Refinement) (h₁ : Results) (r₂ : Refinement) (h₂ : Results)
-    → RefineWith d (a * b) ws os (Made m N) h
-    → AgreeOnFacets d (cellsOf d ws) (orderWords d ws os)
-    → RefineWith d a ws os r₁ h₁
-    → RefineWith d b (h₁ .cells-out) (h₁ .words-out) r₂ h₂
-    → Tower d a b ws m N h r₁ h₁ r₂ h₂
-
--- and where the cells' sorted vertices are refined along
-unfoldable pub TowerLawSorted : ℕ → ℕ → ℕ → List ℕ → Type 0
-TowerLawSorted d a b ws =
-    (m N : ℕ) (h : Results) (r₁ : Refinement) (h₁ : Results) (r₂ : Refinement) (h₂ : Results)
-    → Refine d (a * b) ws (Made m N) h
-    → Refine d a ws r₁ h₁
-    → RefineWith d b (h₁ .cells-out) (h₁ .words-out) r₂ h₂
-    → Tower d a b ws m N h r₁ h₁ r₂ h₂
