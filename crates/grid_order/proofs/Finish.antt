@@ -8,6 +8,7 @@ use native.Mathlib.Numerals.{add-one}
 use native.Mathlib.Omega.{arith}
 use lib.ListN.{length, getD, take, drop, length-append, length-drop, drop-of-length-le}
 use lib.Seq.{length-take-le, take-at, drop-at, drop-drop, take-all, getD-take, getD-drop}
+use Rattle.refusal.specs.Limits.{rowMost, manyCorners}
 use Rattle.refusal.specs.Table.{crowdedFacet}
 use Rattle.lists.specs.Rows.{cut, rows, flat, row}
 use Rattle.lists.proofs.Flat.{flat-cut}
@@ -96,8 +97,8 @@ module _ (g : Grid) (at : ℕ) (keys rows₀ spare counts : List ℕ) (w : Worki
   pub finding : Finding g keys rows₀ spare counts
   finding = record { taken = w .taken; keys-long = omega (arith, w .keys-long); rows-long = w .rows-long; spare-long = w .spare-long; counts-long = w .counts-long }
 
-  pub at-small : at < 262144
-  at-small = omega (arith, w .start, need-bound (g .d) (cornersOf g) (dim g (w .taken)) (corners-few g (w .taken)))
+  pub at-small : at < rowMost * manyCorners
+  at-small = omega (arith, w .start, need-bound (g .d) (cornersOf g) (dim g (w .taken)) (omega (arith, corners-few g (w .taken))))
 
   module _ (m : ℕ) (keys₁ rows₁ spare₁ counts₁ : List ℕ) (lk : length keys₁ ≡ length keys) (lr : length rows₁ ≡ length rows₀) (ls : length spare₁ ≡ length spare) (lc : length counts₁ ≡ length counts) (f : Found g m rows₁ spare₁) where
     pub at-fits : at ≤ length keys₁
@@ -191,7 +192,7 @@ module _ (g : Grid) (at : ℕ) (keys rows₀ spare counts : List ℕ) (w : Worki
         size-few : m * suc (g .d) < none
         size-few = omega (arith, size-most, corners-few g (w .taken))
 
-        pub size-small : m * (g .d + 1) < 65536
+        pub size-small : m * (g .d + 1) < manyCorners
         size-small = rw (add-one (g .d)) (omega (arith, size-most, corners-few g (w .taken)))
 
         size-code : m * (g .d + 1) ≡ m * suc (g .d)
