@@ -65,6 +65,7 @@ CALL(geojson, planner_geojson(d, -90, 90, AXES, bytes, sizeof bytes, ROOM))
 CALL(cells, planner_cells(d, WORDS, OUT, ROOM))
 CALL(edges, planner_edges(d, WORDS, OUT, ROOM))
 CALL(facets, planner_facets(d, WORDS, OUT, more, MOST, ROOM))
+CALL(facet_records, planner_facet_records(d, WORDS, OUT, more, MOST, ROOM))
 CALL(border, planner_border(d, WORDS, OUT, ROOM))
 CALL(orientation, planner_orientation(d, WORDS, signs, MOST, ROOM))
 CALL(looks, planner_orientation_looks(d, WORDS, signs, MOST, ROOM, &total))
@@ -117,7 +118,7 @@ static const struct {
     {"is_orientation_preserving", preserving, peer_parity, MANY}, {"cell_words", cell_words, peer_words, 1}, {"triangulate_ordered", triangulate, 0, 1},
     {"edge_lengths_sq", lengths, peer_spans, 1}, {"edge_length_sq", one_length, 0, 1}, {"chained_nvertices", chained_nvertices, 0, 1},
     {"chained_classes", chained_classes, 0, 1}, {"chained_closed_classes", chained_closed, 0, 1}, {"chained_cell_words", chained_words, 0, 1}, {"geojson", geojson, 0, 1},
-    {"cells", cells, peer_cell_list, 1}, {"edges", edges, peer_edge_list, 1}, {"facets", facets, peer_facet_list, 1}, {"border", border, peer_border_list, 1},
+    {"cells", cells, peer_cell_list, 1}, {"edges", edges, peer_edge_list, 1}, {"facets", facets, peer_facet_list, 1}, {"facet_records", facet_records, 0, 1}, {"border", border, peer_border_list, 1},
     {"orientation", orientation, peer_signs, 1}, {"orientation_looks", looks, 0, 1}, {"orient_by", orient_by, 0, 1}, {"ordering", ordering, 0, 1},
     {"induced_orientation", induced, 0, 1}, {"drop_cells", drop_cells, 0, 1}, {"incidence", incidence, 0, 1}, {"faces", faces, 0, 1}, {"boundary", boundary, 0, 1},
     {"matrix_market", matrix_market, 0, 1}, {"refine", refine, peer_refinement, 1}, {"refine_with", refine_with, 0, 1}, {"refine_by_steps", refine_by_steps, 0, 1},

@@ -40,7 +40,7 @@ def grids(j, rnd, all_grids):
 
 def makers(j, rnd):
     n = rnd.choice((0, 1, 2, 3, 4, 5, 8, 30, 64, 4095, 4096, 4097, 2 ** 32 - 1, rnd.randrange(100)))
-    glues = [rnd.choice((0, 256, 512 + (rnd.randrange(8) & ~(1 << i)), 512 + rnd.randrange(16))) for i in range(rnd.choice((2, 3, 3, 3)))]
+    glues = [rnd.choice((0, 256, 512 + (rnd.randrange(8) & ~(1 << i)), 512 + rnd.randrange(16)) * 4 + (768 + rnd.randrange(2 ** 20),)) for i in range(rnd.choice((2, 3, 3, 3)))]
     calls.makers(j, rnd.choice((0, 1, 2, 2, 3, 3, 4)), inputs.random_sides(rnd, 3), n, glues)
 
 

@@ -281,8 +281,13 @@ def limit_grids():
     yield 2, [3, 256]                              # an axis that is not there
     yield 2, [3, 256, 4]
     yield 3, [3, 512 + 128, 3, 256 + 255, 3, 255]   # masks that count, and masks that do not
-    yield 2, [3, 2 ** 32 - 1, 3, 512]
-    yield 2, [3, 512 + 2, 3, 3 * 256 + 0]
+    for code in (1, 255, 257, 511, 767, 768, 769, 770, 771, 1024, 1026, 65536 + 514, 2 ** 31 + 512, 2 ** 32 - 256, 2 ** 32 - 1):   # gluings that no macro gives
+        yield 1, [3, code]
+        yield 2, [3, code, 3, 512]
+        yield 2, [3, 512 + 2, 3, code]
+        yield 2, [3, 512 + 2, 1, 0, 3, code]            # past d, where it is not looked at
+        yield 3, [3, 256, 3, 512 + 4, 3, code]
+        yield 2, [2, 256, 3, code]                      # 9 before 8
 
 
 def random_grid(rnd):

@@ -106,7 +106,8 @@ def kind(glue):
 
 
 def mask(glue):
-    return glue % 256 if kind(glue) == 2 else 0
+    """the set that a gluing reflects; from 256 on it names an axis that no grid has"""
+    return glue - TWISTED if kind(glue) == 2 else 0
 
 
 def axis(axes, i):

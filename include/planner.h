@@ -18,7 +18,8 @@
  *
  * A GRID is its dimension d, a list `axes` with two numbers for each axis, its count of cells and its gluing, and a list `sides` where the
  * call reads them. A gluing is PLANNER_OPEN, PLANNER_PERIODIC or PLANNER_TWISTED(mask), where bit j of the mask is set if axis j is
- * reflected. Of the other numbers 1 to 255 are open, 257 to 511 periodic, and from 768 on only the lowest byte counts as the mask. An axis
+ * reflected. Of the other numbers 1 to 255 are open and 257 to 511 periodic; from 768 on the mask names an axis past the eighth, which no grid
+ * has, and is refused with 9. PLANNER_TWISTED cuts no mask: one from 256 on gives such a number. An axis
  * that is not in the list has no cells (refused with 8), one whose count is in the list and whose gluing is not is open, a side that is not
  * there is 0 (refused with 10). What stands past d is not looked at.
  *
@@ -78,7 +79,7 @@ enum {
 
 #define PLANNER_OPEN 0u
 #define PLANNER_PERIODIC 256u
-#define PLANNER_TWISTED(mask) (512u + (uint32_t)(mask))
+#define PLANNER_TWISTED(mask) ((uint64_t)(mask) < 256u ? 512u + (uint32_t)(mask) : 768u)
 #define PLANNER_NO_VERTEX 4294967295u
 #define PLANNER_NO_CELL 4294967295u
 
@@ -206,6 +207,14 @@ uint64_t planner_edges(
  * 12 (facets, table). Working lists: keys max(1, d) * n, rows n, spare n, counts n. */
 uint64_t planner_facets(
     uint32_t d, const uint32_t *words, size_t n, uint32_t *facets, size_t facets_len, uint32_t *table, size_t table_len, uint32_t *keys, size_t keys_len,
+    uint32_t *rows, size_t rows_len, uint32_t *spare, size_t spare_len, uint32_t *counts, size_t counts_len);
+
+/* The facets as planner_facets hands them out, and in records five numbers for each facet: its lower cell and the induced sign there, its other cell and the induced sign
+ * there, 1 for + and 2 for -, or PLANNER_NO_CELL and 0 where the facet lies in one cell; and 1 where its cells' words list its vertices in one sequence, which sorted cells
+ * always do. Returns how many facets there are; d times as many numbers are needed of facets, 5 times as many of records. Refused: 1, 2, 3, 4, 6, 5, 12 (working lists), 7,
+ * 12 (facets, records). Working lists: keys max(1, d) * n, rows n, spare n, counts n. */
+uint64_t planner_facet_records(
+    uint32_t d, const uint32_t *words, size_t n, uint32_t *facets, size_t facets_len, uint32_t *records, size_t records_len, uint32_t *keys, size_t keys_len,
     uint32_t *rows, size_t rows_len, uint32_t *spare, size_t spare_len, uint32_t *counts, size_t counts_len);
 
 /* The facets that lie in one cell, d vertices each, in colex order. Returns how many; d times as many numbers are needed of border. Refused: 1, 2, 3, 4, 6, 5, 12

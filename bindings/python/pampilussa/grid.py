@@ -47,7 +47,7 @@ def gluing_text(code: int) -> str:
     """The gluing of a number, as bandsum writes it."""
     if code < PERIODIC:
         return "O"
-    return "P" if code < TWISTED else "T" + "".join(str(j) for j in range(8) if code >> j & 1)
+    return "P" if code < TWISTED else "T" + "".join(str(j) for j in range(8) if code - TWISTED >> j & 1)
 
 
 

@@ -35,7 +35,9 @@ impl Gluing {
         match code {
             0..=255 => Gluing::Open,
             256..=511 => Gluing::Periodic,
-            _ => Gluing::Twisted(code as u8),
+            512..=767 => Gluing::Twisted((code - 512) as u8),
+            // A set that names an axis past the eighth: the library takes it for every axis, and refuses it.
+            _ => Gluing::Twisted(u8::MAX),
         }
     }
 }

@@ -1,9 +1,10 @@
 -- Coded answers and grids from their parts. Assumes nothing.
 use mathlib.Core.Path.{_≡_, refl, sym, ap, _∙_}
-use Prim.Native.Nat.{ℕ, zero, suc, _<_, _≤_, _%_}
+use Prim.Native.Nat.{ℕ, zero, suc, _-_, _<_, _≤_}
 use native.Mathlib.Nat.{not-suc-le-zero, le-of-suc-le-suc}
 use mathlib.Core.Bool.{Bool, false, cond}
 use mathlib.Core.List.{List, [], _∷_}
+use native.Mathlib.Omega.{arith}
 use lib.Dec.{ltb}
 use lib.ListN.{length, getD, set, List·getD-eq-default}
 use borrow.Author.Tests.{lt-ltb, le-ltb}
@@ -29,7 +30,7 @@ use Rattle.refusal.specs.declared.Answer.the-variants as Answer
 use Rattle.refine_results.specs.declared.Refinement.{Refinement}
 use Rattle.refine_results.specs.declared.Refinement.the-variants as Refinement
 use Rattle.planner_passing.specs.Said.{refusedCode, coherenceCode, coherenceLooks, reducedCode, reducedSets, madeCode, madeAxes, lengthCode, lengthSquares, refinedCode, refinedVertices, answerCode, answerList}
-use Rattle.planner_passing.specs.Given.{glueOf, axisGiven, sidesGiven, gridGiven, entry, sideGiven, gluesGiven, glueCode, axesOf}
+use Rattle.planner_passing.specs.Given.{everyAxis, glueOf, axisGiven, sidesGiven, gridGiven, entry, sideGiven, gluesGiven, glueCode, axesOf}
 
 -- a list's element does not turn on what stands past its end
 pub within : {A : Type 0} (xs : List A) (i : ℕ) (a b : A) → i < length xs → getD xs i a ≡ getD xs i b
@@ -53,19 +54,32 @@ pub side-past : (xs : List Float) (i : ℕ) → length xs ≤ i → fin false 0 
 unfolding sideGiven
 side-past xs i h = sym (List·getD-eq-default xs (fin false 0 (pos 0)) h)
 
+-- a gluing from 512 on, and one from 256 on
+abbrev twistOf : ℕ → Glue
+twistOf code = cond (ltb code 768) (Twisted (code - 512)) (Twisted everyAxis)
+
+abbrev closedBy : ℕ → Glue
+closedBy code = cond (ltb code 512) Periodic (twistOf code)
+
 pub glue-open : (code : ℕ) → code < 256 → Open ≡ glueOf code
 unfolding glueOf
-glue-open code h = sym (ap (λ (t : Bool). cond t Open (cond (ltb code 512) Periodic (Twisted (code % 256)))) (lt-ltb code 256 h))
+glue-open code h = sym (ap (λ (t : Bool). cond t Open (closedBy code)) (lt-ltb code 256 h))
 
-pub glue-closed : (code : ℕ) → 256 ≤ code → cond (ltb code 512) Periodic (Twisted (code % 256)) ≡ glueOf code
+glue-closed : (code : ℕ) → 256 ≤ code → closedBy code ≡ glueOf code
 unfolding glueOf
-glue-closed code h = sym (ap (λ (t : Bool). cond t Open (cond (ltb code 512) Periodic (Twisted (code % 256)))) (le-ltb code 256 h))
+glue-closed code h = sym (ap (λ (t : Bool). cond t Open (closedBy code)) (le-ltb code 256 h))
 
 pub glue-periodic : (code : ℕ) → 256 ≤ code → code < 512 → Periodic ≡ glueOf code
-glue-periodic code h k = sym (ap (λ (t : Bool). cond t Periodic (Twisted (code % 256))) (lt-ltb code 512 k)) ∙ glue-closed code h
+glue-periodic code h k = sym (ap (λ (t : Bool). cond t Periodic (twistOf code)) (lt-ltb code 512 k)) ∙ glue-closed code h
 
-pub glue-twisted : (code : ℕ) → 256 ≤ code → 512 ≤ code → Twisted (code % 256) ≡ glueOf code
-glue-twisted code h k = sym (ap (λ (t : Bool). cond t Periodic (Twisted (code % 256))) (le-ltb code 512 k)) ∙ glue-closed code h
+glue-twists : (code : ℕ) → 512 ≤ code → twistOf code ≡ glueOf code
+glue-twists code h = sym (ap (λ (t : Bool). cond t Periodic (twistOf code)) (le-ltb code 512 h)) ∙ glue-closed code (omega arith)
+
+pub glue-twisted : (code : ℕ) → 512 ≤ code → code < 768 → Twisted (code - 512) ≡ glueOf code
+glue-twisted code h k = sym (ap (λ (t : Bool). cond t (Twisted (code - 512)) (Twisted everyAxis)) (lt-ltb code 768 k)) ∙ glue-twists code h
+
+pub glue-past : (code : ℕ) → 768 ≤ code → Twisted everyAxis ≡ glueOf code
+glue-past code h = sym (ap (λ (t : Bool). cond t (Twisted (code - 512)) (Twisted everyAxis)) (le-ltb code 768 h)) ∙ glue-twists code (omega arith)
 
 pub axis-made : (xs : List ℕ) (i k : ℕ) {n m : ℕ} {g : Glue} → n ≡ entry xs i → m ≡ entry xs k → g ≡ glueOf m → record { count = n; glue = g } ≡ axisGiven xs i k
 unfolding axisGiven

@@ -1,5 +1,5 @@
 -- How a grid is given from C: its dimension, a list with a count and a gluing for each axis in turn, and a list of sides. Assumes nothing.
-use Prim.Native.Nat.{ℕ, _+_, _%_}
+use Prim.Native.Nat.{ℕ, _+_, _-_}
 use mathlib.Core.Bool.{false, cond}
 use mathlib.Core.List.{List, [], _∷_}
 use lib.Dec.{ltb}
@@ -15,9 +15,14 @@ use Rattle.quotient.specs.declared.Grid.{Grid}
 use Rattle.quotient.specs.declared.GridVertex.{GridVertex}
 use Rattle.quotient.specs.declared.GluedVertex.{GluedVertex}
 
--- a gluing's number: below 256 open, below 512 periodic, else twisted over the mask in the lowest byte
+-- the mask of every axis: on whatever axis it stands it reflects that axis itself
+abbrev pub everyAxis : ℕ
+everyAxis = 255
+
+-- A gluing's number: below 256 open, below 512 periodic, below 768 twisted over the mask that is left above 512.
+-- From 768 on the mask would name an axis past the eighth, which is outside every grid: it stands for the mask of every axis, and both are refused with 9
 unfoldable pub glueOf : ℕ → Glue
-glueOf code = cond (ltb code 256) Open (cond (ltb code 512) Periodic (Twisted (code % 256)))
+glueOf code = cond (ltb code 256) Open (cond (ltb code 512) Periodic (cond (ltb code 768) (Twisted (code - 512)) (Twisted everyAxis)))
 
 -- number i of the list, 0 past its end
 unfoldable pub entry : List ℕ → ℕ → ℕ

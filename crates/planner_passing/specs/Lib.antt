@@ -1,2 +1,3 @@
 pub mod Said
 pub mod Given
+pub mod Decoding

@@ -7,7 +7,10 @@ use quotient::Grid;
 ghost use mathlib.Core.Path.{_≡_};
 ghost use Rattle.planner_passing.specs.Given.{glueOf, axisGiven, sidesGiven, gridGiven, plainGiven, entry, sideGiven, gluesGiven, glueCode, axesOf};
 
-// A gluing from its number: 0 is open, 256 periodic, from 512 on twisted over the mask in the lowest byte.
+// The mask of every axis: it reflects its own axis too, so no grid with it is taken.
+const EVERY_AXIS: u8 = 255;
+
+// A gluing from its number: 0 is open, 256 periodic, from 512 on twisted over the mask above 512; a mask from 256 on names an axis that no grid has, and counts as every axis.
 pub fn glue(code: u32) -> Glue
     ensures { λ r. ⌜ r ≡ glueOf code ⌝ }
 {
@@ -17,7 +20,10 @@ pub fn glue(code: u32) -> Glue
     if code < 512 {
         return Glue::Periodic;
     }
-    Glue::Twisted((code % 256) as u8)
+    if code < 768 {
+        return Glue::Twisted((code - 512) as u8);
+    }
+    Glue::Twisted(EVERY_AXIS)
 }
 
 // Number i of a list, and 0 past its end.
