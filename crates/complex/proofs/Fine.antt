@@ -11,42 +11,12 @@ use borrow.Author.Tests.{lt-ltb, le-ltb, lt-leb, eq-eqb, ne-eqb, ltb-false, leb-
 use Rattle.refusal.specs.declared.Answer.{Answer}
 use Rattle.refusal.specs.declared.Answer.the-variants.{Fine, Refused}
 use Rattle.lists.specs.Rows.{row}
-use Rattle.lists.specs.Words.{among, hasRepeat, largestOf, foundAt, firstWhere}
+use Rattle.lists.specs.Words.{among, hasRepeat, largestOf, firstWhere}
 use Rattle.refusal.specs.Refuse.{refuse}
 use Rattle.refusal.proofs.Chain.{refuse-fine}
 use Rattle.complex.specs.Check.{answerOf, Passed}
 use Rattle.lists.proofs.Words.{first-none}
-
--- a search that reaches its bound: no number below it passes
-pub first-full : (p : ℕ → Bool) (m : ℕ) → m ≤ firstWhere p m → (k : ℕ) → k < m → p k ≡ false
-unfolding firstWhere foundAt
-first-full p zero h k l = absurd (omega arith)
-first-full p (suc m) h k l = go (p zero) refl h k l (first-full (λ j. p (suc j)) m)
-  where
-    go : (t : Bool) → p zero ≡ t → suc m ≤ foundAt t (firstWhere (λ j. p (suc j)) m) → (k : ℕ) → k < suc m → (m ≤ firstWhere (λ j. p (suc j)) m → (k : ℕ) → k < m → p (suc k) ≡ false) → p k ≡ false
-    go true e h k l r = absurd (omega arith)
-    go false e h zero l r = e
-    go false e h (suc k) l r = r (omega arith) k (omega arith)
-
--- a search that stops below its bound: the number it stops at passes, and none before it does
-pub first-found : (p : ℕ → Bool) (m : ℕ) → firstWhere p m < m → p (firstWhere p m) ≡ true
-unfolding firstWhere foundAt
-first-found p zero h = absurd (omega arith)
-first-found p (suc m) h = go (p zero) refl h (first-found (λ j. p (suc j)) m)
-  where
-    go : (t : Bool) → p zero ≡ t → foundAt t (firstWhere (λ j. p (suc j)) m) < suc m → (firstWhere (λ j. p (suc j)) m < m → p (suc (firstWhere (λ j. p (suc j)) m)) ≡ true) → p (foundAt t (firstWhere (λ j. p (suc j)) m)) ≡ true
-    go true e h r = e
-    go false e h r = r (omega arith)
-
-pub first-before : (p : ℕ → Bool) (m k : ℕ) → k < firstWhere p m → p k ≡ false
-unfolding firstWhere foundAt
-first-before p zero k h = absurd (omega arith)
-first-before p (suc m) k h = go (p zero) refl k h (first-before (λ j. p (suc j)) m)
-  where
-    go : (t : Bool) → p zero ≡ t → (k : ℕ) → k < foundAt t (firstWhere (λ j. p (suc j)) m) → ((k : ℕ) → k < firstWhere (λ j. p (suc j)) m → p (suc k) ≡ false) → p k ≡ false
-    go true e k h r = absurd (omega arith)
-    go false e zero h r = e
-    go false e (suc k) h r = r k (omega arith)
+pub use Rattle.lists.proofs.Words.{first-full, first-found, first-before}
 
 pub fine-passed : (d : ℕ) (ws : List ℕ) → answerOf d ws ≡ Fine → Passed d ws
 unfolding answerOf

@@ -1,5 +1,6 @@
 // The check of a cell list: a flat list of words of d+1 vertex numbers each.
 // Follows what `Simplex::new`, `Skeleton::new` and `Complex::from_cells` assert (crates/simplicial/src/topology/simplex.rs, skeleton.rs, complex.rs).
+use lists::largest;
 use refusal::Answer;
 use refusal::BAD_DIMENSION;
 use refusal::MOST_CELLS;
@@ -15,7 +16,7 @@ ghost use mathlib.Core.Path.{_≡_};
 ghost use Prim.Native.Nat.{ℕ, _+_, _*_, _<_, _≤_};
 ghost use lib.ListN.{length, getD};
 ghost use lib.Dec.{eqb};
-ghost use Rattle.refusal.specs.Limits.{mostDimension, mostVertices};
+ghost use Rattle.refusal.specs.Limits.{mostDimension, mostVertices, manyCorners};
 ghost use Rattle.lists.specs.Words.{among, hasRepeat, largestOf, firstWhere, marked};
 ghost use Rattle.complex.specs.Check.{firstRepeat, answerOf};
 ghost use Rattle.complex.specs.Room.{keyRoom, needOf};
@@ -67,22 +68,6 @@ fn first_repeat(ws: &[u32], n: usize, count: usize) -> usize
         k += 1;
     }
     count
-}
-
-// The largest of the numbers, 0 where there is none.
-fn largest(ws: &[u32]) -> u32
-    ensures { λ r. ⌜ r ≡ largestOf (now (ws .entry)) ⌝ }
-{
-    let mut top = 0;
-    let mut i = 0;
-    while i < ws.len() {
-        let v = ws[i];
-        if top < v {
-            top = v;
-        }
-        i += 1;
-    }
-    top
 }
 
 // Stores a 1 in `seen` at each of the numbers.
@@ -152,7 +137,7 @@ pub fn check_cells(d: u32, words: &[u32]) -> Answer
 
 // How many numbers the facet rows of words with len corners need for their keys.
 fn key_room(d: usize, len: usize) -> usize
-    requires { ⌜ (d ≤ mostDimension) × (len < 65536) ⌝ }
+    requires { ⌜ (d ≤ mostDimension) × (len < manyCorners) ⌝ }
     ensures { λ r. ⌜ r ≡ keyRoom d len ⌝ }
 {
     if d == 0 {
@@ -163,7 +148,7 @@ fn key_room(d: usize, len: usize) -> usize
 
 // What a call on words with len corners needs of its working lists.
 pub fn need(d: usize, len: usize) -> Room
-    requires { ⌜ (d ≤ mostDimension) × (len < 65536) ⌝ }
+    requires { ⌜ (d ≤ mostDimension) × (len < manyCorners) ⌝ }
     ensures { λ r. ⌜ r ≡ needOf d len ⌝ }
 {
     Room {

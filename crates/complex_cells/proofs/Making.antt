@@ -19,6 +19,7 @@ use Rattle.sorting.specs.Gather.{rowsOf}
 use Rattle.sorting.proofs.Rows.{RowIn, rowsOf-cell, pos-room}
 use Rattle.lists.specs.Words.{hasRepeat, largestOf}
 use Rattle.lists.proofs.Words.{below-largest}
+use Rattle.refusal.specs.Limits.{manyCorners}
 use Rattle.complex.specs.Check.{Passed}
 use Rattle.multiindex.specs.Sort.{sortWord, sortWords}
 use Rattle.multiindex.proofs.SortLaws.{sort-length}
@@ -191,7 +192,7 @@ module _ (d : ℕ) (ws : List ℕ) (p : Passed d ws) where
   pub whole-words : length ws / (d + 1) * (d + 1) ≡ length ws
   whole-words = omega (arith, div-add-mod' (length ws) (d + 1), p .whole)
 
-  pub few-corners : length ws < 65536
+  pub few-corners : length ws < manyCorners
   few-corners = omega (arith, whole-words, mul-le-mul-right (d + 1) (p .few), p .small)
 
   pub low-numbers : (i : ℕ) → i < length ws → getD ws i 0 < length ws

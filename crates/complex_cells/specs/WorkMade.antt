@@ -3,6 +3,7 @@ use mathlib.Core.List.{List}
 use mathlib.Core.Path.{_≡_}
 use Prim.Native.Nat.{ℕ, suc, _*_, _<_, _≤_}
 use lib.ListN.{length, getD}
+use Rattle.refusal.specs.Limits.{manyCorners}
 use Rattle.complex.specs.Check.{Passed}
 use Rattle.lists.specs.Rows.{cut}
 use Rattle.complex.specs.Cells.{cellsOf}
@@ -22,4 +23,4 @@ pub record Made (d : ℕ) (ws : List ℕ) (m : ℕ) (rows : List ℕ) : Type 0 w
   pub cells : Cells d (cut (suc d) m rows)
   pub most : m * suc d ≤ length ws
   pub below : (i : ℕ) → i < m * suc d → getD rows i 0 < length ws
-  pub corners : length ws < 65536
+  pub corners : length ws < manyCorners

@@ -65,6 +65,47 @@ first-at p zero k l h t = omega arith
 first-at p (suc m) zero l h t = rw t
 first-at p (suc m) (suc k) l h t = rw (h 0 (suc-le-suc zero-le)) (ap suc (first-at (λ k. p (suc k)) m k (omega arith) (λ j q. h (suc j) (suc-le-suc q)) t))
 
+-- a search ends at its bound or before it
+pub first-most : (p : ℕ → Bool) (m : ℕ) → firstWhere p m ≤ m
+unfolding firstWhere foundAt
+first-most p zero = zero-le
+first-most p (suc m) = go (p zero) (first-most (λ k. p (suc k)) m)
+  where
+    go : (t : Bool) → firstWhere (λ k. p (suc k)) m ≤ m → foundAt t (firstWhere (λ k. p (suc k)) m) ≤ suc m
+    go true h = zero-le
+    go false h = suc-le-suc h
+
+-- a search that reaches its bound: no number below it passes
+pub first-full : (p : ℕ → Bool) (m : ℕ) → m ≤ firstWhere p m → (k : ℕ) → k < m → p k ≡ false
+unfolding firstWhere foundAt
+first-full p zero h k l = absurd (omega arith)
+first-full p (suc m) h k l = go (p zero) refl h k l (first-full (λ j. p (suc j)) m)
+  where
+    go : (t : Bool) → p zero ≡ t → suc m ≤ foundAt t (firstWhere (λ j. p (suc j)) m) → (k : ℕ) → k < suc m → (m ≤ firstWhere (λ j. p (suc j)) m → (k : ℕ) → k < m → p (suc k) ≡ false) → p k ≡ false
+    go true e h k l r = absurd (omega arith)
+    go false e h zero l r = e
+    go false e h (suc k) l r = r (omega arith) k (omega arith)
+
+-- a search that stops below its bound: the number it stops at passes, and none before it does
+pub first-found : (p : ℕ → Bool) (m : ℕ) → firstWhere p m < m → p (firstWhere p m) ≡ true
+unfolding firstWhere foundAt
+first-found p zero h = absurd (omega arith)
+first-found p (suc m) h = go (p zero) refl h (first-found (λ j. p (suc j)) m)
+  where
+    go : (t : Bool) → p zero ≡ t → foundAt t (firstWhere (λ j. p (suc j)) m) < suc m → (firstWhere (λ j. p (suc j)) m < m → p (suc (firstWhere (λ j. p (suc j)) m)) ≡ true) → p (foundAt t (firstWhere (λ j. p (suc j)) m)) ≡ true
+    go true e h r = e
+    go false e h r = r (omega arith)
+
+pub first-before : (p : ℕ → Bool) (m k : ℕ) → k < firstWhere p m → p k ≡ false
+unfolding firstWhere foundAt
+first-before p zero k h = absurd (omega arith)
+first-before p (suc m) k h = go (p zero) refl k h (first-before (λ j. p (suc j)) m)
+  where
+    go : (t : Bool) → p zero ≡ t → (k : ℕ) → k < foundAt t (firstWhere (λ j. p (suc j)) m) → ((k : ℕ) → k < firstWhere (λ j. p (suc j)) m → p (suc k) ≡ false) → p k ≡ false
+    go true e k h r = absurd (omega arith)
+    go false e zero h r = e
+    go false e (suc k) h r = r k (omega arith)
+
 -- v stands at i, or it does not
 pub among-hit : (v : ℕ) (ws : List ℕ) (i : ℕ) → i < length ws → getD ws i 0 ≡ v → among v (drop i ws) ≡ true
 among-hit v ws i h e = among-step v ws i h ∙ rw (eq-eqb _ _ e)

@@ -4,14 +4,15 @@ use mathlib.Core.Bool.{Bool, true, false}
 use mathlib.Core.List.{List, [], _∷_, _++_}
 use Prim.Native.Nat.{ℕ, zero, suc, _+_, _*_, _-_, _^_, _≤_, _<_}
 use native.Mathlib.Numerals.{add-one}
-use native.Mathlib.Nat.{pow-zero, pow-suc, pow-le-pow-left, le-trans, le-of-eq}
+use native.Mathlib.Nat.{pow-suc, pow-le-pow-left, pow-le-pow-right, le-trans, le-of-eq}
 use native.Mathlib.Omega.{arith}
 use lib.ListN.{length, getD, drop, set, replicate, length-append, length-drop, length-replicate, replicate-append-replicate, drop-of-length-le}
 use lib.Seq.{drop-cons, append-snoc, getD-at}
 use borrow.Author.Tests.{lt-ltb, le-ltb}
 use lib.Dec.{ltb}
 use Rattle.lists.proofs.Front.{put}
-use Rattle.multiindex.specs.Cartesian.{carry, raised}
+use Rattle.refusal.specs.Limits.{mostDimension}
+use Rattle.multiindex.specs.Cartesian.{mostBase, carry, raised}
 
 -- the digits from place j on, where the first of them goes up, or is the last digit
 pub raised-up : (n : ℕ) (s : List ℕ) (j : ℕ) → j < length s → getD s j 0 + 1 < n → raised n (drop j s) ≡ (getD s j 0 + 1) ∷ drop (j + 1) s
@@ -71,15 +72,15 @@ module _ (n : ℕ) (s : List ℕ) (j : ℕ) (w : List ℕ) (k : Carried n s j w)
 pub carried-none : (n : ℕ) (s : List ℕ) → Carried n s 0 s
 carried-none n s = record { within = omega arith; stands = refl; left = refl }
 
--- small powers fit
-top : (j : ℕ) → j < 3 → 65536 ^ suc j ≤ 281474976710656
-top zero h = omega arith
-top (suc zero) h = omega arith
-top (suc (suc zero)) h = omega arith
-top (suc (suc (suc j))) h = absurd (omega arith)
+-- powers to the dimensions fit
+top : (j : ℕ) → j ≤ mostDimension → mostBase ^ j ≤ 281474976710656
+top j h = le-trans (pow-le-pow-right (omega arith) h) (omega arith)
 
-pub power-fits : (j n : ℕ) → j < 3 → n ≤ 65536 → n ^ j * n ≤ 281474976710656
-power-fits j n h l = le-trans (le-of-eq (sym (pow-suc n j))) (le-trans (pow-le-pow-left l (suc j)) (top j h))
+pub power-most : (d n : ℕ) → d ≤ mostDimension → n ≤ mostBase → n ^ d ≤ 281474976710656
+power-most d n h l = le-trans (pow-le-pow-left l d) (top d h)
+
+pub power-fits : (j n : ℕ) → j < mostDimension → n ≤ mostBase → n ^ j * n ≤ 281474976710656
+power-fits j n h l = le-trans (le-of-eq (sym (pow-suc n j))) (power-most (suc j) n h l)
 
 carry-length : (b : Bool) (x : ℕ) (s t : List ℕ) → length s ≡ length t → length (carry b x s t) ≡ suc (length s)
 carry-length true x s t e = refl
@@ -88,7 +89,3 @@ carry-length false x s t e = ap suc (sym e)
 pub raised-length : (n : ℕ) (s : List ℕ) → length (raised n s) ≡ length s
 raised-length n [] = refl
 raised-length n (x ∷ s) = carry-length (ltb (suc x) n) x s (raised n s) (sym (raised-length n s))
-
-pub power-most : (d n : ℕ) → d ≤ 3 → n ≤ 65536 → n ^ d ≤ 281474976710656
-power-most zero n h l = omega (arith, pow-zero n)
-power-most (suc d) n h l = le-trans (le-of-eq (pow-suc n d)) (power-fits d n h l)

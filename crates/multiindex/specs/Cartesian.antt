@@ -6,6 +6,10 @@ use lib.Dec.{ltb}
 use Rattle.lists.specs.Tables.{upto}
 use Rattle.multiindex.specs.Permutation.{gather}
 
+-- the largest base in which lists of digits are counted: of as many digits as there are dimensions there are 2 ^ 48 at most, up to dimension 4
+abbrev pub mostBase : ℕ
+mostBase = 4096
+
 -- all lists of d digits below n, the first digit fastest
 abbrev pub digits : ℕ → ℕ → List (List ℕ)
 digits zero n = [] ∷ []

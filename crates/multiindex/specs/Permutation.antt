@@ -4,6 +4,8 @@ use Prim.Native.Nat.{ℕ, zero, suc}
 use lib.ListN.{getD}
 use Rattle.lists.specs.Words.{without}
 use Rattle.lists.specs.Tables.{upto}
+use Rattle.lists.specs.Rows.{flat}
+use Rattle.refusal.specs.Limits.{mostDimension}
 
 -- the lists `f x` for each `x` of the list, one after the other
 abbrev pub gather : {A B : Type 0} → (A → List B) → List A → List B
@@ -22,3 +24,7 @@ orders d = map reverse (arrange d (upto d))
 -- order number k of d axes
 abbrev pub orderOf : ℕ → ℕ → List ℕ
 orderOf d k = getD (orders d) k []
+
+-- the orders of as many axes as there are dimensions, one after the other
+abbrev pub orderTable : List ℕ
+orderTable = flat (orders mostDimension)

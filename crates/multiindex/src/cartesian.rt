@@ -2,7 +2,8 @@
 ghost use mathlib.Core.Path.{_≡_};
 ghost use Prim.Native.Nat.{ℕ, _<_, _≤_, _^_};
 ghost use lib.ListN.{length, getD};
-ghost use Rattle.multiindex.specs.Cartesian.{raised};
+ghost use Rattle.refusal.specs.Limits.{mostDimension};
+ghost use Rattle.multiindex.specs.Cartesian.{mostBase, raised};
 
 // Goes on to the next list of digits below n; after the last comes the first again.
 pub fn next(digits: &mut [u32], n: u32)
@@ -23,7 +24,7 @@ pub fn next(digits: &mut [u32], n: u32)
 
 // How many lists of d digits below n there are.
 pub fn count(d: usize, n: usize) -> usize
-    requires { ⌜ (d ≤ 3) × (n ≤ 65536) ⌝ }
+    requires { ⌜ (d ≤ mostDimension) × (n ≤ mostBase) ⌝ }
     ensures { λ r. ⌜ r ≡ n ^ d ⌝ }
 {
     let mut total = 1;

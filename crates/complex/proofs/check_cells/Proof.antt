@@ -7,7 +7,7 @@ use native.Mathlib.Omega.{arith}
 use lib.Dec.{eqb, ltb}
 use lib.ListN.{length, getD}
 use borrow.Author.Tests.{lt-ltb, le-ltb, eq-eqb, ne-eqb}
-use Rattle.refusal.specs.Limits.{mostCells, mostVertices}
+use Rattle.refusal.specs.Limits.{mostDimension, mostCells, mostVertices}
 use Rattle.complex.specs.Check.{answerOf, firstRepeat, leastUnused}
 use Rattle.lists.specs.Words.{among, largestOf, firstWhere, marked}
 use Rattle.lists.proofs.Words.{free-unused}
@@ -16,7 +16,7 @@ use Rattle.complex.proofs.check_cells.Statement.{statement}
 use Rattle.complex.proofs.check_cells.Tie as tie
 
 -- the tests that a list has passed at each place, as the definition's tests
-size : (c : tie.Else1) → ltb 3 (c .before .before .args .d) ≡ false
+size : (c : tie.Else1) → ltb mostDimension (c .before .before .args .d) ≡ false
 size c = le-ltb _ _ (c .if1 .left)
 
 some-words : (c : tie.Else2) → eqb (length (c .before .before .before .args .words .now)) 0 ≡ false
