@@ -37,9 +37,9 @@ REFINED = [("1-D, 2,047 edges, R 2", words_of(2047, O), 2, words_of(511, O), 2),
            ("3-D torus 3 x 4 x 7, R 2", words_of(3, P, 4, P, 7, P), 2, words_of(3, P, 7, P, 1, O), 2), ("one tetrahedron, R 16", listed(3, [(0, 1, 2, 3)]), 16, listed(3, [(0, 1, 2, 3)]), 10)]
 GRID_CALLS = ["reduce", "crossing", "swath", "nvertices", "is_orientation_preserving", "cell_words", "triangulate_ordered", "edge_lengths_sq", "edge_length_sq",
               "chained_nvertices", "chained_classes", "chained_closed_classes", "chained_cell_words"]
-LIST_CALLS = ["cells", "edges", "facets", "border", "orientation", "orientation_looks", "orient_by", "ordering", "induced_orientation", "drop_cells", "incidence", "faces", "boundary", "matrix_market"]
+LIST_CALLS = ["cells", "edges", "facets", "facet_records", "border", "orientation", "orientation_looks", "orient_by", "ordering", "induced_orientation", "drop_cells", "incidence", "faces", "boundary", "matrix_market"]
 REFINE_CALLS = ["refine", "refine_with"]
-NOT_IN_RUST = {"chained_nvertices", "chained_classes", "chained_closed_classes", "chained_cell_words", "crossing", "edge_length_sq", "orientation_looks", "drop_cells", "incidence", "faces", "boundary", "matrix_market", "corners", "corners_stepping", "refine_by_steps", "geojson"}
+NOT_IN_RUST = {"chained_nvertices", "chained_classes", "chained_closed_classes", "chained_cell_words", "facet_records", "crossing", "edge_length_sq", "orientation_looks", "drop_cells", "incidence", "faces", "boundary", "matrix_market", "corners", "corners_stepping", "refine_by_steps", "geojson"}
 BY_STEPS = [("one triangle, R 4", listed(2, [(0, 1, 2)]), 4, listed(2, [(0, 1, 2)]), 2), ("one tetrahedron, R 4", listed(3, [(0, 1, 2, 3)]), 4, listed(3, [(0, 1, 2, 3)]), 2)]
 STEP_CALLS = ["corners", "corners_stepping", "refine", "refine_by_steps"]
 BANDS = [("band 2048 x 1", grid(2048, P, 1, O), grid(512, P, 1, O)), ("band 64 x 32", grid(64, P, 32, O), grid(32, P, 16, O))]

@@ -66,6 +66,7 @@ __attribute__((noinline)) static uint64_t once(const char *call) {
     if (!strcmp(call, "cells")) return planner_cells(d, WORDS, OUT, ROOM);
     if (!strcmp(call, "edges")) return planner_edges(d, WORDS, OUT, ROOM);
     if (!strcmp(call, "facets")) return planner_facets(d, WORDS, OUT, more, MOST, ROOM);
+    if (!strcmp(call, "facet_records")) return planner_facet_records(d, WORDS, OUT, more, MOST, ROOM);
     if (!strcmp(call, "border")) return planner_border(d, WORDS, OUT, ROOM);
     if (!strcmp(call, "orientation")) return planner_orientation(d, WORDS, signs, MOST, ROOM);
     if (!strcmp(call, "orientation_looks")) return planner_orientation_looks(d, WORDS, signs, MOST, ROOM, &total);

@@ -209,6 +209,14 @@ uint64_t planner_facets(
     uint32_t d, const uint32_t *words, size_t n, uint32_t *facets, size_t facets_len, uint32_t *table, size_t table_len, uint32_t *keys, size_t keys_len,
     uint32_t *rows, size_t rows_len, uint32_t *spare, size_t spare_len, uint32_t *counts, size_t counts_len);
 
+/* The facets as planner_facets hands them out, and in records five numbers for each facet: its lower cell and the induced sign there, its other cell and the induced sign
+ * there, 1 for + and 2 for -, or PLANNER_NO_CELL and 0 where the facet lies in one cell; and 1 where its cells' words list its vertices in one sequence, which sorted cells
+ * always do. Returns how many facets there are; d times as many numbers are needed of facets, 5 times as many of records. Refused: 1, 2, 3, 4, 6, 5, 12 (working lists), 7,
+ * 12 (facets, records). Working lists: keys max(1, d) * n, rows n, spare n, counts n. */
+uint64_t planner_facet_records(
+    uint32_t d, const uint32_t *words, size_t n, uint32_t *facets, size_t facets_len, uint32_t *records, size_t records_len, uint32_t *keys, size_t keys_len,
+    uint32_t *rows, size_t rows_len, uint32_t *spare, size_t spare_len, uint32_t *counts, size_t counts_len);
+
 /* The facets that lie in one cell, d vertices each, in colex order. Returns how many; d times as many numbers are needed of border. Refused: 1, 2, 3, 4, 6, 5, 12
  * (working lists), 7, 12 (border). Working lists: keys max(1, d) * n, rows n, spare n, counts n. */
 uint64_t planner_border(

@@ -20,7 +20,7 @@ use Rattle.lists.proofs.Tables.{length-tab}
 use Rattle.complex.specs.Skeleton.{inColex, pairsOf, allPairs, edgesOf, facetRowOf, facetsOf, rowsWith, keepIf, keep, borderOf}
 use Rattle.complex_cells.proofs.Words.{Word, Each, In, each-in, each-of, in-at, at-in}
 use Rattle.complex_mates.proofs.Meeting.{slots-most}
-use Rattle.ordering.proofs.Orders.{order-length}
+use Rattle.ordering_words.proofs.Orders.{order-length}
 use Rattle.skeleton.proofs.Laws.{cells-from, edges-from, facets-from}
 use Rattle.quotient.specs.declared.Grid.{Grid}
 use Rattle.quotient.specs.Shape.{checkOf, cellCount}

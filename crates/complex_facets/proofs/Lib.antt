@@ -1,5 +1,5 @@
 pub mod Numbers
-pub mod Seeking
-pub mod Facets
+pub mod Passing
 pub mod Border
 pub mod Tabling
+pub mod Recording

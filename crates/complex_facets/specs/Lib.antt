@@ -1,2 +1,3 @@
 pub mod WorkClasses
 pub mod Sides
+pub mod Records

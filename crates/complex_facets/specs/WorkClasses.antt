@@ -1,29 +1,21 @@
 -- Facet rows in classes: each class is a facet, and its rows are the cells that it lies in. Assumes nothing.
+use mathlib.Core.Bool.{Bool, true, false}
 use mathlib.Core.List.{List, [], _∷_, _++_}
 use mathlib.Core.Path.{_≡_}
 use Prim.Native.Nat.{ℕ, zero, suc, _*_, _<_, _≤_}
 use lib.Dec.{eqb}
 use lib.ListN.{length, getD}
 use Rattle.lists.specs.Words.{none}
-use Rattle.complex_mates.specs.Table.{Grouped}
+use Rattle.complex_mates.specs.Table.{Meet, MateTable}
 use Rattle.complex.specs.Facets.{Crowded, slots}
 use Rattle.complex.specs.Skeleton.{facetsOf, rowsWith, onlyIf}
 use Rattle.complex_cells.specs.WorkNamed.{Named}
 
--- among the first n rows, another row of each class than its first, or none
-pub record Seconds (n : ℕ) (reps ids others : List ℕ) : Type 0 where
-  pub alone : (i x : ℕ) → i < length others → getD others i 0 ≡ none → x < n → getD ids x 0 ≡ i → x ≡ getD reps i 0
-  pub below : (i : ℕ) → i < length others → (getD others i 0 ≡ none → ⊥) → getD others i 0 < n
-  pub same : (i : ℕ) → i < length others → (getD others i 0 ≡ none → ⊥) → getD ids (getD others i 0) 0 ≡ i
-  pub apart : (i : ℕ) → i < length others → (getD others i 0 ≡ none → ⊥) → getD others i 0 ≡ getD reps i 0 → ⊥
-
--- what `seconds` asks: rows in classes, and no other row is known yet
-pub record Seeking (n : ℕ) (reps ids others : List ℕ) : Type 0 where
-  pub few : n < none
-  pub long : n ≤ length ids
-  pub in-reps : (x : ℕ) → x < n → getD ids x 0 < length reps
-  pub in-others : (x : ℕ) → x < n → getD ids x 0 < length others
-  pub blank : (i : ℕ) → i < length others → getD others i 0 ≡ none
+-- what `others` asks: f classes, each with its first row, and a mate or none for each row
+pub record Turning (f : ℕ) (reps mates to : List ℕ) : Type 0 where
+  pub in-reps : f ≤ length reps
+  pub in-to : f ≤ length to
+  pub inside : (i : ℕ) → i < f → getD reps i 0 < length mates
 
 -- the facets of cells: f of them, named by their lowest rows, and the other row of each, or none
 pub record Classes (d : ℕ) (cs : List (List ℕ)) (f : ℕ) (keys reps others : List ℕ) : Type 0 where
@@ -33,6 +25,17 @@ pub record Classes (d : ℕ) (cs : List (List ℕ)) (f : ℕ) (keys reps others 
   pub two : (Crowded d cs → ⊥) → (i : ℕ) → i < f → (getD others i 0 ≡ none → ⊥) → rowsWith d cs (getD (facetsOf d cs) i []) ≡ getD reps i 0 ∷ getD others i 0 ∷ []
   pub small : (i : ℕ) → i < f → getD reps i 0 < none
   pub most : f ≤ length cs * slots d
+
+-- and the mates of all rows: those of the lowest rows are the other rows
+pub record Pass (d : ℕ) (cs : List (List ℕ)) (f : ℕ) (keys reps others rows : List ℕ) : Type 0 where
+  pub classes : Classes d cs f keys reps others
+  pub mates : MateTable d cs rows
+  pub meet : (i : ℕ) → i < f → (getD others i 0 ≡ none → ⊥) → Meet d cs (getD reps i 0) (getD others i 0)
+
+-- what one pass over the facet rows finds: the facets, or that one lies in three cells
+pub record Found (d : ℕ) (cs : List (List ℕ)) (sound : Bool) (f : ℕ) (keys reps others rows : List ℕ) : Type 0 where
+  pub yes : sound ≡ true → Pass d cs f keys reps others rows
+  pub no : sound ≡ false → Crowded d cs
 
 -- the lowest rows of the first f classes that have no other row
 unfoldable pub loneRows : ℕ → List ℕ → List ℕ → List ℕ

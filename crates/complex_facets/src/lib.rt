@@ -3,43 +3,39 @@
 ghost use mathlib.Core.List.{_++_};
 ghost use mathlib.Core.Path.{_≡_};
 ghost use Prim.Native.Nat.{ℕ, suc, _*_, _<_, _≤_};
-ghost use lib.ListN.{length, drop};
+ghost use lib.ListN.{length, getD, drop};
 ghost use Rattle.lists.specs.Rows.{cut};
 ghost use Rattle.complex.specs.Facets.{slots};
 ghost use Rattle.complex_mates.specs.Table.{Meeting};
-ghost use Rattle.complex_facets.specs.WorkClasses.{Seconds, Seeking, Classes, loneRows};
+ghost use Rattle.complex_facets.specs.WorkClasses.{Turning, Found, loneRows};
 ghost use Rattle.complex_facets.specs.Sides.{cellOf, placeOf, fours, Tabling};
+ghost use Rattle.complex_facets.specs.Records.{signAt, fives, Recording};
 
 // No row: a facet in one cell has no second row.
 const NONE: u32 = 4294967295;
 
-fn wide(x: u32) -> usize
-    ensures { λ r. ⌜ r ≡ x ⌝ }
-{
-    x as usize
+// What one pass over the facet rows finds: whether no facet lies in three cells, and how many facets there are.
+pub struct FacetCount {
+    pub sound: bool,
+    pub count: usize,
 }
 
-// Gives each class of rows a row other than its first, where it has one.
-fn seconds(total: usize, reps: &[u32], ids: &[u32], others: &mut [u32])
-    requires { ⌜ Seeking total (now reps) (now ids) (now others) ⌝ }
-    ensures { λ _. ⌜ Seconds total (now (reps .entry)) (now (ids .entry)) (now (others .exit)) ⌝ }
+// The mates of the first rows of f classes.
+fn others(f: usize, reps: &[u32], mates: &[u32], to: &mut [u32])
+    requires { ⌜ Turning f (now reps) (now mates) (now to) ⌝ }
+    ensures { λ _. ⌜ ((i : ℕ) → i < f → getD (now (to .exit)) i 0 ≡ getD (now (mates .entry)) (getD (now (reps .entry)) i 0) 0) ⌝ }
 {
-    let mut x = 0;
-    while x < total {
-        let id = wide(ids[x]);
-        let first = wide(reps[id]);
-        if first == x {
-            x += 1;
-            continue;
-        }
-        others[id] = x as u32;
-        x += 1;
+    let mut i = 0;
+    while i < f {
+        let x = lists::wide(reps[i]);
+        to[i] = mates[x];
+        i += 1;
     }
 }
 
-// The distinct facets of the m cells in `rows`: their rows stand in `keys`, the lowest row of each, in order, in `spare`, and the other row, where there is one, in
-// `rows`. Says how many there are.
-pub fn classes(
+// The distinct facets of the m cells in `rows`, in one pass: their rows stand in `keys`, the lowest row of each, in order, in `spare`, the other row, where there is one, in
+// `counts`, and the mate of each row in `rows`.
+pub fn facets(
     d: usize,
     m: usize,
     b: usize,
@@ -47,19 +43,19 @@ pub fn classes(
     rows: &mut [u32],
     spare: &mut [u32],
     counts: &mut [u32],
-) -> usize
+) -> FacetCount
     requires { ⌜ Meeting d m b (now keys) (now rows) (now spare) (now counts) × (m * slots d * d < 4294967296) ⌝ }
-    ensures { λ f. ⌜ Classes d (cut (suc d) m (now (rows .entry))) f (now (keys .exit)) (now (spare .exit)) (now (rows .exit)) ⌝ }
+    ensures { λ r. ⌜ Found d (cut (suc d) m (now (rows .entry))) (r .sound) (r .count) (now (keys .exit)) (now (spare .exit)) (now (counts .exit)) (now (rows .exit)) ⌝ }
 {
     let k = complex_mates::slots(d);
     complex_mates::facet_rows(d, k, m, rows, keys);
     let total = m * k;
     sorting::sort_rows(keys, d, total, b, rows, spare, counts);
-    let f = sorting::distinct(keys, d, total, rows, spare, counts);
-    let others = &mut rows[..total];
-    complex_mates::blank(others);
-    seconds(total, spare, counts, others);
-    f
+    let count = sorting::distinct(keys, d, total, rows, spare, counts);
+    lists::fill(&mut rows[..total], NONE);
+    let sound = complex_mates::pair_up(total, spare, counts, rows);
+    others(count, spare, rows, counts);
+    FacetCount { sound, count }
 }
 
 // The lowest rows of the classes that have no second row, in their order. Says how many there are.
@@ -90,7 +86,7 @@ fn cell_of(k: usize, x: u32) -> u32
     if x == NONE {
         return NONE;
     }
-    (wide(x) / k) as u32
+    (lists::wide(x) / k) as u32
 }
 
 // The position that a row drops, and NONE where there is no row.
@@ -101,7 +97,7 @@ fn place_of(d: usize, k: usize, x: u32) -> u32
     if x == NONE {
         return NONE;
     }
-    (d - wide(x) % k) as u32
+    (d - lists::wide(x) % k) as u32
 }
 
 // Writes for each of the f facets its cells and the positions dropped there: by its lowest row, and by its other row.
@@ -121,6 +117,48 @@ pub fn write_table(d: usize, k: usize, f: usize, reps: &[u32], others: &[u32], t
         table[second] = place_of(d, k, x);
         table[third] = cell_of(k, y);
         table[fourth] = place_of(d, k, y);
+        i += 1;
+    }
+}
+
+// The induced sign of a row's facet, 1 for + where the position that it drops is even, 2 for - where it is odd, and 0 where there is no row.
+fn sign_of(d: usize, k: usize, x: u32) -> u32
+    requires { ⌜ (0 < k) × (k ≤ suc d) × (d < 4294967295) ⌝ }
+    ensures { λ r. ⌜ r ≡ signAt d k x ⌝ }
+{
+    if x == NONE {
+        return 0;
+    }
+    let place = d - lists::wide(x) % k;
+    (place % 2 + 1) as u32
+}
+
+// Writes for each of the f facets its lower cell and the induced sign there, its other cell and the induced sign there, and 1: the cells' own words agree on every facet.
+pub fn write_records(
+    d: usize,
+    k: usize,
+    f: usize,
+    reps: &[u32],
+    others: &[u32],
+    records: &mut [u32],
+)
+    requires { ⌜ Recording d k f (now reps) (now others) (now records) ⌝ }
+    ensures { λ _. ⌜ now (records .exit) ≡ fives d k f (now (reps .entry)) (now (others .entry)) ++ drop (f * 5) (now (records .entry)) ⌝ }
+{
+    let mut i = 0;
+    while i < f {
+        let x = reps[i];
+        let y = others[i];
+        let at = i * 5;
+        let second = at + 1;
+        let third = second + 1;
+        let fourth = third + 1;
+        let fifth = fourth + 1;
+        records[at] = cell_of(k, x);
+        records[second] = sign_of(d, k, x);
+        records[third] = cell_of(k, y);
+        records[fourth] = sign_of(d, k, y);
+        records[fifth] = 1;
         i += 1;
     }
 }

@@ -3,7 +3,7 @@
 ghost use mathlib.Core.Bool.{true, false};
 ghost use mathlib.Core.Path.{_≡_};
 ghost use Prim.Native.Nat.{ℕ, suc, _+_, _-_, _*_, _/_, _%_, _<_, _≤_};
-ghost use lib.ListN.{length, getD, replicate};
+ghost use lib.ListN.{length, getD};
 ghost use Rattle.lists.specs.Rows.{cut, row};
 ghost use Rattle.complex.specs.Facets.{facetAt, slots, Cells, Crowded};
 ghost use Rattle.lists.specs.Words.{none};
@@ -11,12 +11,6 @@ ghost use Rattle.complex_mates.specs.Table.{Kept, Written, Writing, Grou
 
 // No row: a facet in one cell has no mate.
 pub const NONE: u32 = 4294967295;
-
-fn wide(x: u32) -> usize
-    ensures { λ r. ⌜ r ≡ x ⌝ }
-{
-    x as usize
-}
 
 // Where number j of the facet stands in the cell.
 fn kept(skip: usize, j: usize) -> usize
@@ -70,19 +64,8 @@ pub fn facet_rows(d: usize, k: usize, m: usize, cells: &[u32], keys: &mut [u32])
     }
 }
 
-// No row has a mate yet.
-pub fn blank(mates: &mut [u32])
-    ensures { λ _. ⌜ now (mates .exit) ≡ replicate (length (now (mates .entry))) none ⌝ }
-{
-    let mut i = 0;
-    while i < mates.len() {
-        mates[i] = NONE;
-        i += 1;
-    }
-}
-
 // Gives each row its mate; false where a class has three rows.
-fn pair_up(total: usize, reps: &[u32], ids: &[u32], mates: &mut [u32]) -> bool
+pub fn pair_up(total: usize, reps: &[u32], ids: &[u32], mates: &mut [u32]) -> bool
     requires { ⌜ Grouped total (now reps) (now ids) ⌝ }
     requires { ⌜ (total ≤ length (now mates)) × ((x : ℕ) → x < total → getD (now mates) x 0 ≡ none) ⌝ }
     ensures all { λ r. ⌜ (r ≡ true → Paired total (now (ids .entry)) (now (mates .exit))) ⌝ }
@@ -90,8 +73,8 @@ fn pair_up(total: usize, reps: &[u32], ids: &[u32], mates: &mut [u32]) -> bool
 {
     let mut x = 0;
     while x < total {
-        let id = wide(ids[x]);
-        let first = wide(reps[id]);
+        let id = lists::wide(ids[x]);
+        let first = lists::wide(reps[id]);
         if first == x {
             x += 1;
             continue;
@@ -125,7 +108,7 @@ pub fn mates(
     let total = m * k;
     sorting::sort_rows(keys, d, total, b, rows, spare, counts);
     sorting::distinct(keys, d, total, rows, spare, counts);
-    blank(&mut rows[..total]);
+    lists::fill(&mut rows[..total], NONE);
     pair_up(total, spare, counts, rows)
 }
 
@@ -143,7 +126,7 @@ pub fn across(k: usize, total: usize, mates: &[u32], other: &mut [u32], flip: &m
             x += 1;
             continue;
         }
-        let mate = wide(y);
+        let mate = lists::wide(y);
         other[x] = (mate / k) as u32;
         flip[x] = ((x % k + mate % k + 1) % 2) as u32;
         x += 1;

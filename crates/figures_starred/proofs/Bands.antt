@@ -27,7 +27,7 @@ use Rattle.quotient.specs.Points.{fromDigits}
 use Rattle.grid_words.specs.Cells.{met, gridCells}
 use Rattle.grid_mesh.specs.Words.{gluedCells}
 use Rattle.lists.specs.Words.{sameWord, without}
-use Rattle.ordering.specs.Order.{wordIf, wordOf, byCell, IsOrder, AgreeOnFacets}
+use Rattle.ordering_words.specs.Order.{wordIf, wordOf, byCell, IsOrder, AgreeOnFacets}
 use Rattle.grid_order.specs.declared.Triangulated.the-variants as Triangulated
 use Rattle.grid_order.specs.Promise.{ownWords, wordsByCell, HandsOut, cellsLength}
 use Rattle.grid_order.specs.Promise as Order

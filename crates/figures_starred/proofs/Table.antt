@@ -11,7 +11,7 @@ use Rattle.quotient.specs.Reduce.{restAt, reflectedBy, numberTo}
 use Rattle.quotient.specs.Points.{fromDigits}
 use Rattle.grid_words.specs.Cells.{met, gridCells}
 use Rattle.lists.specs.Words.{sameWord}
-use Rattle.ordering.specs.Order.{wordIf, wordOf, byCell}
+use Rattle.ordering_words.specs.Order.{wordIf, wordOf, byCell}
 use Rattle.refine_results.specs.Results.{outside}
 use Rattle.figures_starred.specs.Case.{All}
 use Rattle.figures_starred.specs.Starred.{starred}

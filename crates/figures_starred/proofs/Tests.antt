@@ -15,7 +15,7 @@ use Rattle.orientation_signs.specs.Signs.{Coherent}
 use Rattle.orientation_signs.specs.Looks.{sameSign}
 use Rattle.quotient.specs.Fold.{some}
 use Rattle.quotient.proofs.Laws.{some-true}
-use Rattle.ordering.specs.Order.{AgreeOnFacets}
+use Rattle.ordering_words.specs.Order.{AgreeOnFacets}
 
 abbrev Four : Type 0
 Four = ℕ → ℕ → ℕ → ℕ → Bool

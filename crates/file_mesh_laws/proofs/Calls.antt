@@ -12,7 +12,7 @@ use Rattle.complex.specs.Facets.{Crowded}
 use Rattle.complex.proofs.Fine.{fine-passed, passed-fine}
 use Rattle.complex.specs.Cells.{cellsOf}
 use Rattle.refine_lattice.specs.Refine.{vertices}
-use Rattle.ordering.specs.Order.{Orders}
+use Rattle.ordering_words.specs.Order.{Orders}
 use Rattle.refine_results.specs.declared.Refinement.{Refinement}
 use Rattle.refine_results.specs.declared.Refinement.the-variants.{Made}
 use Rattle.refine_results.specs.Refined.{coarse, orderWords}

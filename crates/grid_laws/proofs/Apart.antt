@@ -11,7 +11,7 @@ use Rattle.multiindex.proofs.SortLaws.{sort-length}
 use Rattle.complex.specs.Cells.{comesBefore, placed, place, inOrder}
 use Rattle.complex_cells.proofs.Words.{Word, Each, In, each-of, each-in, in-at, at-in}
 use Rattle.complex_cells.proofs.Order.{Colex, colex-irr, colex-trans, place-new, place-from, place-rising, order-from, order-has, order-rising}
-use Rattle.ordering.proofs.Orders.{order-length, sub-length}
+use Rattle.ordering_words.proofs.Orders.{order-length, sub-length}
 
 place-many : (n : ℕ) (w : Word) (cs : List Word) → (length (place n w cs) ≡ suc (length cs)) ⊎ (place n w cs ≡ cs)
 unfolding place placed

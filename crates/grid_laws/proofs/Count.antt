@@ -15,9 +15,9 @@ use Rattle.complex.specs.Facets.{Crowded}
 use Rattle.complex.specs.Cells.{inOrder}
 use Rattle.complex_cells.proofs.Words.{Word, Each}
 use Rattle.lists.specs.Words.{sameWord}
-use Rattle.ordering.specs.Order.{IsOrder, AgreeOnFacets}
+use Rattle.ordering_words.specs.Order.{IsOrder, AgreeOnFacets}
 use Rattle.lists.proofs.Words.{same-word, word-true}
-use Rattle.ordering.proofs.Orders.{order-length, same-order}
+use Rattle.ordering_words.proofs.Orders.{order-length, same-order}
 use Rattle.quotient.specs.declared.Grid.{Grid}
 use Rattle.quotient.specs.Fold.{product, factorial, some}
 use Rattle.quotient.specs.Shape.{cellsOn, checkOf, cellCount}

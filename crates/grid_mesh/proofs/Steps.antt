@@ -13,11 +13,12 @@ use Rattle.refusal.specs.declared.Counted.{Counted}
 use Rattle.refusal.specs.declared.Counted.the-variants.{Count, Refused}
 use Rattle.refusal.specs.Table.{crowdedFacet, tooShort}
 use Rattle.refusal.specs.Lent.{onto}
-use Rattle.lists.specs.Rows.{cut}
+use Rattle.lists.specs.Rows.{cut, row}
 use Rattle.lists.proofs.Rows.{cut-length}
 use Rattle.lists.proofs.Tables.{length-tab}
-use Rattle.multiindex.specs.Sort.{sortWords}
+use Rattle.multiindex.specs.Sort.{sortWord, sortWords}
 use Rattle.multiindex.proofs.WordsLaws.{words-length}
+use Rattle.sorting.proofs.Colex.{row-same}
 use Rattle.sorting.proofs.Rows.{pos-room}
 use Rattle.sorting.specs.Bucket.{cell}
 use Rattle.sorting.specs.Order.{Table}
@@ -25,9 +26,9 @@ use Rattle.sorting.specs.Distinct.{Distinct}
 use Rattle.sorting.specs.Gather.{rowsOf}
 use Rattle.complex.specs.Check.{Passed}
 use Rattle.complex.specs.Room.{keyRoom}
-use Rattle.complex.specs.Facets.{Crowded, Cells, slots}
+use Rattle.complex.specs.Facets.{Crowded, Cells, cellAt, slots}
 use Rattle.complex_cells.specs.WorkMade.{Made}
-use Rattle.complex_cells.proofs.Making.{few-corners, words-table, made}
+use Rattle.complex_cells.proofs.Making.{few-corners, words-table, key-row, made-cell, made}
 use Rattle.lists.specs.Words.{none}
 use Rattle.complex_mates.specs.Table.{MateTable, Meeting}
 use Rattle.complex_mates.proofs.Meeting.{slots-most}
@@ -40,7 +41,7 @@ use Rattle.grid_words.proofs.Corners.{dim}
 use Rattle.grid_words.proofs.Listed.{words-tab, words-long}
 use Rattle.grid_words.proofs.Good.{words-count, words-pass}
 use Rattle.grid_mesh.specs.Words.{gluedCells, cornersOf, WordsEnd, crowded, short, written}
-use Rattle.grid_mesh.specs.Work.{IsCrowded, Working, Worked}
+use Rattle.grid_mesh.specs.Work.{Finding, Found, IsCrowded, Working, Worked}
 
 room-least : (d n : ℕ) → n ≤ keyRoom d n
 room-least zero n = omega arith
@@ -49,6 +50,21 @@ room-least (suc d) n = omega (arith, suc-mul d n)
 room-rows : (d m n : ℕ) → m * suc d ≤ n → m * slots d * d ≤ keyRoom d n
 room-rows zero m n h = omega (arith, mul-zero (m * 0))
 room-rows (suc d) m n h = omega (arith, mul-le-mul-right (suc d) h, mul-comm n (suc d))
+
+-- ---- the number of a cell among the distinct rows is that of the first word that sorts to it
+module _ (n count : ℕ) (ws rest : List ℕ) (whole : count * n ≡ length ws) (some : 0 < n) (m : ℕ) (reps ids rows tail : List ℕ) (q : Distinct (cell (sortWords n count (ws ++ rest)) n) n count m reps ids) (long : m ≤ length reps)
+    (e : rows ≡ rowsOf (sortWords n count (ws ++ rest)) n (take m reps) ++ tail) (fits : m * n ≤ length rows) where
+  pub word-sorts : (c : ℕ) → c < m → sortWord (row ws n (getD reps c 0)) ≡ getD (cut n m rows) c []
+  word-sorts c h = sym (made-cell n count ws rest whole some m reps ids rows tail q long e fits c h)
+
+  pub word-none : (c t : ℕ) → c < m → t < getD reps c 0 → sortWord (row ws n t) ≡ getD (cut n m rows) c [] → ⊥
+  word-none c t h l z =
+      let r = getD reps c 0 in
+      let hr : r < count = q .below c h in
+      let ht : t < count = omega arith in
+      let same : row (sortWords n count (ws ++ rest)) n r ≡ row (sortWords n count (ws ++ rest)) n t =
+      key-row n count ws rest whole some r hr ∙ word-sorts c h ∙ sym z ∙ sym (key-row n count ws rest whole some t ht) in
+      omega (arith, q .least c t h ht (row-same (sortWords n count (ws ++ rest)) n r t same))
 
 -- ---- a grid that is taken: its words are few
 module _ (g : Grid) (fine : checkOf g ≡ Fine) where
@@ -101,13 +117,50 @@ module _ (g : Grid) (fine : checkOf g ≡ Fine) where
           (f ∙ ap (λ (l : List ℕ). rowsOf l (g .d + 1) (take m reps) ++ tail) (k ∙ ap (λ (n : ℕ). sortWords (g .d + 1) n (flatWords g ++ rest)) count-is))
           (omega (arith, words-long g fine))
 
+      here-q : Distinct (cell (sortWords (g .d + 1) count (flatWords g ++ rest)) (g .d + 1)) (g .d + 1) count m reps ids
+      here-q = subst (λ (l : List ℕ). Distinct (cell l (g .d + 1)) (g .d + 1) count m reps ids) k q
+
+      here-rows : rows ≡ rowsOf (sortWords (g .d + 1) count (flatWords g ++ rest)) (g .d + 1) (take m reps) ++ tail
+      here-rows = f ∙ ap (λ (l : List ℕ). rowsOf l (g .d + 1) (take m reps) ++ tail) k
+
+      here-fits : m * (g .d + 1) ≤ length rows
+      here-fits = omega (arith, mul-le-mul-right (g .d + 1) (q .few), corners-are count e)
+
+      -- the row number n as the code has it, and as the definitions have it
+      sorts-suc : (c : ℕ) → c < m → sortWord (row (flatWords g) (suc (g .d)) (getD reps c 0)) ≡ getD (cut (suc (g .d)) m rows) c []
+      sorts-suc =
+          subst (λ (n : ℕ). (c : ℕ) → c < m → sortWord (row (flatWords g) n (getD reps c 0)) ≡ getD (cut n m rows) c []) (add-one (g .d))
+          (word-sorts (g .d + 1) count (flatWords g) rest (sym long-is) (omega arith) m reps ids rows tail here-q long here-rows here-fits)
+
+      none-suc : (c t : ℕ) → c < m → t < getD reps c 0 → sortWord (row (flatWords g) (suc (g .d)) t) ≡ getD (cut (suc (g .d)) m rows) c [] → ⊥
+      none-suc =
+          subst (λ (n : ℕ). (c t : ℕ) → c < m → t < getD reps c 0 → sortWord (row (flatWords g) n t) ≡ getD (cut n m rows) c [] → ⊥) (add-one (g .d))
+          (word-none (g .d + 1) count (flatWords g) rest (sym long-is) (omega arith) m reps ids rows tail here-q long here-rows here-fits)
+
+      pub found : Found g m rows reps
+      found =
+          record {
+            made = grid-made;
+            few = omega (arith, q .few);
+            below = λ c h. omega (arith, q .below c h);
+            sorts = λ c h. sorts-suc c h ∙ ap (λ (cs : List (List ℕ)). cellAt cs c) (grid-made .same);
+            first = λ c t h l z. none-suc c t h l (z ∙ sym (ap (λ (cs : List (List ℕ)). cellAt cs c) (grid-made .same)));
+          }
+
     pub most-rows : (m : ℕ) → m ≤ count → m * (g .d + 1) ≤ cornersOf g
     most-rows m h = omega (arith, mul-le-mul-right (g .d + 1) h, corners-are count e)
 
 -- ---- the work, in lists of just the lengths that are needed
 module _ (g : Grid) (keys rows spare counts : List ℕ) (w : Working g keys rows spare counts) where
-  pub keys-room : cornersOf g ≤ length keys
-  keys-room = omega (arith, w .keys-long, room-least (g .d) (cornersOf g))
+  pub finding : Finding g keys rows spare counts
+  finding =
+      record {
+        taken = w .taken;
+        keys-long = omega (arith, w .keys-long, room-least (g .d) (cornersOf g));
+        rows-long = w .rows-long;
+        spare-long = w .spare-long;
+        counts-long = w .counts-long;
+      }
 
   module _ (m : ℕ) (keys′ rows′ spare′ counts′ : List ℕ) (lk : length keys′ ≡ length keys) (lr : length rows′ ≡ length rows) (ls : length spare′ ≡ length spare) (lc : length counts′ ≡ length counts) (a : Made (g .d) (flatWords g) m rows′) where
     corners-long : length (flatWords g) ≡ cornersOf g

@@ -2,18 +2,16 @@
 // Follows `FlatQuotient::cell_words` and `triangulate` (crates/regge/src/mesher/quotient.rs).
 //
 // What the working lists hold, one phase after the other; the first two, which find a facet in three cells, only where there can be one:
-//   keys     sorted words   facet rows   -
-//   rows     cells          mates        the vertex of each point
-//   spare    first rows     first rows   -
-//   counts   buckets        classes      -
+//   keys     sorted words                     facet rows   -
+//   rows     the vertex of each point, cells  mates        the vertex of each point
+//   spare    first rows                       first rows   -
+//   counts   buckets                          classes      -
 ghost use mathlib.Core.Path.{_≡_};
 ghost use Rattle.refusal.specs.declared.Answer.the-variants.{Fine};
 ghost use Rattle.lists.specs.Zero.{AllZero};
-ghost use Rattle.complex_cells.specs.WorkMade.{Made};
 ghost use Rattle.quotient.specs.Shape.{checkOf};
-ghost use Rattle.grid_words.specs.Cells.{flatWords};
 ghost use Rattle.grid_mesh.specs.Words.{gridNeed, CellWords};
-ghost use Rattle.grid_mesh.specs.Work.{tangledBy, tangledAt, isTangled, IsCrowded, Working, Worked};
+ghost use Rattle.grid_mesh.specs.Work.{Finding, Found, tangledBy, tangledAt, isTangled, IsCrowded, Working, Worked};
 use quotient::Grid;
 use quotient::mask;
 use refusal::Answer;
@@ -67,21 +65,21 @@ fn tangled(grid: Grid) -> bool
     false
 }
 
-// Writes the cells of the grid's words, one after the other, to `rows`, and says how many there are.
-fn cells(
+// Writes the cells of the grid's words, one after the other, to `rows`, and to `spare` the number of each cell's first word. Says how many cells there are.
+pub fn cells(
     grid: Grid,
     keys: &mut [u32],
     rows: &mut [u32],
     spare: &mut [u32],
     counts: &mut [u32],
 ) -> usize
-    requires { ⌜ Working grid (now keys) (now rows) (now spare) (now counts) ⌝ }
-    ensures { λ m. ⌜ Made (grid .d) (flatWords grid) m (now (rows .exit)) ⌝ }
+    requires { ⌜ Finding grid (now keys) (now rows) (now spare) (now counts) ⌝ }
+    ensures { λ m. ⌜ Found grid m (now (rows .exit)) (now (spare .exit)) ⌝ }
 {
     let n = grid.d as usize + 1;
     let count = grid_words::cells(grid);
     let len = count * n;
-    grid_words::grid_words(grid, &mut keys[..len]);
+    grid_words::write_words(grid, &mut keys[..len], rows);
     multiindex::word::sort_words(keys, n, count);
     sorting::sort_rows(keys, n, count, len, rows, spare, counts);
     let m = sorting::distinct(keys, n, count, rows, spare, counts);

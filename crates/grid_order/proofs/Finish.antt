@@ -8,6 +8,7 @@ use native.Mathlib.Numerals.{add-one}
 use native.Mathlib.Omega.{arith}
 use lib.ListN.{length, getD, take, drop, length-append, length-drop, drop-of-length-le}
 use lib.Seq.{length-take-le, take-at, drop-at, drop-drop, take-all, getD-take, getD-drop}
+use Rattle.refusal.specs.Limits.{rowMost, manyCorners}
 use Rattle.refusal.specs.Table.{crowdedFacet}
 use Rattle.lists.specs.Rows.{cut, rows, flat, row}
 use Rattle.lists.proofs.Flat.{flat-cut}
@@ -31,20 +32,22 @@ use Rattle.grid_words.specs.Cells.{flatWords}
 use Rattle.grid_words.proofs.Listed.{words-long}
 use Rattle.grid_words.proofs.Good.{words-count}
 use Rattle.grid_words.proofs.Corners.{dim}
+use Rattle.grid_words.proofs.Moved.{points-corners}
 use Rattle.grid_mesh.specs.Words.{gluedCells, cornersOf}
+use Rattle.grid_mesh.specs.Work.{Finding, Found}
 use Rattle.grid_mesh.proofs.Steps.{meeting, corners-few}
-use Rattle.ordering.specs.Order.{wordOf}
+use Rattle.ordering_words.specs.Order.{wordOf}
 use Rattle.ordering.specs.WorkAgree.{Agreeing}
-use Rattle.ordering.proofs.Lists.{cut-front, front-at}
+use Rattle.ordering_words.proofs.Lists.{cut-front, front-at}
 use Rattle.ordering.proofs.Steps.{need-bound}
-use Rattle.ordering.proofs.Orders.{word-found, by-cell-at, by-cell-rows}
+use Rattle.ordering_words.proofs.Orders.{word-found, by-cell-at, by-cell-rows}
 use Rattle.grid_order.specs.declared.Triangulated.{Triangulated}
 use Rattle.grid_order.specs.declared.Triangulated.the-variants.{Ordered, Unordered, Refused}
 use Rattle.grid_order.specs.Promise.{ownWords, wordsByCell, cellsLength, HandsOut, Handed, nothing, Ends}
 use Rattle.grid_order.specs.Promise.Ends.{crowded, short as ends-short, short-order as ends-short-order, ordered as ends-ordered, unordered as ends-unordered}
-use Rattle.grid_order.specs.Work.{Finding, Found, Laying, Laid, Decided, Handing, Out, HandedOut, Working, Worked}
+use Rattle.grid_order.specs.Work.{Laying, Laid, Decided, Handing, Out, HandedOut, Working, Worked}
 use Rattle.grid_order.specs.Work.Out.{short, short-order, ordered, unordered}
-use Rattle.grid_order.proofs.Steps.{agree-yes, agree-no}
+use Rattle.grid_order.proofs.Steps.{first-word, agree-yes, agree-no}
 
 -- cells that stay in the front are made again
 pub made-again : (d : ℕ) (ws : List ℕ) (m : ℕ) (l k : List ℕ) → Made d ws m l → take (m * suc d) k ≡ take (m * suc d) l → Made d ws m k
@@ -94,8 +97,8 @@ module _ (g : Grid) (at : ℕ) (keys rows₀ spare counts : List ℕ) (w : Worki
   pub finding : Finding g keys rows₀ spare counts
   finding = record { taken = w .taken; keys-long = omega (arith, w .keys-long); rows-long = w .rows-long; spare-long = w .spare-long; counts-long = w .counts-long }
 
-  pub at-small : at < 262144
-  at-small = omega (arith, w .start, need-bound (g .d) (cornersOf g) (dim g (w .taken)) (corners-few g (w .taken)))
+  pub at-small : at < rowMost * manyCorners
+  at-small = omega (arith, w .start, need-bound (g .d) (cornersOf g) (dim g (w .taken)) (omega (arith, corners-few g (w .taken))))
 
   module _ (m : ℕ) (keys₁ rows₁ spare₁ counts₁ : List ℕ) (lk : length keys₁ ≡ length keys) (lr : length rows₁ ≡ length rows₀) (ls : length spare₁ ≡ length spare) (lc : length counts₁ ≡ length counts) (f : Found g m rows₁ spare₁) where
     pub at-fits : at ≤ length keys₁
@@ -104,7 +107,7 @@ module _ (g : Grid) (at : ℕ) (keys rows₀ spare counts : List ℕ) (w : Worki
     part-long : length (take (length keys₁ - at) (drop at keys₁)) ≡ cornersOf g + cornersOf g
     part-long = ap length (tail-part keys₁ at) ∙ length-drop at keys₁ ∙ omega (arith, w .keys-long, w .start)
 
-    pub laying : Laying g m (take (length keys₁ - at) (drop at keys₁)) rows₁ spare₁
+    pub laying : Laying g m (take (length keys₁ - at) (drop at keys₁)) rows₁ spare₁ counts₁
     laying =
         record {
           taken = w .taken;
@@ -112,28 +115,29 @@ module _ (g : Grid) (at : ℕ) (keys rows₀ spare counts : List ℕ) (w : Worki
           list-long = omega (arith, part-long);
           rows-long = lr ∙ w .rows-long;
           reps-long = omega (arith, f .few, w .spare-long, mul-suc (cellCount g) (g .d));
+          table-long = omega (arith, points-corners g (w .taken), lc, w .counts-long);
           below = f .below;
         }
 
-    module _ (ys rows₂ : List ℕ) (ly : length ys ≡ length (take (length keys₁ - at) (drop at keys₁))) (lr₂ : length rows₂ ≡ length rows₁) (b : Laid g m rows₁ spare₁ ys rows₂) where
+    module _ (ys rows₂ counts₂ : List ℕ) (ly : length ys ≡ length (take (length keys₁ - at) (drop at keys₁))) (lr₂ : length rows₂ ≡ length rows₁) (lc₂ : length counts₂ ≡ length counts₁) (b : Laid g m rows₁ spare₁ ys rows₂) where
       a₂ : Made (g .d) (flatWords g) m rows₂
       a₂ = made-again (g .d) (flatWords g) m rows₁ rows₂ (f .made) (b .kept)
 
       pub front-holds : at ≤ length (take at keys₁ ++ (ys ++ drop (length keys₁ - at) (drop at keys₁)))
       front-holds = omega (arith, length-append (take at keys₁) (ys ++ drop (length keys₁ - at) (drop at keys₁)), length-take-le at keys₁ at-fits)
 
-      pub meets : (len : ℕ) → len ≡ cornersOf g → Meeting (g .d) m len (take at (take at keys₁ ++ (ys ++ drop (length keys₁ - at) (drop at keys₁)))) rows₂ spare₁ counts₁
+      pub meets : (len : ℕ) → len ≡ cornersOf g → Meeting (g .d) m len (take at (take at keys₁ ++ (ys ++ drop (length keys₁ - at) (drop at keys₁)))) rows₂ spare₁ counts₂
       meets len e =
           let front = take at (take at keys₁ ++ (ys ++ drop (length keys₁ - at) (drop at keys₁))) in
-          meeting g front rows₂ spare₁ counts₁
+          meeting g front rows₂ spare₁ counts₂
           (record {
             taken = w .taken;
             keys-long = length-take-le at (take at keys₁ ++ (ys ++ drop (length keys₁ - at) (drop at keys₁))) front-holds ∙ w .start;
             rows-long = lr₂ ∙ lr ∙ w .rows-long;
             spare-long = ls ∙ w .spare-long;
-            counts-long = lc ∙ w .counts-long;
+            counts-long = lc₂ ∙ lc ∙ w .counts-long;
           })
-          m front rows₂ spare₁ counts₁ refl refl refl refl a₂ len e
+          m front rows₂ spare₁ counts₂ refl refl refl refl a₂ len e
 
       -- 7
       pub worked-crowded : (cells order : List ℕ) → Crowded (g .d) (cut (suc (g .d)) m rows₂) → Worked g (Refused crowdedFacet 0) cells cells order order
@@ -227,14 +231,14 @@ module _ (g : Grid) (at : ℕ) (keys rows₀ spare counts : List ℕ) (w : Worki
             ap (λ (r : ℕ). length (row ws n r)) (getD-take m spare₁ i 0 ki)
             ∙ length-take-le n (drop (getD spare₁ i 0 * n) ws) (omega (arith, length-drop (getD spare₁ i 0 * n) ws, words-in (getD spare₁ i 0) (f .below i ki))) in
             sym (cut-at n m ys c h) ∙ ap (λ (l : List (List ℕ)). getD l c []) front-rows ∙ cut-at n m (rowsOf ws n (take m spare₁)) c h
-            ∙ rows-row ws n (take m spare₁) one c (omega (arith, lt)) ∙ ap (row ws n) (getD-take m spare₁ c 0 h) ∙ sym (f .words c h) ∙ sym (by-cell-at (ownWords g) (gluedCells g) c hc)
+            ∙ rows-row ws n (take m spare₁) one c (omega (arith, lt)) ∙ ap (row ws n) (getD-take m spare₁ c 0 h) ∙ sym (first-word g (w .taken) m rows₁ spare₁ f c h) ∙ sym (by-cell-at (ownWords g) (gluedCells g) c hc)
 
         words-flat : take (m * suc (g .d)) ys ≡ flat (wordsByCell g)
         words-flat =
             let lt : length (take m spare₁) ≡ m = length-take-le m spare₁ reps-long in
             b .words
             ∙ sym (by-cell-rows (ownWords g) (gluedCells g) (flatWords g) (suc (g .d)) (take m spare₁) (lt ∙ sym many)
-            (λ c h. let hc : c < m = omega (arith, many) in f .words c hc ∙ ap (row (flatWords g) (suc (g .d))) (sym (getD-take m spare₁ c 0 hc))))
+            (λ c h. let hc : c < m = omega (arith, many) in first-word g (w .taken) m rows₁ spare₁ f c hc ∙ ap (row (flatWords g) (suc (g .d))) (sym (getD-take m spare₁ c 0 hc))))
 
         -- the cells stand behind them
         cells-flat : take (m * suc (g .d)) (drop (m * suc (g .d)) ys) ≡ flat (gluedCells g)

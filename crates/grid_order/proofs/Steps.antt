@@ -13,82 +13,46 @@ use Rattle.refusal.specs.Table.{tooShort}
 use Rattle.refusal.specs.Lent.{onto}
 use Rattle.lists.specs.Rows.{cut, rows, row}
 use Rattle.lists.proofs.Rows.{cut-length, cut-at, row-cell-below}
-use Rattle.multiindex.specs.Sort.{sortWord, sortWords}
-use Rattle.sorting.specs.Bucket.{cell}
-use Rattle.sorting.specs.Distinct.{Distinct}
+use Rattle.multiindex.specs.Sort.{sortWord}
 use Rattle.sorting.specs.Gather.{rowsOf}
-use Rattle.sorting.proofs.Colex.{row-same}
 use Rattle.sorting.proofs.Rows.{rowsOf-pos, pos-room}
 use Rattle.complex.specs.Facets.{cellAt, slots, Mates}
 use Rattle.complex_mates.specs.Table.{MateTable}
-use Rattle.complex_cells.proofs.Making.{key-row, made-cell, whole-words}
 use Rattle.complex_mates.proofs.Mated.{facet-row, mates-row, rows-few}
 use Rattle.quotient.specs.declared.Grid.{Grid}
 use Rattle.quotient.specs.Shape.{checkOf, cellCount}
 use Rattle.grid_words.specs.Cells.{flatWords}
 use Rattle.grid_words.proofs.Listed.{words-long}
-use Rattle.grid_words.proofs.Good.{words-count, words-pass}
+use Rattle.grid_words.proofs.Good.{words-count}
 use Rattle.grid_mesh.specs.Words.{gluedCells, cornersOf}
-use Rattle.grid_mesh.proofs.Steps.{grid-made, corners-are, corners-few}
+use Rattle.grid_mesh.specs.Work.{Found}
+use Rattle.grid_mesh.proofs.Steps.{corners-few}
 use Rattle.lists.specs.Words.{without, none}
-use Rattle.ordering.specs.Order.{wordOf, AgreeOnFacets}
+use Rattle.ordering_words.specs.Order.{wordOf, AgreeOnFacets}
 use Rattle.ordering.specs.WorkAgree.{rowWord, AgreesAt, Clash}
-use Rattle.ordering.proofs.Orders.{word-first}
+use Rattle.ordering_words.proofs.Orders.{word-first}
 use Rattle.grid_order.specs.declared.Triangulated.the-variants.{Ordered, Unordered, Refused}
-use Rattle.grid_order.specs.Promise.{nothing}
-use Rattle.grid_order.specs.Work.{Found, Laying, Laid, Decided, Handing, Out, short, short-order, ordered, unordered, HandedOut}
+use Rattle.grid_order.specs.Promise.{ownWords, nothing}
+use Rattle.grid_order.specs.Work.{Laying, Laid, Decided, Handing, Out, short, short-order, ordered, unordered, HandedOut}
 
--- ---- each cell's first word is the one whose number the distinct rows have
-module _ (n count : ℕ) (ws rest : List ℕ) (whole : count * n ≡ length ws) (some : 0 < n) (m : ℕ) (reps ids rows tail : List ℕ) (q : Distinct (cell (sortWords n count (ws ++ rest)) n) n count m reps ids) (long : m ≤ length reps)
-    (e : rows ≡ rowsOf (sortWords n count (ws ++ rest)) n (take m reps) ++ tail) (fits : m * n ≤ length rows) where
-  pub first-word : (c : ℕ) → c < m → wordOf (cut n count ws) (getD (cut n m rows) c []) ≡ row ws n (getD reps c 0)
+-- ---- each cell's first word is the one whose number was found
+module _ (g : Grid) (fine : checkOf g ≡ Fine) (m : ℕ) (rows₀ reps : List ℕ) (f : Found g m rows₀ reps) where
+  words-are : length (flatWords g) / suc (g .d) ≡ cellCount g
+  words-are = subst (λ (n : ℕ). length (flatWords g) / n ≡ cellCount g) (add-one (g .d)) (words-count g fine)
+
+  pub first-word : (c : ℕ) → c < m → wordOf (ownWords g) (cellAt (gluedCells g) c) ≡ row (flatWords g) (suc (g .d)) (getD reps c 0)
   first-word c h =
-      let r = getD reps c 0 in
-      let hr : r < count = q .below c h in
-      let f : sortWord (row ws n r) ≡ getD (cut n m rows) c [] = sym (made-cell n count ws rest whole some m reps ids rows tail q long e fits c h) in
-      word-first (cut n count ws) (getD (cut n m rows) c []) r (omega (arith, cut-length n count ws)) (ap sortWord (cut-at n count ws r hr) ∙ f)
-      (λ t l z.
-      let ht : t < count = omega arith in
-      let same : row (sortWords n count (ws ++ rest)) n r ≡ row (sortWords n count (ws ++ rest)) n t =
-      key-row n count ws rest whole some r hr ∙ f ∙ sym z ∙ ap sortWord (cut-at n count ws t ht) ∙ sym (key-row n count ws rest whole some t ht) in
-      omega (arith, q .least c t h ht (row-same (sortWords n count (ws ++ rest)) n r t same)))
-      ∙ cut-at n count ws r hr
-
--- ---- the cells of a grid that is taken, and each cell's first word
-module _ (g : Grid) (fine : checkOf g ≡ Fine) (count : ℕ) (e : count ≡ cellCount g) (rest K : List ℕ) (k : K ≡ sortWords (g .d + 1) count (flatWords g ++ rest)) (m : ℕ) (reps ids rows₀ tail : List ℕ) (q : Distinct (cell K (g .d + 1)) (g .d + 1) count m reps ids)
-    (long : m ≤ length reps) (f : rows₀ ≡ rowsOf K (g .d + 1) (take m reps) ++ tail) (room : cornersOf g ≤ length rows₀) where
-  whole : count * (g .d + 1) ≡ length (flatWords g)
-  whole = corners-are g fine count e ∙ sym (words-long g fine)
-
-  fits : m * (g .d + 1) ≤ length rows₀
-  fits = omega (arith, mul-le-mul-right (g .d + 1) (q .few), corners-are g fine count e)
-
-  word-here : (c : ℕ) → c < m → wordOf (cut (g .d + 1) count (flatWords g)) (getD (cut (g .d + 1) m rows₀) c []) ≡ row (flatWords g) (g .d + 1) (getD reps c 0)
-  word-here c h =
-      first-word (g .d + 1) count (flatWords g) rest whole (omega arith) m reps ids rows₀ tail (subst (λ (l : List ℕ). Distinct (cell l (g .d + 1)) (g .d + 1) count m reps ids) k q) long
-      (f ∙ ap (λ (l : List ℕ). rowsOf l (g .d + 1) (take m reps) ++ tail) k) fits c h
-
-  word-suc : (c : ℕ) → c < m → wordOf (cut (suc (g .d)) count (flatWords g)) (getD (cut (suc (g .d)) m rows₀) c []) ≡ row (flatWords g) (suc (g .d)) (getD reps c 0)
-  word-suc = subst (λ (n : ℕ). (c : ℕ) → c < m → wordOf (cut n count (flatWords g)) (getD (cut n m rows₀) c []) ≡ row (flatWords g) n (getD reps c 0)) (add-one (g .d)) word-here
-
-  words-are : length (flatWords g) / suc (g .d) ≡ count
-  words-are = subst (λ (n : ℕ). length (flatWords g) / n ≡ cellCount g) (add-one (g .d)) (words-count g fine) ∙ sym e
-
-  pub found : Found g m rows₀ reps
-  found =
-      let a = grid-made g fine count e rest K k m reps ids rows₀ tail q long f room in
-      record {
-        made = a;
-        few = omega (arith, q .few);
-        below = λ c h. omega (arith, q .below c h);
-        words =
-            λ c h.
-            subst (λ (w : ℕ). wordOf (cut (suc (g .d)) w (flatWords g)) (cellAt (gluedCells g) c) ≡ row (flatWords g) (suc (g .d)) (getD reps c 0)) (sym words-are)
-            (subst (λ (cs : List (List ℕ)). wordOf (cut (suc (g .d)) count (flatWords g)) (cellAt cs c) ≡ row (flatWords g) (suc (g .d)) (getD reps c 0)) (a .same) (word-suc c h));
-      }
+      let n : ℕ = suc (g .d) in
+      let ws : List ℕ = flatWords g in
+      let q : ℕ = length ws / n in
+      let r : ℕ = getD reps c 0 in
+      let hr : r < q = omega (arith, f .below c h, words-are) in
+      word-first (ownWords g) (cellAt (gluedCells g) c) r (omega (arith, cut-length n q ws)) (ap sortWord (cut-at n q ws r hr) ∙ f .sorts c h)
+      (λ t l z. f .first c t h l (sym (ap sortWord (cut-at n q ws t (omega arith))) ∙ z))
+      ∙ cut-at n q ws r hr
 
 -- ---- the words by cell and the cells behind them
-module _ (g : Grid) (m : ℕ) (list rows₀ reps : List ℕ) (w : Laying g m list rows₀ reps) where
+module _ (g : Grid) (m : ℕ) (list rows₀ reps table : List ℕ) (w : Laying g m list rows₀ reps table) where
   pub size-fits : m * (g .d + 1) ≤ cornersOf g
   size-fits = rw (add-one (g .d)) (mul-le-mul-right (suc (g .d)) (w .few))
 

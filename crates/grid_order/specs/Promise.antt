@@ -13,7 +13,7 @@ use Rattle.quotient.specs.declared.Grid.{Grid}
 use Rattle.quotient.specs.Shape.{checkOf}
 use Rattle.grid_words.specs.Cells.{flatWords}
 use Rattle.grid_mesh.specs.Words.{gluedCells, cornersOf}
-use Rattle.ordering.specs.Order.{IsOrder, AgreeOnFacets, byCell}
+use Rattle.ordering_words.specs.Order.{IsOrder, AgreeOnFacets, byCell}
 use Rattle.ordering.specs.Promise.{orderNeed}
 use Rattle.grid_order.specs.declared.Triangulated.{Triangulated}
 use Rattle.grid_order.specs.declared.Triangulated.the-variants.{Ordered, Unordered, Refused}

@@ -7,43 +7,27 @@ use lib.ListN.{length, getD, take, drop}
 use Rattle.refusal.specs.declared.Answer.the-variants.{Fine}
 use Rattle.refusal.specs.Table.{tooShort}
 use Rattle.refusal.specs.Lent.{onto}
-use Rattle.lists.specs.Rows.{row}
 use Rattle.sorting.specs.Gather.{rowsOf}
 use Rattle.complex.specs.Room.{keyRoom}
-use Rattle.complex.specs.Facets.{cellAt, slots}
-use Rattle.complex_cells.specs.WorkMade.{Made}
+use Rattle.complex.specs.Facets.{slots}
 use Rattle.quotient.specs.declared.Grid.{Grid}
 use Rattle.quotient.specs.Shape.{checkOf, cellCount}
+use Rattle.quotient.specs.Points.{pointsOf}
 use Rattle.grid_words.specs.Cells.{flatWords}
-use Rattle.grid_mesh.specs.Words.{gluedCells, cornersOf}
-use Rattle.ordering.specs.Order.{wordOf}
+use Rattle.grid_mesh.specs.Words.{cornersOf}
 use Rattle.ordering.specs.WorkAgree.{AgreesAt, Clash}
 use Rattle.grid_order.specs.declared.Triangulated.{Triangulated}
 use Rattle.grid_order.specs.declared.Triangulated.the-variants.{Ordered, Unordered, Refused}
-use Rattle.grid_order.specs.Promise.{ownWords, Handed, nothing, Ends}
+use Rattle.grid_order.specs.Promise.{Handed, nothing, Ends}
 
--- room for the cells
-pub record Finding (g : Grid) (keys rows spare counts : List ℕ) : Type 0 where
-  pub taken : checkOf g ≡ Fine
-  pub keys-long : cornersOf g ≤ length keys
-  pub rows-long : length rows ≡ cornersOf g
-  pub spare-long : length spare ≡ cornersOf g
-  pub counts-long : length counts ≡ cornersOf g
-
--- m cells stand in rows, and the number of each cell's first word in reps
-pub record Found (g : Grid) (m : ℕ) (rows reps : List ℕ) : Type 0 where
-  pub made : Made (g .d) (flatWords g) m rows
-  pub few : m ≤ cellCount g
-  pub below : (c : ℕ) → c < m → getD reps c 0 < cellCount g
-  pub words : (c : ℕ) → c < m → wordOf (ownWords g) (cellAt (gluedCells g) c) ≡ row (flatWords g) (suc (g .d)) (getD reps c 0)
-
--- room for the words by cell and the cells behind them
-pub record Laying (g : Grid) (m : ℕ) (list rows reps : List ℕ) : Type 0 where
+-- room for the words by cell and the cells behind them, and for the vertex of each point
+pub record Laying (g : Grid) (m : ℕ) (list rows reps table : List ℕ) : Type 0 where
   pub taken : checkOf g ≡ Fine
   pub few : m ≤ cellCount g
   pub list-long : cornersOf g + cornersOf g ≤ length list
   pub rows-long : length rows ≡ cornersOf g
   pub reps-long : m ≤ length reps
+  pub table-long : pointsOf g ≤ length table
   pub below : (c : ℕ) → c < m → getD reps c 0 < cellCount g
 
 -- there they stand, and the cells stay

@@ -3,17 +3,17 @@
 // Follows `FlatQuotient::triangulate_ordered` (crates/regge/src/mesher/quotient.rs).
 //
 // What the working lists hold, one phase after the other; the keys' last part begins where the facet rows end:
-//   keys, first part   sorted words     -                      facet rows
-//   keys, last part    -                words by cell, cells   the same
-//   rows               cells            the grid's words       cells, mates
-//   spare              first rows       first rows             first rows
-//   counts             buckets          classes                classes
+//   keys, first part   sorted words                      -                         facet rows
+//   keys, last part    -                                 words by cell, cells      the same
+//   rows               the vertex of each point, cells   the grid's words          cells, mates
+//   spare              first rows                        first rows                first rows
+//   counts             buckets                           the vertex of each point  classes
 ghost use mathlib.Core.Path.{_≡_};
 ghost use Rattle.refusal.specs.declared.Answer.the-variants.{Fine};
 ghost use Rattle.lists.specs.Zero.{AllZero};
 ghost use Rattle.quotient.specs.Shape.{checkOf};
 ghost use Rattle.grid_order.specs.Promise.{orderRoom, TriangulateOrdered};
-ghost use Rattle.grid_order.specs.Work.{Finding, Found, Laying, Laid, Decided, Handing, HandedOut, Working, Worked};
+ghost use Rattle.grid_order.specs.Work.{Laying, Laid, Decided, Handing, HandedOut, Working, Worked};
 ghost use Rattle.ordering.specs.WorkAgree.{Agreeing};
 use quotient::Grid;
 use refusal::Answer;
@@ -28,38 +28,23 @@ pub enum Triangulated {
     Refused(u32, u32),
 }
 
-// Writes the cells of the grid's words to `rows`, and to `spare` the number of each cell's first word. Says how many cells there are.
-fn find(
+// Writes the words by cell to `list`, and behind them the cells. The cells stay in `rows`; the vertex of each point goes to `table`.
+fn lay_out(
     grid: Grid,
-    keys: &mut [u32],
+    m: usize,
+    list: &mut [u32],
     rows: &mut [u32],
-    spare: &mut [u32],
-    counts: &mut [u32],
-) -> usize
-    requires { ⌜ Finding grid (now keys) (now rows) (now spare) (now counts) ⌝ }
-    ensures { λ m. ⌜ Found grid m (now (rows .exit)) (now (spare .exit)) ⌝ }
-{
-    let n = grid.d as usize + 1;
-    let count = grid_words::cells(grid);
-    let len = count * n;
-    grid_words::grid_words(grid, &mut keys[..len]);
-    multiindex::word::sort_words(keys, n, count);
-    sorting::sort_rows(keys, n, count, len, rows, spare, counts);
-    let m = sorting::distinct(keys, n, count, rows, spare, counts);
-    sorting::gather(keys, n, spare, m, rows);
-    m
-}
-
-// Writes the words by cell to `list`, and behind them the cells. The cells stay in `rows`.
-fn lay_out(grid: Grid, m: usize, list: &mut [u32], rows: &mut [u32], spare: &[u32])
-    requires { ⌜ Laying grid m (now list) (now rows) (now spare) ⌝ }
+    spare: &[u32],
+    table: &mut [u32],
+)
+    requires { ⌜ Laying grid m (now list) (now rows) (now spare) (now table) ⌝ }
     ensures { λ _. ⌜ Laid grid m (now (rows .entry)) (now (spare .entry)) (now (list .exit)) (now (rows .exit)) ⌝ }
 {
     let n = grid.d as usize + 1;
     let size = m * n;
     let end = size + size;
     lists::copy(&rows[..size], &mut list[size..end]);
-    grid_words::grid_words(grid, rows);
+    grid_words::write_words(grid, rows, table);
     sorting::gather(rows, n, spare, m, list);
     lists::copy(&list[size..end], &mut rows[..size]);
 }
@@ -118,8 +103,8 @@ fn work(
     ensures { λ r. ⌜ Worked grid r (now (cells .entry)) (now (cells .exit)) (now (order .entry)) (now (order .exit)) ⌝ }
 {
     let d = grid.d as usize;
-    let m = find(grid, keys, rows, spare, counts);
-    lay_out(grid, m, &mut keys[at..], rows, spare);
+    let m = grid_mesh::cells(grid, keys, rows, spare, counts);
+    lay_out(grid, m, &mut keys[at..], rows, spare, counts);
     let count = grid_words::cells(grid);
     if !complex_mates::mates(d, m, count * (d + 1), &mut keys[..at], rows, spare, counts) {
         return Triangulated::Refused(CROWDED_FACET, 0);

@@ -182,19 +182,3 @@ pub fn write_words(grid: Grid, words: &mut [u32], table: &mut [u32])
     reaches(grid, &mut reach[..corners]);
     write_boxes(grid, &table[..points], &reach[..corners], words);
 }
-
-// Writes the words of all cells, one after the other, over a list of their length.
-pub fn grid_words(grid: Grid, words: &mut [u32])
-    requires { ⌜ (checkOf grid ≡ Fine) × (length (now words) ≡ cellCount grid * suc (grid .d)) ⌝ }
-    ensures { λ _. ⌜ now (words .exit) ≡ flatWords grid ⌝ }
-{
-    let n = grid.d as usize + 1;
-    let mut i = 0;
-    while i < words.len() {
-        let v = corner(grid, i / n, i % n);
-        let c = grid.crossed(GridVertex(v as u32));
-        let p = c.vertex;
-        words[i] = p.0;
-        i += 1;
-    }
-}

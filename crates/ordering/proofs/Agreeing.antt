@@ -9,6 +9,7 @@ use native.Mathlib.Numerals.{add-one}
 use native.Mathlib.Omega.{arith}
 use lib.ListN.{length, getD, take, drop, take-append-drop}
 use lib.Seq.{getD-take, getD-drop}
+use Rattle.refusal.specs.Limits.{manyCorners}
 use Rattle.lists.specs.Rows.{rows, flat, row}
 use Rattle.lists.proofs.Flat.{each-long, flat-length, flat-at}
 use Rattle.lists.proofs.Laws.{front-part}
@@ -23,10 +24,10 @@ use Rattle.orientation_walk.specs.WorkSigns as walk
 use Rattle.orientation_signs.specs.WorkFound.{signOf}
 use Rattle.complex_mates.proofs.Mated.{mate-below, facet-row, mates-row, rows-few}
 use Rattle.lists.specs.Words.{without, none}
-use Rattle.ordering.specs.Order.{wordOf, AgreeOnFacets}
+use Rattle.ordering_words.specs.Order.{wordsBy, wordOf, AgreeOnFacets}
 use Rattle.ordering.specs.WorkAgree.{rowWord, AgreesAt, Clash, markAt}
-use Rattle.ordering.specs.Promise.{wordsBy, wordSign, Ready}
-use Rattle.ordering.proofs.Orders.{by-cell-at, by-cell-length}
+use Rattle.ordering.specs.Promise.{wordSign, Ready}
+use Rattle.ordering_words.proofs.Orders.{by-cell-at, by-cell-length}
 
 -- a list that begins with the words
 module _ (n : ℕ) (l : List ℕ) (ks : List (List ℕ)) (e : take (length ks * n) l ≡ flat ks) (f : (c : ℕ) → c < length ks → length (getD ks c []) ≡ n) (c : ℕ) (h : c < length ks) where
@@ -51,7 +52,7 @@ mark-sign p = ⊎-elim (λ w. ap (λ (x : ℕ). signOf (x + 1)) (w .0) ∙ sym (
 pub mark-fits : (p : ℕ) → walk.Sign (p % 2 + 1)
 mark-fits p = ⊎-elim (λ w. record { some = omega arith; small = omega (arith, w .0) }) (λ w. record { some = omega arith; small = omega (arith, w .0) }) (parity p)
 
-module _ (d at n : ℕ) (cs : List (List ℕ)) (order keys mates : List ℕ) (r : Ready d at n cs order keys mates) (short : n < 65536) where
+module _ (d at n : ℕ) (cs : List (List ℕ)) (order keys mates : List ℕ) (r : Ready d at n cs order keys mates) (short : n < manyCorners) where
   word-long : (c : ℕ) → c < length cs → length (cellAt (wordsBy d cs order) c) ≡ suc d
   word-long c h =
       ap length (by-cell-at (rows (suc d) order) cs c h) ∙ sym (sort-length (wordOf (rows (suc d) order) (cellAt cs c))) ∙ ap length (r .ordered .words .each c h) ∙ r .long c h
@@ -78,7 +79,7 @@ module _ (d at n : ℕ) (cs : List (List ℕ)) (order keys mates : List ℕ) (r 
       ∙ front-number (suc d) (drop s (drop at keys)) cs (r .behind) (r .long) c h j (omega arith)
 
   -- the word of row x's cell without the vertex that is dropped
-  row-word : (x : ℕ) → x < length cs * slots d → rowWord d (slots d) (length cs) (drop at keys) x ≡ without (getD (cellAt cs (x / slots d)) (d - x % slots d) 0) (cellAt (wordsBy d cs order) (x / slots d))
+  pub row-word : (x : ℕ) → x < length cs * slots d → rowWord d (slots d) (length cs) (drop at keys) x ≡ without (getD (cellAt cs (x / slots d)) (d - x % slots d) 0) (cellAt (wordsBy d cs order) (x / slots d))
   row-word x h =
       let c = x / slots d in
       let l : c < length cs = row-cell-below x (length cs) (slots d) h in

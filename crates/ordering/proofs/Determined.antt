@@ -11,8 +11,8 @@ use Rattle.complex.specs.Cells.{cellsOf}
 use Rattle.complex.specs.Facets.{Crowded}
 use Rattle.ordering.specs.declared.Ordered.{Ordered}
 use Rattle.ordering.specs.declared.Ordered.the-variants.{Agree, Refused}
-use Rattle.ordering.specs.Order.{Orders, AgreeOnFacets}
-use Rattle.ordering.specs.Promise.{orderNeed, wordsBy, Ends, Ordering}
+use Rattle.ordering_words.specs.Order.{wordsBy, Orders, AgreeOnFacets}
+use Rattle.ordering.specs.Promise.{orderNeed, Ends, Ordering}
 use Rattle.ordering.specs.Promise.Ends.{crowded as ends-crowded, unordered as ends-unordered, short as ends-short, agreed as ends-agreed, differs as ends-differs}
 
 module _ (d : ℕ) (cs : List (List ℕ)) (order : List ℕ) (given : ℕ) where

@@ -12,6 +12,7 @@ use Rattle.refusal.specs.declared.Counted.{Counted}
 use Rattle.refusal.specs.declared.Counted.the-variants as Counted
 use Rattle.refusal.specs.Table.{crowdedFacet, badOrder, tooShort}
 use Rattle.refusal.specs.Lent.{onto}
+use Rattle.refusal.specs.Limits.{rowMost, manyCorners}
 use Rattle.lists.specs.Rows.{flat}
 use Rattle.complex.specs.Room.{keyRoom}
 use Rattle.complex.specs.Cells.{cellsOf}
@@ -20,10 +21,11 @@ use Rattle.lists.specs.Words.{none}
 use Rattle.complex_mates.proofs.Meeting.{slots-most}
 use Rattle.complex_cells.proofs.Making.{few-corners}
 use Rattle.complex_mates.proofs.Mated.{mate-below}
+use Rattle.ordering_words.specs.Order.{wordsBy}
 use Rattle.ordering.specs.declared.Ordered.{Ordered}
 use Rattle.ordering.specs.declared.Ordered.the-variants.{Agree, Differ, Refused}
 use Rattle.ordering.specs.WorkAgree.{AgreesAt, Clash, Agreeing}
-use Rattle.ordering.specs.Promise.{wordsBy, Preparing, Ready, Prepared, Ends, Worked}
+use Rattle.ordering.specs.Promise.{Preparing, Ready, Prepared, Ends, Worked}
 use Rattle.ordering.specs.Promise.Prepared.{crowded as prepared-crowded, unordered as prepared-unordered, ready as prepared-ready}
 use Rattle.ordering.specs.Promise.Ends.{crowded as ends-crowded, unordered as ends-unordered, short as ends-short, agreed as ends-agreed, differs as ends-differs}
 use Rattle.ordering.proofs.Steps.{need-bound}
@@ -58,8 +60,8 @@ module _ (d at : ℕ) (ws keys₀ rows₀ spare₀ counts₀ : List ℕ) (w : Pr
   pub as-many : count ≡ length (cellsOf d ws)
   as-many = ec ∙ sym the-many
 
-  pub short : length ws < 65536
-  short = few-corners d ws (w .passed)
+  pub short : length ws < manyCorners
+  short = omega (arith, few-corners d ws (w .passed))
 
   size-is : count * (d + 1) ≡ length (cellsOf d ws) * suc d
   size-is = ap (λ (x : ℕ). x * (d + 1)) as-many ∙ ap (λ (x : ℕ). length (cellsOf d ws) * x) (add-one d)
@@ -67,13 +69,13 @@ module _ (d at : ℕ) (ws keys₀ rows₀ spare₀ counts₀ : List ℕ) (w : Pr
   pub size-most : count * (d + 1) ≤ length ws
   size-most = omega (arith, size-is, the-ready .most)
 
-  pub size-small : count * (d + 1) < 65536
+  pub size-small : count * (d + 1) < manyCorners
   size-small = omega (arith, size-most, short)
 
   pub end-fits : at + count * (d + 1) ≤ length keys
   end-fits = omega (arith, size-most, w .keys-long, w .start)
 
-  pub end-small : at + count * (d + 1) < 327680
+  pub end-small : at + count * (d + 1) < suc rowMost * manyCorners
   end-small = omega (arith, size-small, w .start, need-bound d (length ws) (w .passed .small) short)
 
   pub at-fits : at ≤ length keys

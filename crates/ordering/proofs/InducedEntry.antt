@@ -18,8 +18,8 @@ use Rattle.complex.specs.Check.{answerOf}
 use Rattle.complex.specs.Cells.{cellsOf}
 use Rattle.complex.specs.Facets.{cellAt, Crowded}
 use Rattle.orientation_signs.specs.Signs.{Coherent}
-use Rattle.ordering.specs.Order.{Orders}
-use Rattle.ordering.specs.Promise.{orderNeed, wordsBy, wordSign, Wound, Induced}
+use Rattle.ordering_words.specs.Order.{wordsBy, Orders}
+use Rattle.ordering.specs.Promise.{orderNeed, wordSign, Wound, Induced}
 use Rattle.ordering.specs.Promise.Wound.{crowded as wound-crowded, unordered as wound-unordered, coherent as wound-coherent, incoherent as wound-incoherent}
 
 module _ (d : ℕ) (ws order keys rows spare counts : List ℕ) where

@@ -1,9 +1,5 @@
-pub mod Orders
 pub mod Without
 pub mod Reading
-pub mod Lists
-pub mod Matching
-pub mod Arranging
 pub mod Steps
 pub mod Agreeing
 pub mod Ends

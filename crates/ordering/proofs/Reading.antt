@@ -9,6 +9,7 @@ use native.Mathlib.Decide.{decLt}
 use native.Mathlib.Omega.{arith}
 use lib.ListN.{length, getD, take, drop, set}
 use lib.Seq.{getD-set-same, getD-set-other}
+use Rattle.refusal.specs.Limits.{manyCorners}
 use Rattle.sorting.proofs.Rows.{pos-room}
 use Rattle.complex.specs.Facets.{slots}
 use Rattle.lists.proofs.Rows.{row-cell-below, slots-some}
@@ -40,7 +41,7 @@ module _ (d m : ℕ) (mates list : List ℕ) (w : Agreeing d m mates list) (k : 
   rows-few : m * k ≤ m * (d + 1)
   rows-few = mul-le-mul-left m (omega (arith, slots-most d))
 
-  pub total-small : m * k < 65536
+  pub total-small : m * k < manyCorners
   total-small = omega (arith, rows-few, w .short)
 
   pub mates-room : m * k ≤ length mates

@@ -3,12 +3,13 @@ use mathlib.Core.Bool.{Bool, true, false}
 use mathlib.Core.List.{List, [], _∷_, _++_, append-nil}
 use mathlib.Core.Path.{_≡_, refl, sym, ap, _∙_, subst}
 use Prim.Native.Nat.{ℕ, zero, suc, _+_, _-_, _*_, _<_, _≤_}
-use native.Mathlib.Nat.{le-refl}
+use native.Mathlib.Nat.{le-refl, suc-mul, mul-le-mul-left, mul-le-mul-right}
 use native.Mathlib.Omega.{arith}
 use lib.ListN.{length, getD, take, drop, length-append, length-drop, drop-of-length-le}
 use lib.Seq.{length-take-le, take-at, drop-at}
 use Rattle.refusal.specs.declared.Counted.the-variants as Counted
 use Rattle.refusal.specs.Table.{crowdedFacet, badOrder}
+use Rattle.refusal.specs.Limits.{mostDimension, rowMost, manyCorners}
 use Rattle.lists.specs.Rows.{cut, rows, flat}
 use Rattle.lists.proofs.Flat.{flat-cut}
 use Rattle.lists.proofs.Rows.{cut-length}
@@ -21,22 +22,10 @@ use Rattle.complex_cells.specs.WorkMade.{Making, Made}
 use Rattle.complex_mates.proofs.Mated.{not-crowded}
 use Rattle.orientation.specs.Work.{Working}
 use Rattle.orientation.proofs.Steps.{meeting}
-use Rattle.ordering.specs.Order.{byCell, Orders}
-use Rattle.ordering.specs.WorkArrange.{Arranging, Arranged}
-use Rattle.ordering.specs.Promise.{wordsBy, Preparing, Ready, Prepared, crowded, unordered, ready}
-use Rattle.ordering.proofs.Lists.{cut-front, front-at}
-
--- cells that stay in the front are made again
-made-again : (d : ℕ) (ws : List ℕ) (m : ℕ) (l k : List ℕ) → Made d ws m l → take (m * suc d) k ≡ take (m * suc d) l → Made d ws m k
-made-again d ws m l k a e =
-    let c : cut (suc d) m k ≡ cut (suc d) m l = cut-front (suc d) m k l e in
-    record {
-      same = c ∙ a .same;
-      cells = subst (λ (cs : List (List ℕ)). Cells d cs) (sym c) (a .cells);
-      most = a .most;
-      below = λ i h. rw (front-at (m * suc d) k l i h e) (a .below i h);
-      corners = a .corners;
-    }
+use Rattle.ordering_words.specs.Order.{wordsBy, byCell, Orders}
+use Rattle.ordering_words.specs.WorkArrange.{Arranging, Arranged}
+use Rattle.ordering.specs.Promise.{Preparing, Ready, Prepared, crowded, unordered, ready}
+use Rattle.ordering_words.proofs.Lists.{made-again}
 
 module _ (d at : ℕ) (ws keys rows₀ spare counts : List ℕ) (w : Preparing d at ws keys rows₀ spare counts) where
   pub making : Making d ws keys rows₀ spare counts
@@ -134,9 +123,12 @@ module _ (d at : ℕ) (ws keys rows₀ spare counts : List ℕ) (w : Preparing d
               }))
 
 -- the room asked for is small
-pub need-bound : (d n : ℕ) → d ≤ 3 → n < 65536 → keyRoom d n < 262144
-need-bound zero n h l = omega arith
-need-bound (suc zero) n h l = omega arith
-need-bound (suc (suc zero)) n h l = omega arith
-need-bound (suc (suc (suc zero))) n h l = omega arith
-need-bound (suc (suc (suc (suc d)))) n h l = absurd (omega arith)
+room-most : (d n : ℕ) → keyRoom d n ≤ suc d * n
+room-most zero n = omega (arith, suc-mul 0 n)
+room-most (suc d) n = omega (arith, suc-mul (suc d) n)
+
+pub need-bound : (d n : ℕ) → d ≤ mostDimension → n < manyCorners → keyRoom d n < rowMost * manyCorners
+need-bound d n h l = omega (arith, room-most d n, mul-le-mul-right n (suc-le h), mul-le-mul-left rowMost l)
+  where
+    suc-le : d ≤ mostDimension → suc d ≤ rowMost
+    suc-le h = omega arith

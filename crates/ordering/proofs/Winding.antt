@@ -13,6 +13,7 @@ use Rattle.refusal.specs.declared.Counted.the-variants as Counted
 use Rattle.refusal.specs.declared.Verdict.{Verdict}
 use Rattle.refusal.specs.declared.Verdict.the-variants.{Yes, No, Refused}
 use Rattle.refusal.specs.Table.{crowdedFacet, badOrder}
+use Rattle.refusal.specs.Limits.{manyCorners}
 use Rattle.lists.specs.Rows.{row}
 use Rattle.multiindex.specs.Sort.{inversions}
 use Rattle.complex.specs.Cells.{cellsOf}
@@ -26,8 +27,9 @@ use Rattle.orientation_signs.specs.WorkFound.{signOf, Finding}
 use Rattle.orientation.proofs.Steps.{room-least}
 use Rattle.orientation_by.specs.WorkTest.{Testing, Tested}
 use Rattle.orientation_by.proofs.Determined.{coherent-same}
+use Rattle.ordering_words.specs.Order.{wordsBy}
 use Rattle.ordering.specs.WorkAgree.{markAt, Marking}
-use Rattle.ordering.specs.Promise.{wordsBy, wordSign, Preparing, Ready, Prepared, Wound}
+use Rattle.ordering.specs.Promise.{wordSign, Preparing, Ready, Prepared, Wound}
 use Rattle.ordering.specs.Promise.Prepared.{crowded as prepared-crowded, unordered as prepared-unordered, ready as prepared-ready}
 use Rattle.ordering.specs.Promise.Wound.{crowded as wound-crowded, unordered as wound-unordered, coherent as wound-coherent, incoherent as wound-incoherent}
 use Rattle.ordering.proofs.Agreeing.{mark-fits, mark-word}
@@ -49,7 +51,7 @@ module _ (d at : ℕ) (ws keys₀ rows₀ spare₀ counts₀ : List ℕ) (w : Pr
   most : count * (d + 1) ≤ length ws
   most = size-most d at ws keys₀ rows₀ spare₀ counts₀ w order keys mates lk lm p q m e count ec
 
-  small : count * (d + 1) < 65536
+  small : count * (d + 1) < manyCorners
   small = size-small d at ws keys₀ rows₀ spare₀ counts₀ w order keys mates lk lm p q m e count ec
 
   many : count ≡ length (cellsOf d ws)

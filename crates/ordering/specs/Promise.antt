@@ -11,7 +11,7 @@ use Rattle.refusal.specs.declared.Room.{Room}
 use Rattle.refusal.specs.Table.{crowdedFacet, badOrder, tooShort}
 use Rattle.refusal.specs.Lent.{onto, lengths, Cleared}
 use Rattle.refusal.specs.Call.{Comes}
-use Rattle.lists.specs.Rows.{rows, flat}
+use Rattle.lists.specs.Rows.{flat}
 use Rattle.multiindex.specs.Sort.{inversions}
 use Rattle.multiindex.specs.Sign.{Sign, induced}
 use Rattle.complex.specs.Check.{answerOf, Passed}
@@ -22,15 +22,11 @@ use Rattle.complex_mates.specs.Table.{MateTable}
 use Rattle.orientation_signs.specs.Signs.{Coherent}
 use Rattle.ordering.specs.declared.Ordered.{Ordered}
 use Rattle.ordering.specs.declared.Ordered.the-variants.{Agree, Differ, Refused}
-use Rattle.ordering.specs.Order.{byCell, Orders, AgreeOnFacets}
+use Rattle.ordering_words.specs.Order.{wordsBy, Orders, AgreeOnFacets}
 
 -- what a call on an order needs of its working lists, where n is the number of corners of the words
 abbrev pub orderNeed : ℕ → ℕ → Room
 orderNeed d n = record { keys = keyRoom d n + n + n; rows = n; spare = n; counts = n }
-
--- the order's words by cell
-abbrev pub wordsBy : ℕ → List (List ℕ) → List ℕ → List (List ℕ)
-wordsBy d cs order = byCell (rows (suc d) order) cs
 
 -- a word's sign: + for an even number of pairs out of order
 abbrev pub wordSign : List ℕ → Sign

@@ -3,6 +3,7 @@ use mathlib.Core.List.{List}
 use mathlib.Core.Path.{_≡_}
 use Prim.Native.Nat.{ℕ, suc, _+_, _-_, _*_, _/_, _%_, _<_, _≤_}
 use lib.ListN.{length, getD}
+use Rattle.refusal.specs.Limits.{manyCorners}
 use Rattle.lists.specs.Rows.{row}
 use Rattle.multiindex.specs.Sort.{inversions}
 use Rattle.complex.specs.Facets.{slots}
@@ -19,8 +20,8 @@ pub record Reading (d k m : ℕ) (list : List ℕ) (x y : ℕ) : Type 0 where
   pub cell : x / k < m
   pub other : y / k < m
   pub long : m * (d + 1) + m * (d + 1) ≤ length list
-  pub short : m * (d + 1) < 65536
-  pub dim : d < 65536
+  pub short : m * (d + 1) < manyCorners
+  pub dim : d < manyCorners
 
 -- the words agree on the facet of row x, where it has a mate
 abbrev pub AgreesAt : ℕ → ℕ → List ℕ → List ℕ → ℕ → Type 0
@@ -37,8 +38,8 @@ pub record Agreeing (d m : ℕ) (mates list : List ℕ) : Type 0 where
   pub mates-long : m * slots d ≤ length mates
   pub long : m * (d + 1) + m * (d + 1) ≤ length list
   pub below : (x : ℕ) → x < m * slots d → (getD mates x 0 ≡ none → ⊥) → getD mates x 0 < m * slots d
-  pub short : m * (d + 1) < 65536
-  pub dim : d < 65536
+  pub short : m * (d + 1) < manyCorners
+  pub dim : d < manyCorners
 
 -- the sign of word c as a mark
 abbrev pub markAt : ℕ → List ℕ → ℕ → ℕ
@@ -48,5 +49,5 @@ markAt n list c = inversions (row list n c) % 2 + 1
 pub record Marking (n m : ℕ) (list marks : List ℕ) : Type 0 where
   pub long : m * n ≤ length list
   pub marks-long : m ≤ length marks
-  pub short : m * n < 65536
-  pub size : n < 65536
+  pub short : m * n < manyCorners
+  pub size : n < manyCorners

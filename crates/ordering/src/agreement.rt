@@ -8,12 +8,6 @@ ghost use Rattle.complex.specs.Facets.{slots};
 ghost use Rattle.lists.specs.Words.{sameWord, without};
 ghost use Rattle.ordering.specs.WorkAgree.{rowWord, Reading, Agreeing, AgreesAt, Clash, markAt, Marking};
 
-fn wide(x: u32) -> usize
-    ensures { λ r. ⌜ r ≡ x ⌝ }
-{
-    x as usize
-}
-
 // Whether all the numbers are t.
 fn only(u: &[u32], t: u32) -> bool
     ensures { λ r. ⌜ r ≡ sameWord [] (without t (now (u .entry))) ⌝ }
@@ -57,8 +51,8 @@ fn same_without(w: &[u32], v: u32, u: &[u32], t: u32) -> bool
     only(&u[j..], t)
 }
 
-// Whether the words of the cells of rows x and y agree on their facet: `list` has the words by cell, and behind them the cells.
-fn row_agrees(d: usize, k: usize, m: usize, list: &[u32], x: usize, y: usize) -> bool
+// Whether the words of the cells of rows x and y agree on their facet: `list` has the words by cell, and behind them the cells. For the crates above.
+pub fn row_agrees(d: usize, k: usize, m: usize, list: &[u32], x: usize, y: usize) -> bool
     requires { ⌜ Reading d k m (now list) x y ⌝ }
     ensures { λ r. ⌜ r ≡ sameWord (rowWord d k m (now (list .entry)) x) (rowWord d k m (now (list .entry)) y) ⌝ }
 {
@@ -88,7 +82,7 @@ pub fn agree(d: usize, m: usize, mates: &[u32], list: &[u32]) -> bool
             x += 1;
             continue;
         }
-        if !row_agrees(d, k, m, list, x, wide(y)) {
+        if !row_agrees(d, k, m, list, x, lists::wide(y)) {
             return false;
         }
         x += 1;

@@ -18,24 +18,18 @@ use refusal::Verdict;
 ghost use mathlib.Core.Path.{_≡_};
 ghost use Prim.Native.Nat.{_<_, _≤_};
 ghost use lib.ListN.{length};
+ghost use Rattle.refusal.specs.Limits.{mostDimension, manyCorners};
 ghost use Rattle.lists.specs.Zero.{AllZero};
 ghost use Rattle.complex.specs.Cells.{cellsOf};
 ghost use Rattle.ordering.specs.Promise.{orderNeed, Preparing, Prepared, Worked, Wound, Ordering, Induced};
 
 pub mod agreement;
-pub mod arranged;
 
 // What a call on an order says: how many cells there are, and whether the order agrees on every facet of two of them.
 pub enum Ordered {
     Agree(u32),
     Differ(u32),
     Refused(u32, u32),
-}
-
-fn wide(x: u32) -> usize
-    ensures { λ r. ⌜ r ≡ x ⌝ }
-{
-    x as usize
 }
 
 // The cells, the order's words by cell and the mates: how many cells, or 7 or 16.
@@ -54,7 +48,7 @@ fn prepare(
 {
     let len = words.len();
     let m = complex_cells::cells(d, words, keys, rows, spare, counts);
-    let fits = arranged::arrange(d, m, len, order, &mut keys[at..], rows, spare, counts);
+    let fits = ordering_words::arrange(d, m, len, order, &mut keys[at..], rows, spare, counts);
     if !complex_mates::mates(d, m, len, &mut keys[..at], rows, spare, counts) {
         return Counted::Refused(CROWDED_FACET, 0);
     }
@@ -83,7 +77,7 @@ fn order_work(
     match prepared {
         Counted::Refused(number, place) => Ordered::Refused(number, place),
         Counted::Count(m) => {
-            let count = wide(m);
+            let count = lists::wide(m);
             let size = count * (d + 1);
             if listed.len() < size {
                 return Ordered::Refused(TOO_SHORT, 0);
@@ -122,8 +116,8 @@ fn order_cleared(
 }
 
 // What a call on an order needs of its working lists.
-fn need(d: usize, len: usize) -> Room
-    requires { ⌜ (d ≤ 3) × (len < 65536) ⌝ }
+pub fn need(d: usize, len: usize) -> Room
+    requires { ⌜ (d ≤ mostDimension) × (len < manyCorners) ⌝ }
     ensures { λ r. ⌜ r ≡ orderNeed d len ⌝ }
 {
     let base = complex::need(d, len);
@@ -205,7 +199,7 @@ fn wound_work(
     match prepared {
         Counted::Refused(number, place) => Verdict::Refused(number, place),
         Counted::Count(m) => {
-            let count = wide(m);
+            let count = lists::wide(m);
             agreement::word_marks(d + 1, count, &keys[at..], counts);
             if !orientation_by::coherent_as(d, count, rows, &mut keys[..at], spare, counts) {
                 return Verdict::No;

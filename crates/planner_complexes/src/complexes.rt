@@ -5,7 +5,7 @@ ghost use lib.ListN.{length};
 ghost use Rattle.complex.specs.Room.{needOf};
 ghost use Rattle.complex.specs.Cells.{cellsOf};
 ghost use Rattle.complex.specs.Skeleton.{edgesOf, borderOf};
-ghost use Rattle.skeleton.specs.Promise.{Listed, FacetsListed};
+ghost use Rattle.skeleton.specs.Promise.{Listed, FacetsListed, RecordsListed};
 ghost use Rattle.skeleton.specs.Parts.{edgeNeed};
 ghost use Rattle.orientation.specs.Promise.{Orientation};
 ghost use Rattle.orientation_by.specs.Promise.{OrientBy};
@@ -68,6 +68,27 @@ pub extern "C" fn planner_facets(
         (now (keys .exit)) (now (rows .entry)) (now (rows .exit)) (now (spare .entry)) (now (spare .exit)) (now (counts .entry)) (now (counts .exit))) r ⌝ }
 {
     said::counted(skeleton::facets(d, words, facets, table, keys, rows, spare, counts))
+}
+
+// The facets, d vertices each, in colex order without repeats, and in `records` five numbers for each: its lower cell and the induced sign there, 1 for + and 2 for -, its
+// other cell and the induced sign there, or 4294967295 and 0 where it lies in one cell, and 1: sorted cells agree on every facet. How many. Refused as `planner_facets` is.
+#[no_mangle]
+pub extern "C" fn planner_facet_records(
+    d: u32,
+    words: &[u32],
+    facets: &mut [u32],
+    records: &mut [u32],
+    keys: &mut [u32],
+    rows: &mut [u32],
+    spare: &mut [u32],
+    counts: &mut [u32],
+) -> u64
+    ensures { λ r.
+        ⌜ Said countedCode (λ a. RecordsListed d (now (words .entry)) a (now (facets .entry)) (now (facets .exit)) (now (records .entry)) (now (records .exit))
+        (now (keys .entry)) (now (keys .exit)) (now (rows .entry)) (now (rows .exit)) (now (spare .entry)) (now (spare .exit)) (now (counts .entry))
+        (now (counts .exit))) r ⌝ }
+{
+    said::counted(skeleton::facet_records(d, words, facets, records, keys, rows, spare, counts))
 }
 
 // The facets in one cell, d vertices each, in colex order: how many. Refused as `planner_cells` is.

@@ -23,7 +23,7 @@ use Rattle.complex_cells.proofs.Words.{Word, Each, In, each-in, each-of, in-at}
 use Rattle.complex_cells.proofs.Making.{whole-words}
 use Rattle.complex_facets.specs.Sides.{sideOf, sidesOf, eachSides, tableOf}
 use Rattle.complex_mates.proofs.Meeting.{slots-most}
-use Rattle.ordering.proofs.Orders.{order-length}
+use Rattle.ordering_words.proofs.Orders.{order-length}
 use Rattle.skeleton.proofs.Laws.{cells-from, edges-from, facets-from}
 use Rattle.planner_needs.proofs.Words.{word-long}
 

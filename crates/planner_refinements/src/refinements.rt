@@ -2,7 +2,7 @@
 use planner_passing::said;
 ghost use mathlib.Core.Path.{_≡_};
 ghost use Rattle.complex.specs.Cells.{cellsOf};
-ghost use Rattle.ordering.specs.Order.{Orders};
+ghost use Rattle.ordering_words.specs.Order.{Orders};
 ghost use Rattle.refine_results.specs.Refined.{orderWords};
 ghost use Rattle.refine.specs.Promise.{Refining};
 ghost use Rattle.planner_passing.specs.Said.{Said, refinedCode, refinedVertices};

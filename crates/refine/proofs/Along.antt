@@ -28,9 +28,9 @@ use Rattle.complex_cells.proofs.Making.{whole-words}
 use Rattle.lists.specs.Words.{same}
 use Rattle.refine_lattice.specs.Complex.{occurrences}
 use Rattle.refine_lattice.proofs.Enumerate.{once-of-apart}
-use Rattle.ordering.specs.Order.{wordOf, byCell, IsOrder}
-use Rattle.ordering.proofs.Lists.{cut-front, sort-back}
-use Rattle.ordering.proofs.Orders.{by-cell-at, by-cell-length}
+use Rattle.ordering_words.specs.Order.{wordOf, byCell, IsOrder}
+use Rattle.ordering_words.proofs.Lists.{cut-front, sort-back}
+use Rattle.ordering_words.proofs.Orders.{by-cell-at, by-cell-length}
 use Rattle.refine_results.specs.Refined.{coarse}
 use Rattle.refine_results.specs.WorkFlat.{Along}
 

@@ -19,9 +19,9 @@ use Rattle.complex_cells.specs.WorkMade.{Made}
 use Rattle.complex_mates.specs.Table.{MateTable, Meeting}
 use Rattle.complex_mates.proofs.Meeting.{slots-most}
 use Rattle.complex_mates.proofs.Mated.{not-crowded}
-use Rattle.ordering.specs.Order.{byCell, Orders}
-use Rattle.ordering.specs.WorkArrange.{Arranging, Arranged}
-use Rattle.ordering.proofs.Lists.{cut-front, front-at}
+use Rattle.ordering_words.specs.Order.{byCell, Orders}
+use Rattle.ordering_words.specs.WorkArrange.{Arranging, Arranged}
+use Rattle.ordering_words.proofs.Lists.{cut-front, front-at}
 use Rattle.refine_results.specs.Refined.{coarse, orderWords}
 use Rattle.refine.specs.WorkReading.{wordsAlong, OrderedBy, Making, Reads}
 use Rattle.refine.specs.WorkReading.Reads.{crowded as reads-crowded, unordered as reads-unordered, read as reads-read}

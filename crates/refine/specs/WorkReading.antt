@@ -11,7 +11,7 @@ use Rattle.lists.specs.Rows.{cut}
 use Rattle.complex.specs.Check.{Passed}
 use Rattle.complex.specs.Cells.{cellsOf}
 use Rattle.complex.specs.Facets.{Crowded}
-use Rattle.ordering.specs.Order.{Orders}
+use Rattle.ordering_words.specs.Order.{Orders}
 use Rattle.refine_results.specs.Refined.{coarse, orderWords}
 use Rattle.refine_results.specs.WorkFlat.{Along}
 

@@ -8,7 +8,7 @@ ghost use Prim.Native.Nat.{suc, _<_};
 ghost use Rattle.refusal.specs.Limits.{mostVertices};
 ghost use Rattle.lists.specs.Words.{largestOf};
 ghost use Rattle.complex.specs.Cells.{cellsOf};
-ghost use Rattle.ordering.specs.Order.{Orders};
+ghost use Rattle.ordering_words.specs.Order.{Orders};
 ghost use Rattle.refine_results.specs.Refined.{coarse, orderWords};
 ghost use Rattle.refine.specs.WorkReading.{wordsAlong, OrderedBy, Making, Reads};
 ghost use Rattle.refine.specs.WorkCoarse.{Listing, Listed, Naming, Named};
@@ -75,7 +75,7 @@ fn ordered(
         ⌜ Named d m (now (given .entry)) (Orders d (cellsOf d (now (given .entry))) (now (order .entry))) (orderWords d (now (given .entry)) (now (order .entry))) r
         (now (cells .exit)) (now (along .exit)) ⌝ }
 {
-    if !ordering::arranged::arrange(d, m, given.len(), order, keys, cells, spare, counts) {
+    if !ordering_words::arrange(d, m, given.len(), order, keys, cells, spare, counts) {
         return false;
     }
     let len = m * (d + 1);

@@ -21,7 +21,7 @@ use refusal::Answer;
 use refusal::Counted;
 use refusal::TOO_SHORT;
 ghost use Rattle.complex.specs.Cells.{cellsOf};
-ghost use Rattle.ordering.specs.Order.{Orders};
+ghost use Rattle.ordering_words.specs.Order.{Orders};
 ghost use Rattle.refine_results.specs.Refined.{orderWords};
 ghost use Rattle.refine.specs.WorkReading.{OrderedBy, wordsAlong};
 ghost use Rattle.refine.specs.Promise.{Refining};

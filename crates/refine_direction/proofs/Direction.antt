@@ -19,7 +19,7 @@ use Rattle.complex_cells.proofs.Order.{order-rising}
 use Rattle.orientation_signs.specs.Signs.{Coherent, signList}
 use Rattle.orientation_laws.specs.Asked.{OrientByCalled}
 use Rattle.orientation_laws.proofs.Coherent.{coherent-yes, coherent-found}
-use Rattle.ordering.specs.Order.{Orders}
+use Rattle.ordering_words.specs.Order.{Orders}
 use Rattle.refine_lattice.specs.Refine.{words, vertices}
 use Rattle.refine_lattice.proofs.Fits.{Stage}
 use Rattle.refine_results.specs.declared.Refinement.{Refinement}

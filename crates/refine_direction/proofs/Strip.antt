@@ -16,7 +16,7 @@ use Rattle.complex.specs.Cells.{decides, comesBefore, placed, place, inOrder, c
 use Rattle.complex.specs.Check.{answerOf}
 use Rattle.complex.specs.Facets.{cellAt, Crowded}
 use Rattle.orientation_signs.specs.Signs.{Coherent}
-use Rattle.ordering.specs.Order.{wordIf, wordOf, byCell, IsOrder, Orders, AgreeOnFacets}
+use Rattle.ordering_words.specs.Order.{wordIf, wordOf, byCell, IsOrder, Orders, AgreeOnFacets}
 use Rattle.refine_lattice.specs.Refine.{vertices}
 use Rattle.refine_results.specs.Refined.{coarse, orderWords, refinedCells, visitOf}
 use Rattle.refine_results.specs.Results.{Results, Refines, resultsOf}

@@ -17,7 +17,7 @@ use Rattle.multiindex.proofs.Tables.{allBelow, at-below}
 use Rattle.complex.specs.Cells.{cellsOf}
 use Rattle.complex.specs.Facets.{cellAt, facetAt, Mates, Crowded}
 use Rattle.orientation_signs.specs.Signs.{Coherent}
-use Rattle.ordering.specs.Order.{AgreeOnFacets}
+use Rattle.ordering_words.specs.Order.{AgreeOnFacets}
 use Rattle.refine_lattice.specs.Refine.{vertices}
 use Rattle.refine_results.specs.declared.Refinement.the-variants.{Made}
 use Rattle.refine_results.specs.Refined.{coarse, refinedCells}

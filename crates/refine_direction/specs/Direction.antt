@@ -17,7 +17,7 @@ use Rattle.orientation_signs.specs.Signs.{Coherent, signList}
 use Rattle.orientation.specs.declared.Coherence.{Coherence}
 use Rattle.orientation.specs.Promise.{countedOf}
 use Rattle.orientation_laws.specs.Asked.{OrientByCalled, OrientationCalled}
-use Rattle.ordering.specs.Order.{AgreeOnFacets}
+use Rattle.ordering_words.specs.Order.{AgreeOnFacets}
 use Rattle.refine_lattice.specs.Jacobian.{Matrix, laplace}
 use Rattle.refine_results.specs.declared.Refinement.the-variants.{Made}
 use Rattle.refine_results.specs.Refined.{orderWords}

@@ -11,7 +11,7 @@ use Rattle.complex.specs.Check.{Passed}
 use Rattle.complex.specs.Facets.{Crowded}
 use Rattle.complex.proofs.Fine.{fine-passed, passed-fine}
 use Rattle.complex_cells.proofs.Order.{order-rising}
-use Rattle.ordering.specs.Order.{Orders}
+use Rattle.ordering_words.specs.Order.{Orders}
 use Rattle.refine_lattice.specs.Refine.{words, vertices, In}
 use Rattle.refine_lattice.specs.Conform.{Used, Sound}
 use Rattle.refine_lattice.proofs.Count.{Nodup}

@@ -14,9 +14,9 @@ use Rattle.multiindex.proofs.SortLaws.{sort-length}
 use Rattle.complex.specs.Cells.{inOrder}
 use Rattle.complex.specs.Facets.{cellAt}
 use Rattle.lists.specs.Words.{sameWord}
-use Rattle.ordering.specs.Order.{wordIf, wordOf, byCell}
+use Rattle.ordering_words.specs.Order.{wordIf, wordOf, byCell}
 use Rattle.lists.proofs.Words.{same-word, word-true}
-use Rattle.ordering.proofs.Orders.{by-cell-at, by-cell-length}
+use Rattle.ordering_words.proofs.Orders.{by-cell-at, by-cell-length}
 use Rattle.complex_cells.proofs.Words.{Word, Each, Rising, each-in, each-of, in-at, at-in}
 use Rattle.complex_cells.proofs.Order.{Colex, colex-irr, order-rising, order-from, order-has}
 use Rattle.refine_lattice.specs.Complex.{occurrences, Complex, Rises}

@@ -12,7 +12,7 @@ use Rattle.complex.specs.Check.{answerOf, Passed}
 use Rattle.complex.specs.Cells.{cellsOf}
 use Rattle.complex.specs.Facets.{Crowded}
 use Rattle.complex.proofs.Fine.{fine-passed}
-use Rattle.ordering.specs.Order.{Orders, AgreeOnFacets}
+use Rattle.ordering_words.specs.Order.{Orders, AgreeOnFacets}
 use Rattle.refine_lattice.specs.Complex.{through}
 use Rattle.refine_lattice.specs.Refine.{vertices, share, In}
 use Rattle.lists.proofs.Sums.{sum-ext}

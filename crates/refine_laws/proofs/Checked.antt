@@ -19,8 +19,8 @@ use Rattle.complex.specs.Check.{Passed}
 use Rattle.complex.specs.Facets.{cellAt, Crowded}
 use Rattle.complex_cells.proofs.Words.{at-in}
 use Rattle.complex_cells.proofs.Making.{whole-words}
-use Rattle.ordering.specs.Order.{Orders}
-use Rattle.ordering.specs.Order as order
+use Rattle.ordering_words.specs.Order.{Orders}
+use Rattle.ordering_words.specs.Order as order
 use Rattle.refine_lattice.specs.Complex.{occurrences, Complex, AgreeOnFaces, Rises}
 use Rattle.refine_lattice.specs.Refine.{In}
 use Rattle.refine_lattice.specs.Conform.{Used, Sound, Facewise}
@@ -31,7 +31,7 @@ use Rattle.refine_results.specs.Refined.{coarse, orderWords}
 use Rattle.refine_laws.proofs.Words.{of-mem, sort-times, times-among, plain-of}
 use Rattle.refine_laws.proofs.Listed.{Listed, counts-at, number-of, word-in, listed-complex, listed-distinct}
 use Rattle.refine_laws.proofs.Facets.{listed-nodup, listed-thin, listed-agree}
-use Rattle.ordering.proofs.Orders.{by-cell-length, by-cell-at}
+use Rattle.ordering_words.proofs.Orders.{by-cell-length, by-cell-at}
 use Rattle.refine_laws.proofs.Arranged.{to-cell, listed, listed-cells}
 
 -- ---- a flat list and its words

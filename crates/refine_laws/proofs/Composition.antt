@@ -14,8 +14,8 @@ use Rattle.complex.specs.Check.{Passed}
 use Rattle.complex.specs.Facets.{Crowded}
 use Rattle.complex.proofs.Fine.{fine-passed, passed-fine}
 use Rattle.complex_cells.proofs.Order.{order-rising}
-use Rattle.ordering.specs.Order.{Orders}
-use Rattle.ordering.specs.Order as order
+use Rattle.ordering_words.specs.Order.{Orders}
+use Rattle.ordering_words.specs.Order as order
 use Rattle.lists.specs.Words.{same}
 use Rattle.refine_lattice.specs.Complex.{through, Alike, WordsAgreeOnFacets}
 use Rattle.refine_lattice.specs.Refine.{words, vertices, share, In}

@@ -10,7 +10,7 @@ use lib.ListN.{length, getD}
 use Rattle.complex_cells.proofs.Words.{at-in}
 use Rattle.complex.specs.Facets.{cellAt, Mates, Crowded}
 use Rattle.lists.specs.Words.{without}
-use Rattle.ordering.specs.Order as order
+use Rattle.ordering_words.specs.Order as order
 use Rattle.refine_lattice.specs.Complex.{occurrences, common, Complex, WordsAgreeOnFacets}
 use Rattle.refine_lattice.specs.Refine.{In}
 use Rattle.refine_lattice.specs.Conform.{Meet, Thin}

@@ -11,7 +11,7 @@ use Rattle.multiindex.specs.Sort.{insertBy, insert, sortWord}
 use Rattle.complex.specs.Cells.{decides, comesBefore, placed, place, inOrder, cellsOf}
 use Rattle.complex.specs.Check.{answerOf}
 use Rattle.complex.specs.Facets.{Crowded}
-use Rattle.ordering.specs.Order.{wordIf, wordOf, byCell}
+use Rattle.ordering_words.specs.Order.{wordIf, wordOf, byCell}
 use Rattle.refine_lattice.specs.Refine.{vertices}
 use Rattle.refine_results.specs.Refined.{refinedCells, refinedWords}
 use Rattle.refine_results.specs.Results.{Refines}

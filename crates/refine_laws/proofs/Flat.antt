@@ -18,7 +18,7 @@ use Rattle.complex.specs.Facets.{cellAt}
 use Rattle.complex_cells.proofs.Words.{Word, Rising, each-of, at-in, one-list}
 use Rattle.complex_cells.proofs.Order.{Colex, colex-irr, colex-trans, order-rising, order-from, order-has}
 use Rattle.complex_cells.proofs.Words as cells
-use Rattle.ordering.specs.Order.{IsOrder, Orders, wordOf, byCell}
+use Rattle.ordering_words.specs.Order.{IsOrder, Orders, wordOf, byCell}
 use Rattle.refine_lattice.specs.Complex.{occurrences, Rises}
 use Rattle.refine_lattice.specs.Refine.{In}
 use Rattle.refine_lattice.specs.Conform.{Used, Distinct}
@@ -26,7 +26,7 @@ use Rattle.refine_lattice.proofs.Refines.{mem-at}
 use Rattle.refine_results.specs.Refined.{coarse, orderWords}
 use Rattle.refine_laws.proofs.Words.{to-mem, of-mem, sort-times, sort-fixed, rises-plain, repeat-none, among-some}
 use Rattle.refine_laws.proofs.Listed.{Listed, counts-at, number-of, word-in, listed-complex, listed-distinct}
-use Rattle.ordering.proofs.Orders.{by-cell-length, by-cell-at}
+use Rattle.ordering_words.proofs.Orders.{by-cell-length, by-cell-at}
 use Rattle.refine_laws.proofs.Arranged.{word-found}
 use Rattle.refine_laws.proofs.Checked.{cut-times, cut-has, largest-times, at-most}
 

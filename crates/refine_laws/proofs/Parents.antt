@@ -11,7 +11,7 @@ use Rattle.lists.proofs.Laws.{map-at}
 use Rattle.multiindex.specs.Sort.{sortWord}
 use Rattle.complex.specs.Facets.{cellAt}
 use Rattle.complex_cells.proofs.Words.{at-in}
-use Rattle.ordering.proofs.Orders.{by-cell-at, word-first}
+use Rattle.ordering_words.proofs.Orders.{by-cell-at, word-first}
 use Rattle.refine_lattice.specs.Lattice.{Child}
 use Rattle.lists.specs.Tables.{sum}
 use Rattle.lists.specs.Words.{same}

@@ -9,7 +9,7 @@ use lib.ListN.{getD, length-map}
 use Rattle.complex.specs.Cells.{cellsOf}
 use Rattle.complex.specs.Check.{Passed}
 use Rattle.complex.proofs.Fine.{fine-passed}
-use Rattle.ordering.specs.Order.{Orders}
+use Rattle.ordering_words.specs.Order.{Orders}
 use Rattle.refine_lattice.specs.Lattice.{weights}
 use Rattle.lists.specs.Tables.{sum}
 use Rattle.lists.specs.Words.{same}

@@ -15,7 +15,7 @@ use Rattle.multiindex.proofs.Tables.{allBelow, at-below}
 use Rattle.complex.specs.Cells.{decides, comesBefore, placed, place, inOrder, cellsOf}
 use Rattle.complex.specs.Check.{answerOf}
 use Rattle.complex.specs.Facets.{cellAt, facetAt, Crowded}
-use Rattle.ordering.specs.Order.{wordIf, wordOf, byCell, IsOrder, AgreeOnFacets}
+use Rattle.ordering_words.specs.Order.{wordIf, wordOf, byCell, IsOrder, AgreeOnFacets}
 use Rattle.lists.proofs.Words.{same-word, word-true}
 use Rattle.refine_lattice.specs.Refine.{vertices}
 use Rattle.refine_results.specs.Refined.{orderWords, refinedCells, refinedWords}

@@ -19,8 +19,8 @@ use Rattle.complex.proofs.Fine.{fine-passed}
 use Rattle.complex_cells.proofs.Words.{Word, Each, Rising, each-of, in-at, at-in, one-list}
 use Rattle.complex_cells.proofs.Words as cells
 use Rattle.complex_cells.proofs.Order.{Colex, colex-irr, colex-trans, order-rising, order-from, order-has}
-use Rattle.ordering.specs.Order.{Orders, wordOf, byCell}
-use Rattle.ordering.proofs.Orders.{by-cell-length, by-cell-at}
+use Rattle.ordering_words.specs.Order.{Orders, wordOf, byCell}
+use Rattle.ordering_words.proofs.Orders.{by-cell-length, by-cell-at}
 use Rattle.lists.specs.Tables.{tab}
 use Rattle.refine_lattice.specs.Lattice.{weights, Child}
 use Rattle.lists.specs.Words.{same}

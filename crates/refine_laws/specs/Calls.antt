@@ -6,7 +6,7 @@ use lib.Dec.{ltb}
 use lib.ListN.{length}
 use Rattle.lists.specs.Rows.{rows, row}
 use Rattle.complex.specs.Cells.{cellsOf}
-use Rattle.ordering.specs.Order.{Orders, AgreeOnFacets}
+use Rattle.ordering_words.specs.Order.{Orders, AgreeOnFacets}
 use Rattle.refine_lattice.specs.Children.{pick}
 use Rattle.lists.specs.Words.{same}
 use Rattle.refine_lattice.specs.Complex.{weigh, through}

@@ -9,7 +9,7 @@ use Rattle.lists.specs.Rows.{flat}
 use Rattle.complex.specs.Cells.{cellsOf}
 use Rattle.complex.specs.Check.{answerOf}
 use Rattle.complex.specs.Facets.{Crowded}
-use Rattle.ordering.specs.Order.{Orders, AgreeOnFacets}
+use Rattle.ordering_words.specs.Order.{Orders, AgreeOnFacets}
 use Rattle.refine_lattice.specs.Complex.{through}
 use Rattle.refine_lattice.specs.Refine.{vertices, share, In}
 use Rattle.refine_results.specs.Refined.{coarse, orderWords, refinedCells, refinedWords}

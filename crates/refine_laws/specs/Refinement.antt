@@ -8,7 +8,7 @@ use Rattle.lists.specs.Rows.{flat}
 use Rattle.multiindex.specs.Sort.{sortWord}
 use Rattle.complex.specs.Cells.{cellsOf}
 use Rattle.complex.specs.Facets.{cellAt}
-use Rattle.ordering.specs.Order.{Orders}
+use Rattle.ordering_words.specs.Order.{Orders}
 use Rattle.refine_lattice.specs.Lattice.{Child}
 use Rattle.lists.specs.Tables.{sum}
 use Rattle.lists.specs.Words.{same}

@@ -6,7 +6,7 @@ use lib.IntN.{ℤ, pos, negsuc}
 use Rattle.multiindex.specs.Sort.{insertBy, insert, sortWord}
 use Rattle.lists.specs.Words.{foundAt}
 use Rattle.complex.specs.Cells.{decides, comesBefore, placed, place, inOrder}
-use Rattle.ordering.specs.Order.{wordIf, wordOf, byCell}
+use Rattle.ordering_words.specs.Order.{wordIf, wordOf, byCell}
 use Rattle.refine_lattice.specs.Refine.{births}
 use Rattle.refine_results.specs.Refined.{visitOf, refinedCells, refinedWords, parents, wholes}
 

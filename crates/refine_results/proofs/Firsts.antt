@@ -18,9 +18,9 @@ use Rattle.sorting.proofs.Rows.{rowsOf-pos}
 use Rattle.multiindex.specs.Sort.{sortWord, sortWords}
 use Rattle.complex.specs.Cells.{inOrder}
 use Rattle.complex_cells.proofs.Making.{key-length, key-row, made-same, made-cell}
-use Rattle.ordering.specs.Order.{wordOf, byCell}
+use Rattle.ordering_words.specs.Order.{wordOf, byCell}
 use Rattle.lists.proofs.Words.{word-true, word-false}
-use Rattle.ordering.proofs.Orders.{word-first, by-cell-rows}
+use Rattle.ordering_words.proofs.Orders.{word-first, by-cell-rows}
 use Rattle.refine_children.specs.WorkColex.{Arranged}
 use Rattle.refine_results.specs.Refined.{visitOf}
 

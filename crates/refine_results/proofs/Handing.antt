@@ -19,7 +19,7 @@ use Rattle.multiindex.specs.Sort.{sortWord}
 use Rattle.multiindex.proofs.WordsLaws.{words-length}
 use Rattle.complex.specs.Cells.{inOrder}
 use Rattle.complex.specs.Facets.{cellAt}
-use Rattle.ordering.specs.Order.{byCell}
+use Rattle.ordering_words.specs.Order.{byCell}
 use Rattle.refine_lattice.specs.Children.{gather}
 use Rattle.refine_lattice.specs.Refine.{births, words, share}
 use Rattle.lists.proofs.Tables.{list-tab}

@@ -10,8 +10,7 @@ use Rattle.complex.specs.Cells.{inOrder, cellsOf}
 use Rattle.complex.specs.Facets.{cellAt}
 use Rattle.refine_lattice.specs.Children.{gather}
 use Rattle.refine_lattice.specs.Refine.{words, share}
-use Rattle.ordering.specs.Order.{byCell}
-use Rattle.ordering.specs.Promise.{wordsBy}
+use Rattle.ordering_words.specs.Order.{byCell, wordsBy}
 use Rattle.refine_jacobian.specs.Entries.{wholeOf, floatOf}
 
 -- how many coarse vertices there are: no number below the largest is unused

@@ -11,10 +11,11 @@ use Rattle.refusal.specs.Lent.{onto, lengths}
 use Rattle.refusal.proofs.Determined.{comes-one, cleared-one}
 use Rattle.complex.specs.Check.{answerOf}
 use Rattle.complex.specs.Cells.{cellsOf}
-use Rattle.skeleton.specs.Promise.{Gives, short, listed, GivesBoth, words-short, table-short, both-listed, Ends, crowded, rest, Call, Listed, FacetsListed}
+use Rattle.skeleton.specs.Promise.{Gives, short, listed, GivesBoth, words-short, table-short, both-listed, Ends, crowded, rest, Call, Listed, BothListed, FacetsListed, RecordsListed}
 use Rattle.complex.specs.Room.{needOf}
 use Rattle.complex.specs.Skeleton.{facetsOf}
 use Rattle.complex_facets.specs.Sides.{tableOf}
+use Rattle.complex_facets.specs.Records.{recordsOf}
 
 gives-one : (words : List (List ℕ)) (g : ℕ) (r r′ : Counted) (l l′ : List ℕ) → Gives words g r l → Gives words g r′ l′ → (r ≡ r′) × (l ≡ l′)
 gives-one words g r r′ l l′ (short h) (short k) = (refl, refl)
@@ -54,9 +55,17 @@ both-one words table g t r r′ l l′ (both-listed h m) (words-short k) = absur
 both-one words table g t r r′ l l′ (both-listed h m) (table-short k) = absurd (omega arith)
 both-one words table g t r r′ l l′ (both-listed h m) (both-listed k n) = (refl, refl)
 
--- the call `facets`
+-- the calls `facets` and `facet_records`
+pub both-listed-one : (beside : List ℕ) (d : ℕ) (ws : List ℕ) (r r′ : Counted) (out s s′ list t t′ keys k k′ rows o o′ spare p p′ counts c c′ : List ℕ) → BothListed beside d ws r out s list t keys k rows o spare p counts c → BothListed beside d ws r′ out s′ list t′ keys k′ rows o′ spare p′ counts c′ →
+    (r ≡ r′) × (s ≡ s′) × (t ≡ t′) × ((k ≡ k′) × (o ≡ o′) × (p ≡ p′) × (c ≡ c′))
+both-listed-one beside d ws r r′ out s s′ list t t′ keys k k′ rows o o′ spare p p′ counts c c′ a b =
+    let w = call-one ([], []) d (GivesBoth (facetsOf d (cellsOf d ws)) beside (length out) (length list)) (both-one (facetsOf d (cellsOf d ws)) beside (length out) (length list)) (needOf d (length ws)) ws r r′ (a .handed) (b .handed) keys k k′ rows o o′ spare p p′ counts c c′ (a .call) (b .call) in
+    (w .0, a .result ∙ ap (λ (l : List ℕ × List ℕ). onto (l .0) out) (w .1) ∙ sym (b .result), a .sides ∙ ap (λ (l : List ℕ × List ℕ). onto (l .1) list) (w .1) ∙ sym (b .sides), w .2)
+
 pub facets-one : (d : ℕ) (ws : List ℕ) (r r′ : Counted) (out s s′ table t t′ keys k k′ rows o o′ spare p p′ counts c c′ : List ℕ) → FacetsListed d ws r out s table t keys k rows o spare p counts c → FacetsListed d ws r′ out s′ table t′ keys k′ rows o′ spare p′ counts c′ →
     (r ≡ r′) × (s ≡ s′) × (t ≡ t′) × ((k ≡ k′) × (o ≡ o′) × (p ≡ p′) × (c ≡ c′))
-facets-one d ws r r′ out s s′ table t t′ keys k k′ rows o o′ spare p p′ counts c c′ a b =
-    let w = call-one ([], []) d (GivesBoth (facetsOf d (cellsOf d ws)) (tableOf d (cellsOf d ws)) (length out) (length table)) (both-one (facetsOf d (cellsOf d ws)) (tableOf d (cellsOf d ws)) (length out) (length table)) (needOf d (length ws)) ws r r′ (a .handed) (b .handed) keys k k′ rows o o′ spare p p′ counts c c′ (a .call) (b .call) in
-    (w .0, a .result ∙ ap (λ (l : List ℕ × List ℕ). onto (l .0) out) (w .1) ∙ sym (b .result), a .sides ∙ ap (λ (l : List ℕ × List ℕ). onto (l .1) table) (w .1) ∙ sym (b .sides), w .2)
+facets-one d ws = both-listed-one (tableOf d (cellsOf d ws)) d ws
+
+pub records-one : (d : ℕ) (ws : List ℕ) (r r′ : Counted) (out s s′ records t t′ keys k k′ rows o o′ spare p p′ counts c c′ : List ℕ) → RecordsListed d ws r out s records t keys k rows o spare p counts c → RecordsListed d ws r′ out s′ records t′ keys k′ rows o′ spare p′ counts c′ →
+    (r ≡ r′) × (s ≡ s′) × (t ≡ t′) × ((k ≡ k′) × (o ≡ o′) × (p ≡ p′) × (c ≡ c′))
+records-one d ws = both-listed-one (recordsOf d (cellsOf d ws) (cellsOf d ws)) d ws

@@ -6,6 +6,7 @@ use lib.ListN.{length}
 use Rattle.complex.specs.Cells.{decides, comesBefore, placed, place}
 use Rattle.complex.specs.Skeleton.{inColex, edgesOf, facetsOf, numbers, keep, borderOf}
 use Rattle.complex_facets.specs.Sides.{eachSides, tableOf}
+use Rattle.complex_facets.specs.Records.{recordOf, eachRecord, recordsOf}
 
 abbrev band : List (List ℕ)
 band = (0 ∷ 2 ∷ 3 ∷ []) ∷ (0 ∷ 1 ∷ 4 ∷ []) ∷ (0 ∷ 3 ∷ 4 ∷ []) ∷ (1 ∷ 2 ∷ 5 ∷ []) ∷ (2 ∷ 3 ∷ 5 ∷ []) ∷ (1 ∷ 4 ∷ 5 ∷ []) ∷ []
@@ -33,6 +34,22 @@ pair-border = refl
 pair-table : tableOf 2 pair ≡ 0 ∷ 2 ∷ 4294967295 ∷ 4294967295 ∷ 0 ∷ 1 ∷ 4294967295 ∷ 4294967295 ∷ 0 ∷ 0 ∷ 1 ∷ 2 ∷ 1 ∷ 1 ∷ 4294967295 ∷ 4294967295 ∷ 1 ∷ 0 ∷ 4294967295 ∷ 4294967295 ∷ []
 unfolding inColex place placed comesBefore decides numbers eachSides
 pair-table = refl
+
+-- the same with the induced signs, and every facet agreed on
+pair-records : recordsOf 2 pair pair ≡ 0 ∷ 1 ∷ 4294967295 ∷ 0 ∷ 1 ∷ 0 ∷ 2 ∷ 4294967295 ∷ 0 ∷ 1 ∷ 0 ∷ 1 ∷ 1 ∷ 1 ∷ 1 ∷ 1 ∷ 2 ∷ 4294967295 ∷ 0 ∷ 1 ∷ 1 ∷ 1 ∷ 4294967295 ∷ 0 ∷ 1 ∷ []
+unfolding inColex place placed comesBefore decides numbers eachRecord
+pair-records = refl
+
+-- a band whose words disagree on the facet 0,3 alone: 3x1, axis 0 twisted over axis 1, its own words
+abbrev twisted : List (List ℕ)
+twisted = (0 ∷ 2 ∷ 3 ∷ []) ∷ (0 ∷ 1 ∷ 4 ∷ []) ∷ (0 ∷ 3 ∷ 4 ∷ []) ∷ (0 ∷ 2 ∷ 5 ∷ []) ∷ (1 ∷ 2 ∷ 5 ∷ []) ∷ (1 ∷ 4 ∷ 5 ∷ []) ∷ []
+
+abbrev twistedWords : List (List ℕ)
+twistedWords = (2 ∷ 3 ∷ 0 ∷ []) ∷ (0 ∷ 1 ∷ 4 ∷ []) ∷ (0 ∷ 3 ∷ 4 ∷ []) ∷ (2 ∷ 5 ∷ 0 ∷ []) ∷ (1 ∷ 2 ∷ 5 ∷ []) ∷ (1 ∷ 4 ∷ 5 ∷ []) ∷ []
+
+twisted-record : recordOf 2 twisted twistedWords (0 ∷ 3 ∷ []) ≡ 0 ∷ 2 ∷ 2 ∷ 1 ∷ 0 ∷ []
+unfolding numbers
+twisted-record = refl
 
 -- dimension 0 has no edges and no facets
 points : edgesOf ((0 ∷ []) ∷ (1 ∷ []) ∷ []) ≡ []

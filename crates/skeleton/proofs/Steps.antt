@@ -31,16 +31,16 @@ use Rattle.complex_mates.proofs.Mated.{not-crowded}
 use Rattle.complex_mates.proofs.Meeting.{slots-most}
 use Rattle.complex_cells.proofs.Named.{named-flat, named-many}
 use Rattle.complex_edges.specs.WorkPairs.{Edging}
-use Rattle.complex_facets.specs.WorkClasses.{Classes, loneRows}
-use Rattle.complex_facets.specs.Sides.{tableOf, fours, Tabling}
+use Rattle.complex_facets.specs.WorkClasses.{Classes, Pass, Found, loneRows}
+use Rattle.complex_facets.specs.Sides.{tableOf, fours}
 use Rattle.complex_facets.proofs.Border.{border-named}
 use Rattle.complex_facets.proofs.Tabling.{fours-length, table-is}
+use Rattle.complex_facets.proofs.Recording.{fives-length, records-are}
 use Rattle.skeleton.specs.Promise.{Gives, short, listed, GivesBoth, words-short, table-short, both-listed, Ends, crowded, rest}
-use Rattle.skeleton.specs.declared.Part.{Part}
-use Rattle.skeleton.specs.declared.Part.the-variants.{Edges}
-use Rattle.skeleton.specs.declared.Part.the-variants as Part
-use Rattle.skeleton.specs.Parts.{edgeNeed, needFor}
-use Rattle.skeleton.specs.Work.{Working, Uncrowded, Sound, Handed, Worked, HandedBoth, WorkedBoth}
+use Rattle.skeleton.specs.declared.Beside.{Beside}
+use Rattle.skeleton.specs.declared.Beside.the-variants.{Places, Signs}
+use Rattle.skeleton.specs.Parts.{edgeNeed, widthOf, besideFor, besideAs}
+use Rattle.skeleton.specs.Work.{Working, Sound, Handed, Worked, Besides, WorkedBoth}
 
 -- ---- room
 pub room-least : (d n : ℕ) → n ≤ keyRoom d n
@@ -184,69 +184,103 @@ module _ (d : ℕ) (ws keys rows spare counts : List ℕ) (w : Working (edgeNeed
   edges-of m e rows′ keys″ list a n = subst (λ (cs : List (List ℕ)). Named (edgesOf cs) 2 e keys″ list) (a .same) n
 
 -- ---- the facets
+pub width-most : (beside : Beside) → widthOf beside ≤ 5
+width-most Places = omega arith
+width-most Signs = omega arith
+
 room-narrow : (d m n : ℕ) → d ≤ 3 → n < 65536 → m * suc d ≤ n → m * slots d * d < 4294967296
 room-narrow d m n h c k = omega (arith, room-rows d m n k, room-most d n h)
 
-module _ (d : ℕ) (ws keys rows spare counts : List ℕ) (u : Uncrowded d ws keys rows spare counts) (m : ℕ) (keys′ rows′ spare′ counts′ : List ℕ) (lk : length keys′ ≡ length keys) (lr : length rows′ ≡ length rows) (ls : length spare′ ≡ length spare) (lc : length counts′ ≡ length counts) (a : Made d ws m rows′) where
-  pub classing : Meeting d m (length ws) keys′ rows′ spare′ counts′ × (m * slots d * d < 4294967296)
-  classing = (meeting d ws keys rows spare counts (u .work) m keys′ rows′ spare′ counts′ lk lr ls lc a, room-narrow d m (length ws) (u .work .passed .small) (a .corners) (a .most))
+module _ (d : ℕ) (ws keys rows spare counts : List ℕ) (w : Working (needOf d (length ws)) d ws keys rows spare counts) (m : ℕ) (keys′ rows′ spare′ counts′ : List ℕ) (lk : length keys′ ≡ length keys) (lr : length rows′ ≡ length rows) (ls : length spare′ ≡ length spare) (lc : length counts′ ≡ length counts) (a : Made d ws m rows′) where
+  pub passing : Meeting d m (length ws) keys′ rows′ spare′ counts′ × (m * slots d * d < 4294967296)
+  passing = (meeting d ws keys rows spare counts w m keys′ rows′ spare′ counts′ lk lr ls lc a, room-narrow d m (length ws) (w .passed .small) (a .corners) (a .most))
 
-  module _ (f : ℕ) (keys″ rows″ spare″ counts″ : List ℕ) (lc″ : length counts″ ≡ length counts′) (c : Classes d (cut (suc d) m rows′) f keys″ spare″ rows″) where
-    pub classes-of : Classes d (cellsOf d ws) f keys″ spare″ rows″
-    classes-of = subst (λ (cs : List (List ℕ)). Classes d cs f keys″ spare″ rows″) (a .same) c
+  module _ (ok : Bool) (f : ℕ) (keys″ rows″ spare″ counts″ : List ℕ) (lr″ : length rows″ ≡ length rows′) (c : Found d (cut (suc d) m rows′) ok f keys″ spare″ counts″ rows″) where
+    crowd : ok ≡ false → Crowded d (cellsOf d ws)
+    crowd e = subst (λ (cs : List (List ℕ)). Crowded d cs) (a .same) (c .no e)
 
-    most-facets : f ≤ length ws
-    most-facets =
-        let e : length (cut (suc d) m rows′) * slots d ≡ m * slots d = ap (λ (n : ℕ). n * slots d) (cut-length (suc d) m rows′) in
-        omega (arith, c .most, mul-le-mul-left m (slots-most d), a .most)
+    -- 7
+    pub border-crowded : (out : List ℕ) → ok ≡ false → Worked d ws (borderOf d (cellsOf d ws)) (Refused crowdedFacet 0) out out
+    border-crowded out e = record { handed = []; ends = crowded (crowd e); result = refl }
 
-    pub loning : (f ≤ length spare″) × (f ≤ length rows″) × (f ≤ length counts″)
-    loning = (c .named .rows .long, c .long, omega (arith, most-facets, u .work .room .in-counts))
+    pub both-crowded : (beside out list : List ℕ) → ok ≡ false → WorkedBoth beside d ws (Refused crowdedFacet 0) out out list list
+    both-crowded beside out list e = record { handed = ([], []); ends = crowded (crowd e); result = refl; sides = refl }
 
-    pub border-of : (j : ℕ) (to : List ℕ) → j ≡ length (loneRows f spare″ rows″) → to ≡ loneRows f spare″ rows″ ++ drop j counts″ → Named (borderOf d (cellsOf d ws)) d j keys″ to
-    border-of j to n e = border-named d (cellsOf d ws) f keys″ spare″ rows″ classes-of (u .free) j to (drop j counts″) n e
+    module _ (e : ok ≡ true) where
+      free : Crowded d (cellsOf d ws) → ⊥
+      free x = not-crowded d m (cut (suc d) m rows′) (cut-length (suc d) m rows′) rows″ (c .yes e .mates) (omega (arith, a .most, a .corners)) (subst (λ (cs : List (List ℕ)). Crowded d cs) (sym (a .same)) x)
 
-    -- a facet there is has a dimension
-    pub tabling : (k : ℕ) (table : List ℕ) → k ≡ slots d → f * 4 ≤ length table → Tabling d k f spare″ rows″ table
-    tabling k table e h =
-        record {
-          some = λ l. rw e (positive (slots d) l (c .most));
-          few = rw e (slots-most d);
-          dim = omega (arith, u .work .passed .small);
-          in-reps = c .named .rows .long;
-          in-others = c .long;
-          room = h;
-        }
-      where
-        positive : (z : ℕ) → 0 < f → f ≤ length (cut (suc d) m rows′) * z → 0 < z
-        positive zero l g = absurd (omega (arith, mul-zero (length (cut (suc d) m rows′))))
-        positive (suc z) l g = omega arith
+      pub pass-of : Pass d (cellsOf d ws) f keys″ spare″ counts″ rows″
+      pass-of = subst (λ (cs : List (List ℕ)). Pass d cs f keys″ spare″ counts″ rows″) (a .same) (c .yes e)
 
-    facets-flat : flat (facetsOf d (cellsOf d ws)) ≡ rowsOf keys″ d (take f spare″)
-    facets-flat = named-flat (facetsOf d (cellsOf d ws)) d f keys″ spare″ (classes-of .named)
+      most-facets : f ≤ length ws
+      most-facets =
+          let q : length (cut (suc d) m rows′) * slots d ≡ m * slots d = ap (λ (n : ℕ). n * slots d) (cut-length (suc d) m rows′) in
+          omega (arith, c .yes e .classes .most, mul-le-mul-left m (slots-most d), a .most)
 
-    facets-long : length (flat (facetsOf d (cellsOf d ws))) ≡ f * d
-    facets-long = ap length facets-flat ∙ rowsOf-pos keys″ d spare″ f f (classes-of .named .rows .inside) (omega arith) (classes-of .named .rows .long)
+      pub loning : (f ≤ length spare″) × (f ≤ length counts″) × (f ≤ length rows″)
+      loning = (pass-of .classes .named .rows .long, pass-of .classes .long, omega (arith, most-facets, w .room .in-rows))
 
-    table-long : length (tableOf d (cellsOf d ws)) ≡ f * 4
-    table-long = ap length (table-is d (cellsOf d ws) f keys″ spare″ rows″ classes-of (u .free)) ∙ fours-length d (slots d) spare″ rows″ f
+      pub border-of : (j : ℕ) (to : List ℕ) → j ≡ length (loneRows f spare″ counts″) → to ≡ loneRows f spare″ counts″ ++ drop j rows″ → Named (borderOf d (cellsOf d ws)) d j keys″ to
+      border-of j to n q = border-named d (cellsOf d ws) f keys″ spare″ counts″ (pass-of .classes) free j to (drop j rows″) n q
 
-    pub both-words-short : (out table : List ℕ) → length out < f * d → HandedBoth d (cellsOf d ws) (Refused tooShort 0) out out table table
-    both-words-short out table h = record { handed = ([], []); gives = words-short (omega (arith, facets-long)); result = refl; sides = refl }
+      pub border-done : (r : Counted) (out out′ : List ℕ) → Handed (borderOf d (cellsOf d ws)) r out out′ → Worked d ws (borderOf d (cellsOf d ws)) r out out′
+      border-done r out out′ h = record { handed = h .handed; ends = rest free (h .gives); result = h .result }
 
-    pub both-table-short : (out table : List ℕ) → length table < f * 4 → HandedBoth d (cellsOf d ws) (Refused tooShort 0) out out table table
-    both-table-short out table h = record { handed = ([], []); gives = table-short (omega (arith, table-long)); result = refl; sides = refl }
+      -- a facet there is has a dimension
+      pub besides : (beside : Beside) (k : ℕ) (list : List ℕ) → k ≡ slots d → f * widthOf beside ≤ length list → Besides beside d k f spare″ counts″ list
+      besides beside k list q h =
+          record {
+            some = λ l. rw q (positive (slots d) l (c .yes e .classes .most));
+            few = rw q (slots-most d);
+            dim = omega (arith, w .passed .small);
+            in-reps = pass-of .classes .named .rows .long;
+            in-others = pass-of .classes .long;
+            room = h;
+          }
+        where
+          positive : (z : ℕ) → 0 < f → f ≤ length (cut (suc d) m rows′) * z → 0 < z
+          positive zero l g = absurd (omega (arith, mul-zero (length (cut (suc d) m rows′))))
+          positive (suc z) l g = omega arith
 
-    pub both-handed : (out out′ table table′ : List ℕ) (k : ℕ) → k ≡ slots d → f * d ≤ length out → f * 4 ≤ length table → out′ ≡ rowsOf keys″ d (take f spare″) ++ drop (f * d) out → table′ ≡ fours d k f spare″ rows″ ++ drop (f * 4) table → HandedBoth d (cellsOf d ws) (Count f) out out′ table table′
-    both-handed out out′ table table′ k e h g p q =
-        record {
-          handed = (flat (facetsOf d (cellsOf d ws)), tableOf d (cellsOf d ws));
-          gives =
-              subst (λ (n : ℕ). GivesBoth (facetsOf d (cellsOf d ws)) (tableOf d (cellsOf d ws)) (length out) (length table) (Count n) (flat (facetsOf d (cellsOf d ws)), tableOf d (cellsOf d ws))) (named-many (facetsOf d (cellsOf d ws)) d f keys″ spare″ (classes-of .named))
-              (both-listed (omega (arith, facets-long)) (omega (arith, table-long)));
-          result = rw (facets-long, facets-flat) p;
-          sides = rw (table-long, table-is d (cellsOf d ws) f keys″ spare″ rows″ classes-of (u .free)) (q ∙ ap (λ (z : ℕ). fours d z f spare″ rows″ ++ drop (f * 4) table) e);
-        }
+      facets-flat : flat (facetsOf d (cellsOf d ws)) ≡ rowsOf keys″ d (take f spare″)
+      facets-flat = named-flat (facetsOf d (cellsOf d ws)) d f keys″ spare″ (pass-of .classes .named)
+
+      facets-long : length (flat (facetsOf d (cellsOf d ws))) ≡ f * d
+      facets-long = ap length facets-flat ∙ rowsOf-pos keys″ d spare″ f f (pass-of .classes .named .rows .inside) (omega arith) (pass-of .classes .named .rows .long)
+
+      good : Cells d (cellsOf d ws)
+      good = subst (λ (cs : List (List ℕ)). Cells d cs) (a .same) (a .cells)
+
+      beside-is : (beside : Beside) → besideFor beside d (cellsOf d ws) ≡ besideAs beside d (slots d) f spare″ counts″
+      beside-is Places = table-is d (cellsOf d ws) f keys″ spare″ counts″ (pass-of .classes) free
+      beside-is Signs = records-are d (cellsOf d ws) good f keys″ spare″ counts″ rows″ pass-of free
+
+      beside-width : (beside : Beside) → length (besideAs beside d (slots d) f spare″ counts″) ≡ f * widthOf beside
+      beside-width Places = fours-length d (slots d) spare″ counts″ f
+      beside-width Signs = fives-length d (slots d) spare″ counts″ f
+
+      beside-long : (beside : Beside) → length (besideFor beside d (cellsOf d ws)) ≡ f * widthOf beside
+      beside-long beside = ap length (beside-is beside) ∙ beside-width beside
+
+      pub both-words-short : (beside : Beside) (out list : List ℕ) → length out < f * d → WorkedBoth (besideFor beside d (cellsOf d ws)) d ws (Refused tooShort 0) out out list list
+      both-words-short beside out list h = record { handed = ([], []); ends = rest free (words-short (omega (arith, facets-long))); result = refl; sides = refl }
+
+      pub both-list-short : (beside : Beside) (out list : List ℕ) → length list < f * widthOf beside → WorkedBoth (besideFor beside d (cellsOf d ws)) d ws (Refused tooShort 0) out out list list
+      both-list-short beside out list h = record { handed = ([], []); ends = rest free (table-short (omega (arith, beside-long beside))); result = refl; sides = refl }
+
+      pub both-handed : (beside : Beside) (out out′ list list′ : List ℕ) (k : ℕ) → k ≡ slots d → f * d ≤ length out → f * widthOf beside ≤ length list → out′ ≡ rowsOf keys″ d (take f spare″) ++ drop (f * d) out → list′ ≡ besideAs beside d k f spare″ counts″ ++ drop (f * widthOf beside) list →
+          WorkedBoth (besideFor beside d (cellsOf d ws)) d ws (Count f) out out′ list list′
+      both-handed beside out out′ list list′ k q h g o l =
+          record {
+            handed = (flat (facetsOf d (cellsOf d ws)), besideFor beside d (cellsOf d ws));
+            ends =
+                rest free
+                (subst (λ (n : ℕ). GivesBoth (facetsOf d (cellsOf d ws)) (besideFor beside d (cellsOf d ws)) (length out) (length list) (Count n) (flat (facetsOf d (cellsOf d ws)), besideFor beside d (cellsOf d ws))) (named-many (facetsOf d (cellsOf d ws)) d f keys″ spare″ (pass-of .classes .named))
+                (both-listed (omega (arith, facets-long)) (omega (arith, beside-long beside))));
+            result = rw (facets-long, facets-flat) o;
+            sides = rw (beside-long beside, beside-is beside) (l ∙ ap (λ (z : ℕ). besideAs beside d z f spare″ counts″ ++ drop (f * widthOf beside) list) q);
+          }
 
 -- ---- after 7
 module _ (d : ℕ) (ws : List ℕ) (ok : Bool) (s : Sound d ws ok) (words : List (List ℕ)) where
@@ -255,16 +289,3 @@ module _ (d : ℕ) (ws : List ℕ) (ok : Bool) (s : Sound d ws ok) (words : List
 
   pub worked-rest : (r : Counted) (out out′ : List ℕ) → ok ≡ true → Handed words r out out′ → Worked d ws words r out out′
   worked-rest r out out′ e h = record { handed = h .handed; ends = rest (s .yes e) (h .gives); result = h .result }
-
--- every part's need is no less than that of the cells
-pub as-part : (part : Part) (d : ℕ) (ws keys rows spare counts : List ℕ) → Working (needFor part d (length ws)) d ws keys rows spare counts → Working (needOf d (length ws)) d ws keys rows spare counts
-as-part Part.Cells d ws keys rows spare counts w = w
-as-part Part.Edges d ws keys rows spare counts w = as-cells d ws keys rows spare counts w
-as-part Part.Border d ws keys rows spare counts w = w
-
-module _ (d : ℕ) (ws : List ℕ) (ok : Bool) (s : Sound d ws ok) where
-  pub both-crowded : (out table : List ℕ) → ok ≡ false → WorkedBoth d ws (Refused crowdedFacet 0) out out table table
-  both-crowded out table e = record { handed = ([], []); ends = crowded (s .no e); result = refl; sides = refl }
-
-  pub both-rest : (r : Counted) (out out′ table table′ : List ℕ) → ok ≡ true → HandedBoth d (cellsOf d ws) r out out′ table table′ → WorkedBoth d ws r out out′ table table′
-  both-rest r out out′ table table′ e h = record { handed = h .handed; ends = rest (s .yes e) (h .gives); result = h .result; sides = h .sides }

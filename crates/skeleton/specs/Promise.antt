@@ -16,6 +16,7 @@ use Rattle.complex.specs.Facets.{Crowded}
 use Rattle.complex.specs.Room.{needOf}
 use Rattle.complex.specs.Skeleton.{facetsOf}
 use Rattle.complex_facets.specs.Sides.{tableOf}
+use Rattle.complex_facets.specs.Records.{recordsOf}
 
 -- the words are handed out one after the other, or 12. `given` is the length of the result list.
 pub data Gives (words : List (List ℕ)) (given : ℕ) : Counted → List ℕ → Type 0 where
@@ -46,9 +47,17 @@ pub record Listed (need : Room) (words : List (List ℕ)) (d : ℕ) (ws : List �
   pub call : Call [] need (Gives words (length out)) d ws r handed keys keys′ rows rows′ spare spare′ counts counts′
   pub result : out′ ≡ onto handed out
 
--- the promise of the call that hands out the facets and the table of their cells
-pub record FacetsListed (d : ℕ) (ws : List ℕ) (r : Counted) (out out′ table table′ keys keys′ rows rows′ spare spare′ counts counts′ : List ℕ) : Type 0 where
+-- the promise of a call that hands out the facets and what stands beside them
+pub record BothListed (beside : List ℕ) (d : ℕ) (ws : List ℕ) (r : Counted) (out out′ list list′ keys keys′ rows rows′ spare spare′ counts counts′ : List ℕ) : Type 0 where
   pub handed : List ℕ × List ℕ
-  pub call : Call ([], []) (needOf d (length ws)) (GivesBoth (facetsOf d (cellsOf d ws)) (tableOf d (cellsOf d ws)) (length out) (length table)) d ws r handed keys keys′ rows rows′ spare spare′ counts counts′
+  pub call : Call ([], []) (needOf d (length ws)) (GivesBoth (facetsOf d (cellsOf d ws)) beside (length out) (length list)) d ws r handed keys keys′ rows rows′ spare spare′ counts counts′
   pub result : out′ ≡ onto (handed .0) out
-  pub sides : table′ ≡ onto (handed .1) table
+  pub sides : list′ ≡ onto (handed .1) list
+
+-- the facets and the table of their cells
+abbrev pub FacetsListed : ℕ → List ℕ → Counted → List ℕ → List ℕ → List ℕ → List ℕ → List ℕ → List ℕ → List ℕ → List ℕ → List ℕ → List ℕ → List ℕ → List ℕ → Type 0
+FacetsListed d ws r out out′ table table′ keys keys′ rows rows′ spare spare′ counts counts′ = BothListed (tableOf d (cellsOf d ws)) d ws r out out′ table table′ keys keys′ rows rows′ spare spare′ counts counts′
+
+-- the facets and their records, by the cells' own words
+abbrev pub RecordsListed : ℕ → List ℕ → Counted → List ℕ → List ℕ → List ℕ → List ℕ → List ℕ → List ℕ → List ℕ → List ℕ → List ℕ → List ℕ → List ℕ → List ℕ → Type 0
+RecordsListed d ws r out out′ records records′ keys keys′ rows rows′ spare spare′ counts counts′ = BothListed (recordsOf d (cellsOf d ws) (cellsOf d ws)) d ws r out out′ records records′ keys keys′ rows rows′ spare spare′ counts counts′

@@ -2,36 +2,42 @@
 // Follows `Complex::cells`, `edges`, `boundary_facets` and `facets` (crates/simplicial/src/topology/complex.rs).
 //
 // What the working lists hold, one phase after the other:
-//   keys     sorted words     facet rows                pairs, or facet rows
-//   rows     cells            mates                     cells, then row numbers
-//   spare    first rows       first rows                first rows
-//   counts   buckets          classes                   classes
+//   keys     sorted words     facet rows     facet rows, or pairs
+//   rows     cells            mates          rows of the border, or cells, then row numbers
+//   spare    first rows       first rows     first rows
+//   counts   buckets          classes        other rows of the facets, or classes
 use refusal::Answer;
 use refusal::CROWDED_FACET;
 use refusal::Counted;
 use refusal::Room;
 use refusal::TOO_SHORT;
-ghost use mathlib.Core.List.{List};
+ghost use mathlib.Core.List.{List, _++_};
 ghost use mathlib.Core.Path.{_≡_};
 ghost use Prim.Native.Nat.{ℕ, suc, _*_, _<_, _≤_};
-ghost use lib.ListN.{length, take};
+ghost use lib.ListN.{length, take, drop};
 ghost use Rattle.refusal.specs.Limits.{mostDimension};
 ghost use Rattle.lists.specs.Rows.{flat};
 ghost use Rattle.lists.specs.Zero.{AllZero};
 ghost use Rattle.sorting.specs.Gather.{rowsOf};
 ghost use Rattle.complex.specs.Room.{needOf};
 ghost use Rattle.complex.specs.Cells.{cellsOf};
-ghost use Rattle.complex.specs.Skeleton.{edgesOf, facetsOf, borderOf};
+ghost use Rattle.complex.specs.Skeleton.{edgesOf, borderOf};
 ghost use Rattle.complex_cells.specs.WorkNamed.{Naming};
-ghost use Rattle.skeleton.specs.Promise.{Listed, FacetsListed};
-ghost use Rattle.skeleton.specs.Parts.{edgeNeed, needFor, wordsFor};
-ghost use Rattle.skeleton.specs.Work.{Working, Uncrowded, Sound, Handed, Worked, HandedBoth, WorkedBoth};
+ghost use Rattle.skeleton.specs.Promise.{Listed, BothListed, FacetsListed, RecordsListed};
+ghost use Rattle.skeleton.specs.Parts.{edgeNeed, needFor, wordsFor, widthOf, besideFor, besideAs};
+ghost use Rattle.skeleton.specs.Work.{Working, Sound, Handed, Worked, Besides, WorkedBoth};
 
 // Which list of words is asked for.
 pub(crate) enum Part {
     Cells,
     Edges,
     Border,
+}
+
+// What stands beside the facets: their cells with the positions dropped there, or with the induced signs.
+pub(crate) enum Beside {
+    Places,
+    Signs,
 }
 
 // Whether no facet lies in three or more cells.
@@ -76,7 +82,7 @@ fn hand_rows(stride: usize, m: usize, keys: &[u32], list: &[u32], out: &mut [u32
     Counted::Count(m as u32)
 }
 
-// Hands out the cells.
+// Hands out the cells, or 7.
 fn list_cells(
     d: usize,
     words: &[u32],
@@ -87,14 +93,17 @@ fn list_cells(
     counts: &mut [u32],
 ) -> Counted
     requires { ⌜ Working (needOf d (length (now words))) d (now words) (now keys) (now rows) (now spare) (now counts) ⌝ }
-    ensures { λ r. ⌜ Handed (cellsOf d (now (words .entry))) r (now (out .entry)) (now (out .exit)) ⌝ }
+    ensures { λ r. ⌜ Worked d (now (words .entry)) (cellsOf d (now (words .entry))) r (now (out .entry)) (now (out .exit)) ⌝ }
 {
+    if !sound(d, words, keys, rows, spare, counts) {
+        return Counted::Refused(CROWDED_FACET, 0);
+    }
     let m = complex_cells::cells(d, words, keys, rows, spare, counts);
     let long = m * (d + 1);
     hand_out(m, &rows[..long], out)
 }
 
-// Hands out the edges.
+// Hands out the edges, or 7.
 fn list_edges(
     d: usize,
     words: &[u32],
@@ -105,14 +114,17 @@ fn list_edges(
     counts: &mut [u32],
 ) -> Counted
     requires { ⌜ Working (edgeNeed d (length (now words))) d (now words) (now keys) (now rows) (now spare) (now counts) ⌝ }
-    ensures { λ r. ⌜ Handed (edgesOf (cellsOf d (now (words .entry)))) r (now (out .entry)) (now (out .exit)) ⌝ }
+    ensures { λ r. ⌜ Worked d (now (words .entry)) (edgesOf (cellsOf d (now (words .entry)))) r (now (out .entry)) (now (out .exit)) ⌝ }
 {
+    if !sound(d, words, keys, rows, spare, counts) {
+        return Counted::Refused(CROWDED_FACET, 0);
+    }
     let m = complex_cells::cells(d, words, keys, rows, spare, counts);
     let e = complex_edges::edges(d, m, words.len(), keys, rows, spare, counts);
     hand_rows(2, e, keys, spare, out)
 }
 
-// Hands out the facets in one cell, where none lies in three.
+// Hands out the facets in one cell, or 7.
 fn list_border(
     d: usize,
     words: &[u32],
@@ -122,39 +134,78 @@ fn list_border(
     spare: &mut [u32],
     counts: &mut [u32],
 ) -> Counted
-    requires { ⌜ Uncrowded d (now words) (now keys) (now rows) (now spare) (now counts) ⌝ }
-    ensures { λ r. ⌜ Handed (borderOf d (cellsOf d (now (words .entry)))) r (now (out .entry)) (now (out .exit)) ⌝ }
+    requires { ⌜ Working (needOf d (length (now words))) d (now words) (now keys) (now rows) (now spare) (now counts) ⌝ }
+    ensures { λ r. ⌜ Worked d (now (words .entry)) (borderOf d (cellsOf d (now (words .entry)))) r (now (out .entry)) (now (out .exit)) ⌝ }
 {
     let m = complex_cells::cells(d, words, keys, rows, spare, counts);
-    let f = complex_facets::classes(d, m, words.len(), keys, rows, spare, counts);
-    let j = complex_facets::lone(f, spare, rows, counts);
-    hand_rows(d, j, keys, counts, out)
+    let found = complex_facets::facets(d, m, words.len(), keys, rows, spare, counts);
+    if !found.sound {
+        return Counted::Refused(CROWDED_FACET, 0);
+    }
+    let j = complex_facets::lone(found.count, spare, counts, rows);
+    hand_rows(d, j, keys, rows, out)
 }
 
-// Hands out the facets and the table of their cells, where no facet lies in three.
+// How many numbers stand beside a facet.
+fn width(beside: Beside) -> usize
+    ensures { λ r. ⌜ r ≡ widthOf beside ⌝ }
+{
+    match beside {
+        Beside::Places => 4,
+        Beside::Signs => 5,
+    }
+}
+
+// Writes what stands beside each of the f facets, by its lowest row and by its other row.
+fn write_beside(
+    beside: Beside,
+    d: usize,
+    k: usize,
+    f: usize,
+    reps: &[u32],
+    others: &[u32],
+    list: &mut [u32],
+)
+    requires { ⌜ Besides beside d k f (now reps) (now others) (now list) ⌝ }
+    ensures { λ _. ⌜ now (list .exit) ≡ besideAs beside d k f (now (reps .entry)) (now (others .entry)) ++ drop (f * widthOf beside) (now (list .entry)) ⌝ }
+{
+    match beside {
+        Beside::Places => complex_facets::write_table(d, k, f, reps, others, list),
+        Beside::Signs => complex_facets::write_records(d, k, f, reps, others, list),
+    }
+}
+
+// Hands out the facets and what stands beside them, or 7, in working lists of just the sizes that are needed. Nothing is promised of these.
 fn list_facets(
+    beside: Beside,
     d: usize,
     words: &[u32],
     out: &mut [u32],
-    table: &mut [u32],
+    list: &mut [u32],
     keys: &mut [u32],
     rows: &mut [u32],
     spare: &mut [u32],
     counts: &mut [u32],
 ) -> Counted
-    requires { ⌜ Uncrowded d (now words) (now keys) (now rows) (now spare) (now counts) ⌝ }
-    ensures { λ r. ⌜ HandedBoth d (cellsOf d (now (words .entry))) r (now (out .entry)) (now (out .exit)) (now (table .entry)) (now (table .exit)) ⌝ }
+    requires { ⌜ Working (needOf d (length (now words))) d (now words) (now keys) (now rows) (now spare) (now counts) ⌝ }
+    ensures { λ r.
+        ⌜ WorkedBoth (besideFor beside d (cellsOf d (now (words .entry)))) d (now (words .entry)) r (now (out .entry)) (now (out .exit)) (now (list .entry))
+        (now (list .exit)) ⌝ }
 {
     let m = complex_cells::cells(d, words, keys, rows, spare, counts);
-    let f = complex_facets::classes(d, m, words.len(), keys, rows, spare, counts);
+    let found = complex_facets::facets(d, m, words.len(), keys, rows, spare, counts);
+    if !found.sound {
+        return Counted::Refused(CROWDED_FACET, 0);
+    }
+    let f = found.count;
     if out.len() < f * d {
         return Counted::Refused(TOO_SHORT, 0);
     }
-    if table.len() < f * 4 {
+    if list.len() < f * width(beside) {
         return Counted::Refused(TOO_SHORT, 0);
     }
     sorting::gather(keys, d, spare, f, out);
-    complex_facets::write_table(d, complex_mates::slots(d), f, spare, rows, table);
+    write_beside(beside, d, complex_mates::slots(d), f, spare, counts, list);
     Counted::Count(f as u32)
 }
 
@@ -193,9 +244,6 @@ fn work(
     requires { ⌜ Working (needFor part d (length (now words))) d (now words) (now keys) (now rows) (now spare) (now counts) ⌝ }
     ensures { λ r. ⌜ Worked d (now (words .entry)) (wordsFor part d (cellsOf d (now (words .entry)))) r (now (out .entry)) (now (out .exit)) ⌝ }
 {
-    if !sound(d, words, keys, rows, spare, counts) {
-        return Counted::Refused(CROWDED_FACET, 0);
-    }
     match part {
         Part::Cells => list_cells(d, words, out, keys, rows, spare, counts),
         Part::Edges => list_edges(d, words, out, keys, rows, spare, counts),
@@ -327,63 +375,47 @@ pub fn border(
     checked(Part::Border, d, words, border, keys, rows, spare, counts)
 }
 
-// The facets and their table, or 7, in working lists of just the sizes that are needed. Nothing is promised of them.
-fn facet_work(
-    d: usize,
-    words: &[u32],
-    out: &mut [u32],
-    table: &mut [u32],
-    keys: &mut [u32],
-    rows: &mut [u32],
-    spare: &mut [u32],
-    counts: &mut [u32],
-) -> Counted
-    requires { ⌜ Working (needOf d (length (now words))) d (now words) (now keys) (now rows) (now spare) (now counts) ⌝ }
-    ensures { λ r. ⌜ WorkedBoth d (now (words .entry)) r (now (out .entry)) (now (out .exit)) (now (table .entry)) (now (table .exit)) ⌝ }
-{
-    if !sound(d, words, keys, rows, spare, counts) {
-        return Counted::Refused(CROWDED_FACET, 0);
-    }
-    list_facets(d, words, out, table, keys, rows, spare, counts)
-}
-
-// The work, and then the working lists are all zero.
+// The facets and what stands beside them, and then the working lists are all zero.
 fn facet_cleared(
+    beside: Beside,
     d: usize,
     words: &[u32],
     out: &mut [u32],
-    table: &mut [u32],
+    list: &mut [u32],
     keys: &mut [u32],
     rows: &mut [u32],
     spare: &mut [u32],
     counts: &mut [u32],
 ) -> Counted
     requires { ⌜ Working (needOf d (length (now words))) d (now words) (now keys) (now rows) (now spare) (now counts) ⌝ }
-    ensures work { λ r. ⌜ WorkedBoth d (now (words .entry)) r (now (out .entry)) (now (out .exit)) (now (table .entry)) (now (table .exit)) ⌝ }
+    ensures work { λ r.
+        ⌜ WorkedBoth (besideFor beside d (cellsOf d (now (words .entry)))) d (now (words .entry)) r (now (out .entry)) (now (out .exit)) (now (list .entry))
+        (now (list .exit)) ⌝ }
     ensures room { λ _.
         ⌜ AllZero (now (keys .entry)) (now (keys .exit)) (now (rows .entry)) (now (rows .exit)) (now (spare .entry)) (now (spare .exit)) (now (counts .entry))
         (now (counts .exit)) ⌝ }
 {
-    let said = facet_work(d, words, out, table, keys, rows, spare, counts);
+    let said = list_facets(beside, d, words, out, list, keys, rows, spare, counts);
     lists::clear_four(keys, rows, spare, counts);
     said
 }
 
-// The facets, d vertices each, and for each four numbers in `table`: its lower cell, the position dropped there, its other cell and the position dropped there, or
-// 4,294,967,295 twice where it lies in one cell. Says how many facets. Refused as `cells` is, 12 also where the table is too short.
-pub fn facets(
+// The facets and what stands beside them, with the checks of a cell list before.
+fn checked_facets(
+    beside: Beside,
     d: u32,
     words: &[u32],
     facets: &mut [u32],
-    table: &mut [u32],
+    list: &mut [u32],
     keys: &mut [u32],
     rows: &mut [u32],
     spare: &mut [u32],
     counts: &mut [u32],
 ) -> Counted
     ensures { λ r.
-        ⌜ FacetsListed d (now (words .entry)) r (now (facets .entry)) (now (facets .exit)) (now (table .entry)) (now (table .exit)) (now (keys .entry))
-        (now (keys .exit)) (now (rows .entry)) (now (rows .exit)) (now (spare .entry)) (now (spare .exit)) (now (counts .entry)) (now (counts .exit)) ⌝ }
+        ⌜ BothListed (besideFor beside d (cellsOf d (now (words .entry)))) d (now (words .entry)) r (now (facets .entry)) (now (facets .exit)) (now (list .entry))
+        (now (list .exit)) (now (keys .entry)) (now (keys .exit)) (now (rows .entry)) (now (rows .exit)) (now (spare .entry)) (now (spare .exit))
+        (now (counts .entry)) (now (counts .exit)) ⌝ }
 {
     let answer = complex::check_cells(d, words);
     if let Answer::Refused(number, place) = answer {
@@ -405,13 +437,73 @@ pub fn facets(
     let s = need.spare;
     let c = need.counts;
     facet_cleared(
+        beside,
         dim,
         words,
         facets,
-        table,
+        list,
         &mut keys[..k],
         &mut rows[..r],
         &mut spare[..s],
         &mut counts[..c],
+    )
+}
+
+// The facets, d vertices each, and for each four numbers in `table`: its lower cell, the position dropped there, its other cell and the position dropped there, or
+// 4,294,967,295 twice where it lies in one cell. Says how many facets. Refused as `cells` is, 12 also where the table is too short.
+pub fn facets(
+    d: u32,
+    words: &[u32],
+    facets: &mut [u32],
+    table: &mut [u32],
+    keys: &mut [u32],
+    rows: &mut [u32],
+    spare: &mut [u32],
+    counts: &mut [u32],
+) -> Counted
+    ensures { λ r.
+        ⌜ FacetsListed d (now (words .entry)) r (now (facets .entry)) (now (facets .exit)) (now (table .entry)) (now (table .exit)) (now (keys .entry))
+        (now (keys .exit)) (now (rows .entry)) (now (rows .exit)) (now (spare .entry)) (now (spare .exit)) (now (counts .entry)) (now (counts .exit)) ⌝ }
+{
+    checked_facets(
+        Beside::Places,
+        d,
+        words,
+        facets,
+        table,
+        keys,
+        rows,
+        spare,
+        counts,
+    )
+}
+
+// The facets, d vertices each, and for each a record of five numbers in `records`: its lower cell and the induced sign there, its other cell and the induced sign there, 1 for
+// + and 2 for -, or 4,294,967,295 and 0 where it lies in one cell; and 1 where its cells' words agree on it, which sorted cells always do. Says how many facets. Refused as
+// `cells` is, 12 also where the list of records is too short.
+pub fn facet_records(
+    d: u32,
+    words: &[u32],
+    facets: &mut [u32],
+    records: &mut [u32],
+    keys: &mut [u32],
+    rows: &mut [u32],
+    spare: &mut [u32],
+    counts: &mut [u32],
+) -> Counted
+    ensures { λ r.
+        ⌜ RecordsListed d (now (words .entry)) r (now (facets .entry)) (now (facets .exit)) (now (records .entry)) (now (records .exit)) (now (keys .entry))
+        (now (keys .exit)) (now (rows .entry)) (now (rows .exit)) (now (spare .entry)) (now (spare .exit)) (now (counts .entry)) (now (counts .exit)) ⌝ }
+{
+    checked_facets(
+        Beside::Signs,
+        d,
+        words,
+        facets,
+        records,
+        keys,
+        rows,
+        spare,
+        counts,
     )
 }

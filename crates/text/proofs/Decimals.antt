@@ -11,7 +11,7 @@ use lib.Dec.{ltb}
 use borrow.Author.Tests.{lt-ltb, le-ltb}
 use Rattle.text.specs.declared.Text.{Text}
 use Rattle.text.specs.Decimal.{digitAt, digitsDown, decimalDown, decimal}
-use Rattle.text.specs.Adds.{size, Adds}
+use Rattle.text.specs.Adds.{Adds}
 use Rattle.text.proofs.Adding.{adds-none, adds-more}
 
 pub power-fits : (i p : ℕ) → i < 9 → p ≡ 10 ^ i → p ≤ 100000000
@@ -64,18 +64,18 @@ digits-next n (suc i) h =
 pub down-len : {k n j : ℕ} {s t : Text} → Down k n j s t → t .len + j ≡ s .len + k
 down-len w = omega (arith, w .added .len, w .count)
 
-pub down-more : (k n j p : ℕ) {s t u : Text} → 0 < j → p ≡ 10 ^ j → Down k n j s t → Adds ((48 + n / p % 10) ∷ []) t u → Down k n (j - 1) s u
-down-more k n j p {s} {t} {u} h e w a = record {
+pub down-more : (k n j p : ℕ) {s t u : Text} → s .len ≤ length (s .bytes) → 0 < j → p ≡ 10 ^ j → Down k n j s t → Adds ((48 + n / p % 10) ∷ []) t u → Down k n (j - 1) s u
+down-more k n j p {s} {t} {u} r h e w a = record {
   done = w .done ++ (digitAt j n ∷ []);
-  added = adds-more (w .added) (subst (λ (x : ℕ). Adds ((48 + n / x % 10) ∷ []) t u) e a);
+  added = adds-more r (w .added) (subst (λ (x : ℕ). Adds ((48 + n / x % 10) ∷ []) t u) e a);
   rest = append-assoc (w .done) (digitAt j n ∷ []) (digitsDown (j - 1) n) ∙ ap (λ (r : List ℕ). w .done ++ r) (sym (digits-next n j h)) ∙ w .rest;
   count = omega (arith, w .count, length-append (w .done) (digitAt j n ∷ []));
 }
 
-pub down-last : (k n j : ℕ) {s t u : Text} → j ≤ 0 → Down k n j s t → Adds ((48 + n % 10) ∷ []) t u → Adds (digitsDown k n) s u
+pub down-last : (k n j : ℕ) {s t u : Text} → s .len ≤ length (s .bytes) → j ≤ 0 → Down k n j s t → Adds ((48 + n % 10) ∷ []) t u → Adds (digitsDown k n) s u
 unfolding digitsDown
-down-last k n zero {s} {t} {u} h w a = subst (λ (x : List ℕ). Adds x s u) (w .rest) (adds-more (w .added) a)
-down-last k n (suc i) h w a = absurd (omega arith)
+down-last k n zero {s} {t} {u} r h w a = subst (λ (x : List ℕ). Adds x s u) (w .rest) (adds-more r (w .added) a)
+down-last k n (suc i) r h w a = absurd (omega arith)
 
 -- ---- how long they are
 

@@ -13,7 +13,7 @@ use Rattle.complex_mates.proofs.across.Statement.{statement}
 use Rattle.complex_mates.proofs.across.Tie as tie
 use Rattle.complex_mates.proofs.across.Reads as reads
 use Rattle.complex_mates.proofs.across.Lts as lts
-use Rattle.complex_mates.proofs.wide.Reads as wide-reads
+use Rattle.lists.proofs.wide.Reads as wide-reads
 
 abbrev Inv-loop : tie.InvT-loop
 Inv-loop k total mates other₀ flip₀ x₀ other flip x = (x ≤ total) × (length other ≡ length other₀) × (length flip ≡ length flip₀) × ((y : ℕ) → y < x → Across k mates other flip y)

@@ -14,7 +14,7 @@ use Rattle.complex_mates.proofs.mates.Statement.{statement}
 use Rattle.complex_mates.proofs.mates.Tie as tie
 use Rattle.complex_mates.proofs.mates.Reads as reads
 use Rattle.complex_mates.proofs.mates.Lts as lts
-use Rattle.complex_mates.proofs.blank.Reads as blank-reads
+use Rattle.lists.proofs.fill.Reads as fill-reads
 use Rattle.complex_mates.proofs.facet_rows.Reads as facet-rows-reads
 use Rattle.complex_mates.proofs.pair_up.Reads as pair-up-reads
 use Rattle.complex_mates.proofs.slots.Reads as slots-reads
@@ -53,14 +53,14 @@ distinct-requires c κs =
     let w = meeting-writing (s .args .d) (s .args .m) (s .args .b) (s .args .keys .now) (s .args .rows .now) (s .args .spare .now) (s .args .counts .now) (s .pre) (c .before .before .before .before .before .before .before .before .before .before .before .before .before .before .before .before .before .before .before .before .slots .result) (c .before .before .before .before .before .before .before .before .before .before .before .before .before .before .before .before .before .before .before .before .slots .ensures) in
     (c .before .before .before .before .before .before .before .before .before .before .sort-rows .ensures .1, (omega (arith, z, s .pre .few), omega (arith, w .room, c .before .before .before .before .before .before .before .before .before .before .before .before .before .before .before .before .before .facet-rows .kept), omega (arith, z, s .pre .rows-long, k), omega (arith, z, s .pre .spare-long, k), omega (arith, z, s .pre .counts-long, k)))
 
-slice-relend-prefix-blank : tie.Need-slice-relend-prefix-blank
-slice-relend-prefix-blank c = omega (arith, most (c .before .before .before .before .before .before .before .before .before .before .before .before .before .before .before .before .before .before .before .before .before .before .before .before .before), c .before .before .before .before .before .before .before .before .before .before .before .before .before .before .before .before .before .before .before .before .before .before .before .before .before .before .before .before .before .before .pre .rows-long, c .before .before .before .before .before .before .before .before .before .before .before .before .before .before .before .sort-rows .kept)
+slice-relend-prefix-fill : tie.Need-slice-relend-prefix-fill
+slice-relend-prefix-fill c = omega (arith, most (c .before .before .before .before .before .before .before .before .before .before .before .before .before .before .before .before .before .before .before .before .before .before .before .before .before), c .before .before .before .before .before .before .before .before .before .before .before .before .before .before .before .before .before .before .before .before .before .before .before .before .before .before .before .before .before .before .pre .rows-long, c .before .before .before .before .before .before .before .before .before .before .before .before .before .before .before .sort-rows .kept)
 
-slice-aggregate-blank : tie.Need-slice-aggregate-blank
-slice-aggregate-blank c = search needs
+slice-aggregate-fill : tie.Need-slice-aggregate-fill
+slice-aggregate-fill c = search needs
 
-blank-requires : tie.Need-blank-requires
-blank-requires c κs = search needs
+fill-requires : tie.Need-fill-requires
+fill-requires c κs = search needs
 
 pair-up-requires : tie.Need-pair-up-requires
 pair-up-requires c κs =
@@ -70,7 +70,7 @@ pair-up-requires c κs =
     let h = c .before .before .before .before .before .before .before .before .before .before .before .distinct .kept in
     let l : s .args .m * c .before .before .before .before .before .before .before .before .before .before .before .before .before .before .before .before .before .before .before .before .before .before .before .before .before .before .before .before .before .before .before .before .slots .result ≤ length (c .before .before .before .before .before .before .before .before .before .before .before .before .before .before .before .before .before .before .before .before .before .before .sort-rows .last .1 .1 .1 .1 .0) = omega (arith, z, s .pre .rows-long, k) in (
       grouped _ _ _ _ _ _ (c .before .before .before .before .before .before .before .before .before .before .before .distinct .ensures .1) (omega (arith, z, s .pre .few)) (omega (arith, z, s .pre .spare-long, k, h)) (omega (arith, z, s .pre .counts-long, k, h)),
-      (meeting-room (s .args .m * c .before .before .before .before .before .before .before .before .before .before .before .before .before .before .before .before .before .before .before .before .before .before .before .before .before .before .before .before .before .before .before .before .slots .result) _ _ _ l (c .before .before .before .before .before .blank .ensures), meeting-free (s .args .d) (s .args .m) (s .args .b) (s .args .keys .now) (s .args .rows .now) (s .args .spare .now) (s .args .counts .now) (s .pre) (c .before .before .before .before .before .before .before .before .before .before .before .before .before .before .before .before .before .before .before .before .before .before .before .before .before .before .before .before .before .before .before .before .slots .result) (c .before .before .before .before .before .before .before .before .before .before .before .before .before .before .before .before .before .before .before .before .before .before .before .before .before .before .before .before .before .before .before .before .slots .ensures) (c .before .before .before .before .before .before .before .before .before .before .before .before .before .before .before .before .before .before .before .before .before .before .sort-rows .last .1 .1 .1 .1 .0) _ (k .1 .1 .1 .1 .0) (c .before .before .before .before .before .blank .ensures)),
+      (meeting-room (s .args .m * c .before .before .before .before .before .before .before .before .before .before .before .before .before .before .before .before .before .before .before .before .before .before .before .before .before .before .before .before .before .before .before .before .slots .result) _ _ _ l (c .before .before .before .before .before .fill .ensures), meeting-free (s .args .d) (s .args .m) (s .args .b) (s .args .keys .now) (s .args .rows .now) (s .args .spare .now) (s .args .counts .now) (s .pre) (c .before .before .before .before .before .before .before .before .before .before .before .before .before .before .before .before .before .before .before .before .before .before .before .before .before .before .before .before .before .before .before .before .slots .result) (c .before .before .before .before .before .before .before .before .before .before .before .before .before .before .before .before .before .before .before .before .before .before .before .before .before .before .before .before .before .before .before .before .slots .ensures) (c .before .before .before .before .before .before .before .before .before .before .before .before .before .before .before .before .before .before .before .before .before .before .sort-rows .last .1 .1 .1 .1 .0) _ (k .1 .1 .1 .1 .0) (c .before .before .before .before .before .fill .ensures)),
     )
 
 same-length : tie.Need-same-length
@@ -102,9 +102,9 @@ mates-spec =
     mul-total
     sort-rows-requires
     distinct-requires
-    slice-relend-prefix-blank
-    slice-aggregate-blank
-    blank-requires
+    slice-relend-prefix-fill
+    slice-aggregate-fill
+    fill-requires
     pair-up-requires
     same-length
     same-length-2

@@ -14,7 +14,7 @@ use Rattle.complex_mates.proofs.pair_up.Statement.{statement}
 use Rattle.complex_mates.proofs.pair_up.Tie as tie
 use Rattle.complex_mates.proofs.pair_up.Reads as reads
 use Rattle.complex_mates.proofs.pair_up.Lts as lts
-use Rattle.complex_mates.proofs.wide.Reads as wide-reads
+use Rattle.lists.proofs.wide.Reads as wide-reads
 
 no-way : _≡_ false true → ⊥
 no-way e = let z : _≡_ {A = ℕ} 0 1 = cc in omega arith

@@ -5,6 +5,7 @@ use Prim.Native.Nat.{ℕ, zero, suc, _+_, _*_, _-_, _/_, _%_, _^_, _≤_, _<_}
 use native.Mathlib.Omega.{arith}
 use borrow.Author.Needs.{needs}
 use lib.ListN.{length, getD, take, drop, set, replicate, length-set}
+use Rattle.refusal.specs.Limits.{manyCorners}
 use Rattle.refusal.specs.declared.Room.{Room}
 use Rattle.grid_mesh.proofs.Steps.{corners-few, corners-are}
 use Rattle.grid_words.proofs.Corners.{dim}
@@ -32,14 +33,14 @@ add-t5 : tie.Need-add-t5
 add-t5 c =
     let s = c .before .before .before .before in
     let g = s .args .grid in
-    let l : c .before .before .cells .result * (g .d + 1) < 65536 = omega (arith, corners-few g (s .pre), corners-are g (s .pre) _ (c .before .before .cells .ensures)) in
+    let l : c .before .before .cells .result * (g .d + 1) < manyCorners = omega (arith, corners-few g (s .pre), corners-are g (s .pre) _ (c .before .before .cells .ensures)) in
     omega (arith, l, need-bound (g .d) (c .before .before .cells .result * (g .d + 1)) (dim g (s .pre)) l, ap (λ (r : Room). r .keys) (c .before .need .ensures))
 
 add-t6 : tie.Need-add-t6
 add-t6 c =
     let s = c .before .before .before .before in
     let g = s .args .grid in
-    let l : c .before .before .cells .result * (g .d + 1) < 65536 = omega (arith, corners-few g (s .pre), corners-are g (s .pre) _ (c .before .before .cells .ensures)) in
+    let l : c .before .before .cells .result * (g .d + 1) < manyCorners = omega (arith, corners-few g (s .pre), corners-are g (s .pre) _ (c .before .before .cells .ensures)) in
     omega (arith, l, need-bound (g .d) (c .before .before .cells .result * (g .d + 1)) (dim g (s .pre)) l, ap (λ (r : Room). r .keys) (c .before .need .ensures))
 
 returns : tie.Need-returns

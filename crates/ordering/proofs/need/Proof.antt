@@ -17,10 +17,10 @@ need-requires : tie.Need-need-requires
 need-requires c κs = search needs
 
 add-t4 : tie.Need-add-t4
-add-t4 c = omega (arith, need-bound _ _ (c .before .before .pre .0) (c .before .before .pre .1), ap (λ (r : Room). r .keys) (c .before .need .ensures))
+add-t4 c = omega (arith, need-bound (c .before .before .args .d) (c .before .before .args .len) (c .before .before .pre .0) (omega (arith, c .before .before .pre .1)), ap (λ (r : Room). r .keys) (c .before .need .ensures))
 
 add-t5 : tie.Need-add-t5
-add-t5 c = omega (arith, need-bound _ _ (c .before .before .pre .0) (c .before .before .pre .1), ap (λ (r : Room). r .keys) (c .before .need .ensures))
+add-t5 c = omega (arith, need-bound (c .before .before .args .d) (c .before .before .args .len) (c .before .before .pre .0) (omega (arith, c .before .before .pre .1)), ap (λ (r : Room). r .keys) (c .before .need .ensures))
 
 returns : tie.Need-returns
 returns c = let e = ap (λ (r : Room). r .keys) (c .before .need .ensures) in cc

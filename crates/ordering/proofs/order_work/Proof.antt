@@ -14,7 +14,7 @@ use Rattle.ordering.proofs.order_work.Tie as tie
 use Rattle.ordering.proofs.order_work.Reads as reads
 use Rattle.ordering.proofs.order_work.Lts as lts
 use Rattle.ordering.proofs.prepare.Reads as prepare-reads
-use Rattle.ordering.proofs.wide.Reads as wide-reads
+use Rattle.lists.proofs.wide.Reads as wide-reads
 use Rattle.lists.proofs.copy.Reads as copy-reads
 use Rattle.ordering.proofs.agreement.agree.Reads as agree-reads
 

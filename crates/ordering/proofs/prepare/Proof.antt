@@ -15,7 +15,7 @@ use Rattle.ordering.proofs.prepare.Reads as reads
 use Rattle.ordering.proofs.prepare.Lts as lts
 use Rattle.complex_cells.proofs.cells.Reads as cells-reads
 use Rattle.complex_mates.proofs.mates.Reads as mates-reads
-use Rattle.ordering.proofs.arranged.arrange.Reads as arrange-reads
+use Rattle.ordering_words.proofs.arrange.Reads as arrange-reads
 
 cells-requires : tie.Need-cells-requires
 cells-requires c κs = making (c .before .before .before .before .before .before .before .before .before .before .args .d) (c .before .before .before .before .before .before .before .before .before .before .args .at) (c .before .before .before .before .before .before .before .before .before .before .args .words .now) (c .before .before .before .before .before .before .before .before .before .before .args .keys .now) (c .before .before .before .before .before .before .before .before .before .before .args .rows .now) (c .before .before .before .before .before .before .before .before .before .before .args .spare .now) (c .before .before .before .before .before .before .before .before .before .before .args .counts .now) (c .before .before .before .before .before .before .before .before .before .before .pre)

@@ -15,7 +15,7 @@ use Rattle.ordering.proofs.wound_work.Tie as tie
 use Rattle.ordering.proofs.wound_work.Reads as reads
 use Rattle.ordering.proofs.wound_work.Lts as lts
 use Rattle.ordering.proofs.prepare.Reads as prepare-reads
-use Rattle.ordering.proofs.wide.Reads as wide-reads
+use Rattle.lists.proofs.wide.Reads as wide-reads
 use Rattle.ordering.proofs.agreement.word_marks.Reads as word-marks-reads
 use Rattle.orientation_by.proofs.coherent_as.Reads as coherent-as-reads
 

@@ -6,10 +6,10 @@ use Rattle.skeleton.proofs.facet_cleared.Tie as tie
 use Rattle.skeleton.proofs.facet_cleared.Reads as reads
 use Rattle.skeleton.proofs.facet_cleared.Lts as lts
 use Rattle.lists.proofs.clear_four.Reads as clear-four-reads
-use Rattle.skeleton.proofs.facet_work.Reads as facet-work-reads
+use Rattle.skeleton.proofs.list_facets.Reads as list-facets-reads
 
-facet-work-requires : tie.Need-facet-work-requires
-facet-work-requires c κs = search needs
+list-facets-requires : tie.Need-list-facets-requires
+list-facets-requires c κs = search needs
 
 clear-four-requires : tie.Need-clear-four-requires
 clear-four-requires c κs = search needs
@@ -34,15 +34,15 @@ same-length-6 c = search needs
 
 returns : tie.Need-returns
 returns c =
-    let w = c .before .before .before .before .before .before .before .before .before .before .before .before .before .before .before .before .before .before .before .before .before .before .before .before .before .facet-work in
+    let w = c .before .before .before .before .before .before .before .before .before .before .before .before .before .before .before .before .before .before .before .before .before .before .before .before .before .list-facets in
     let z = c .before .before .before .before .before .before .before .before .clear-four in
-    (w .ensures, zero-along _ _ _ _ _ _ _ _ _ _ _ _ (w .kept .1 .1 .1 .1 .0) (w .kept .1 .1 .1 .1 .1 .0) (w .kept .1 .1 .1 .1 .1 .1 .0) (w .kept .1 .1 .1 .1 .1 .1 .1 .0) (z .ensures))
+    (w .ensures, zero-along _ _ _ _ _ _ _ _ _ _ _ _ (w .kept .1 .1 .1 .1 .1 .0) (w .kept .1 .1 .1 .1 .1 .1 .0) (w .kept .1 .1 .1 .1 .1 .1 .1 .0) (w .kept .1 .1 .1 .1 .1 .1 .1 .1 .0) (z .ensures))
 
 pub facet-cleared-spec : {M : Type 1} → statement M
 facet-cleared-spec =
     tie.close
     (tie.spec
-    facet-work-requires
+    list-facets-requires
     clear-four-requires
     same-length
     same-length-2

@@ -18,7 +18,7 @@ use Rattle.ordering.proofs.agreement.agree.Reads as reads
 use Rattle.ordering.proofs.agreement.agree.Lts as lts
 use Rattle.complex_mates.proofs.slots.Reads as slots-reads
 use Rattle.ordering.proofs.agreement.row_agrees.Reads as row-agrees-reads
-use Rattle.ordering.proofs.agreement.wide.Reads as wide-reads
+use Rattle.lists.proofs.wide.Reads as wide-reads
 
 abbrev Inv-loop : tie.InvT-loop
 Inv-loop d m mates list k total x₀ x = (x ≤ total) × ((y : ℕ) → y < x → (getD mates y 0 ≡ none → ⊥) → rowWord d k m list y ≡ rowWord d k m list (getD mates y 0))

@@ -1,6 +1,7 @@
 -- `text::Text::digits` meets its contract. The invariant: the digits from 10 to the power k down to the one before j are added. Assumes nothing.
 use native.Mathlib.Omega.{arith}
 use Prim.Native.Nat.{_<_}
+use Rattle.text.proofs.Adding.{room-in}
 use Rattle.text.proofs.Decimals.{power-pos, Down, down-none, down-len, down-more, down-last}
 use Rattle.text.proofs.Text.digits.Statement.{statement}
 use Rattle.text.proofs.Text.digits.Tie as tie
@@ -36,7 +37,7 @@ loop-less : tie.Need-loop-less Inv-loop μ-loop
 loop-less c = omega arith
 
 loop-again : tie.Need-loop-again Inv-loop μ-loop
-loop-again c = (omega arith, down-more _ _ _ _ (c .before .before .loop-test .taken) (c .before .power .ensures) (c .before .before .before .loop .inv .1) (c .push .ensures))
+loop-again c = (omega arith, down-more _ _ _ _ (omega (arith, c .before .before .before .before .pre .0, room-in (c .before .before .before .before .args .self) (c .before .before .before .before .good .0 .1 .1 .0 .1 .0 .1))) (c .before .before .loop-test .taken) (c .before .power .ensures) (c .before .before .before .loop .inv .1) (c .push .ensures))
 
 cast-push-2 : tie.Need-cast-push-2 Inv-loop μ-loop
 cast-push-2 c = omega arith
@@ -48,7 +49,7 @@ push-requires-2 : tie.Need-push-requires-2 Inv-loop μ-loop
 push-requires-2 c κs = omega (arith, down-len (c .before .loop .inv .1))
 
 returns : tie.Need-returns Inv-loop μ-loop
-returns c = down-last _ _ _ (c .before .loop-test .left) (c .before .before .loop .inv .1) (c .push2 .ensures)
+returns c = down-last _ _ _ (omega (arith, c .before .before .before .pre .0, room-in (c .before .before .before .args .self) (c .before .before .before .good .0 .1 .1 .0 .1 .0 .1))) (c .before .loop-test .left) (c .before .before .loop .inv .1) (c .push2 .ensures)
 
 pub digits-spec : {M : Type 1} → statement M
 digits-spec =

@@ -4,7 +4,7 @@ use native.Mathlib.Omega.{arith}
 use Prim.Native.Nat.{_≤_, _-_}
 use lib.ListN.{length, take}
 use Rattle.text.specs.Adds.{Adds}
-use Rattle.text.proofs.Adding.{adds-none, adds-byte, word-room, word-done}
+use Rattle.text.proofs.Adding.{room-in, adds-none, adds-byte, word-room, word-done}
 use Rattle.text.proofs.Text.word.Statement.{statement}
 use Rattle.text.proofs.Text.word.Tie as tie
 
@@ -30,7 +30,7 @@ loop-less : tie.Need-loop-less Inv-loop μ-loop
 loop-less c = omega arith
 
 loop-again : tie.Need-loop-again Inv-loop μ-loop
-loop-again c = (omega arith, adds-byte _ _ (c .before .before .loop-test .taken) (c .before .before .before .loop .inv .1) (c .push .ensures))
+loop-again c = (omega arith, adds-byte _ _ (omega (arith, c .before .before .before .before .before .pre, room-in (c .before .before .before .before .before .args .self) (c .before .before .before .before .before .good .0 .1 .1 .0 .1 .0 .1))) (c .before .before .loop-test .taken) (c .before .before .before .loop .inv .1) (c .push .ensures))
 
 returns : tie.Need-returns Inv-loop μ-loop
 returns c = word-done _ _ (c .loop-test .left) (c .before .loop .inv .1)

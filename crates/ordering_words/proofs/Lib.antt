@@ -1,0 +1,4 @@
+pub mod Orders
+pub mod Lists
+pub mod Matching
+pub mod Arranging
