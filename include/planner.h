@@ -313,7 +313,7 @@ uint64_t planner_drop_cells(
  *   vertices[0]                  how many vertices there are, coarse and new together
  * The call returns m. Refused: 1, 2, 3, 4, 6, 5, 12 (working lists), 7, 16 (planner_refine_with and its sibling below), 11 (r outside 1 to 64), 3 and 6 (of the refined complex), 12 (a result
  * list). Working lists, where c is the lesser of 4,096 and (n / (d + 1)) * r^d (r as 1 where it is outside 1 to 64) and k = c * (d + 1): cells n, along n,
- * pattern (d + 1) * k, keys 4 * n + 8 * k, rows n + k, spare n + k, counts n + k + 65, sorted k, firsts c, buckets 4,096. */
+ * pattern (d + 1) * k, keys 4 * n + 8 * k, rows n + k, spare n + k, counts n + k + 65, sorted k, firsts c, buckets n + k. */
 
 /* Along each cell's sorted vertices. */
 uint64_t planner_refine(

@@ -19,4 +19,4 @@ def children(d: int, n: int, r: int) -> int:
 def refined(d: int, n: int, r: int) -> List[int]:
     c = children(d, n, r)
     k = c * (d + 1)
-    return [n, n, (d + 1) * k, 4 * n + 8 * k, n + k, n + k, n + k + 65, k, c, 4096]
+    return [n, n, (d + 1) * k, 4 * n + 8 * k, n + k, n + k, n + k + 65, k, c, n + k]
