@@ -1,6 +1,7 @@
-"""bench.py OURS RUST [count]: the same calls on the same inputs timed in both programs, at the limits and at a quarter of their size. One line a call: the median of each, the
-ratio, and how our time grows from the quarter to the whole, set to four times the cells (linear: about 4). With `count` instructions are counted instead, by valgrind: the same
-whatever else the machine does."""
+"""bench.py OURS RUST [count]: the same calls on the same inputs in the planner, in C written by hand (bench/peer.c) and in the Rust, at the limits, at a quarter and at a
+sixteenth of their size. Prints a table for docs/PERFORMANCE.md, one line a call: the best of many runs of each, ours over the C's, the Rust's over ours, and how our time grows
+from the sixteenth to the quarter and from the quarter to the whole, set to four times the cells (linear: about 4). With `count` instructions are counted instead, by valgrind:
+the same whatever else the machine does."""
 import re
 import subprocess
 import sys
@@ -28,23 +29,30 @@ def fan(n):
     return listed(2, [(0, k, k + 1) for k in range(1, n + 1)])
 
 
-GRIDS = [("2-D torus 64 x 32", grid(64, P, 32, P), grid(32, P, 16, P)), ("3-D torus 5 x 8 x 17", grid(5, P, 8, P, 17, P), grid(4, P, 6, P, 7, P))]
-LISTS = [("2-D torus 64 x 32", words_of(64, P, 32, P), words_of(32, P, 16, P)), ("3-D torus 5 x 8 x 17", words_of(5, P, 8, P, 17, P), words_of(4, P, 6, P, 7, P)),
-         ("fan of 4,094 triangles", fan(4094), fan(1023))]
-# name, words and R at the limit, words and R at a quarter
-REFINED = [("1-D, 2,047 edges, R 2", words_of(2047, O), 2, words_of(511, O), 2), ("1-D, 63 edges, R 64", words_of(63, O), 64, words_of(63, O), 16),
-           ("2-D torus 32 x 16, R 2", words_of(32, P, 16, P), 2, words_of(16, P, 8, P), 2), ("one triangle, R 64", listed(2, [(0, 1, 2)]), 64, listed(2, [(0, 1, 2)]), 32),
-           ("3-D torus 3 x 4 x 7, R 2", words_of(3, P, 4, P, 7, P), 2, words_of(3, P, 7, P, 1, O), 2), ("one tetrahedron, R 16", listed(3, [(0, 1, 2, 3)]), 16, listed(3, [(0, 1, 2, 3)]), 10)]
+# name, and the input at the limit, at a quarter and at a sixteenth of it
+GRIDS = [("2-D torus 64 x 32", grid(64, P, 32, P), grid(32, P, 16, P), grid(16, P, 8, P)),
+         ("3-D torus 5 x 8 x 17", grid(5, P, 8, P, 17, P), grid(4, P, 6, P, 7, P), grid(3, P, 4, P, 4, P))]
+LISTS = [("2-D torus 64 x 32", words_of(64, P, 32, P), words_of(32, P, 16, P), words_of(16, P, 8, P)),
+         ("3-D torus 5 x 8 x 17", words_of(5, P, 8, P, 17, P), words_of(4, P, 6, P, 7, P), words_of(3, P, 4, P, 4, P)),
+         ("fan of 4,094 triangles", fan(4094), fan(1023), fan(256))]
+TRIANGLE, SOLID = listed(2, [(0, 1, 2)]), listed(3, [(0, 1, 2, 3)])
+# the same, each with its R
+REFINED = [("1-D, 2,047 edges, R 2", (words_of(2047, O), 2), (words_of(511, O), 2), (words_of(127, O), 2)),
+           ("1-D, 63 edges, R 64", (words_of(63, O), 64), (words_of(63, O), 16), (words_of(63, O), 4)),
+           ("2-D torus 32 x 16, R 2", (words_of(32, P, 16, P), 2), (words_of(16, P, 8, P), 2), (words_of(8, P, 4, P), 2)),
+           ("one triangle, R 64", (TRIANGLE, 64), (TRIANGLE, 32), (TRIANGLE, 16)),
+           ("3-D torus 3 x 4 x 7, R 2", (words_of(3, P, 4, P, 7, P), 2), (words_of(3, P, 7, P, 1, O), 2), (words_of(5, P, 1, O, 1, O), 2)),
+           ("one tetrahedron, R 16", (SOLID, 16), (SOLID, 10), (SOLID, 6))]
 GRID_CALLS = ["reduce", "crossing", "swath", "nvertices", "is_orientation_preserving", "cell_words", "triangulate_ordered", "edge_lengths_sq", "edge_length_sq",
               "chained_nvertices", "chained_classes", "chained_closed_classes", "chained_cell_words"]
 LIST_CALLS = ["cells", "edges", "facets", "facet_records", "border", "orientation", "orientation_looks", "orient_by", "ordering", "induced_orientation", "drop_cells", "incidence", "faces", "boundary", "matrix_market"]
 REFINE_CALLS = ["refine", "refine_with"]
-NOT_IN_RUST = {"chained_nvertices", "chained_classes", "chained_closed_classes", "chained_cell_words", "facet_records", "crossing", "edge_length_sq", "orientation_looks", "drop_cells", "incidence", "faces", "boundary", "matrix_market", "corners", "corners_stepping", "refine_by_steps", "geojson"}
-BY_STEPS = [("one triangle, R 4", listed(2, [(0, 1, 2)]), 4, listed(2, [(0, 1, 2)]), 2), ("one tetrahedron, R 4", listed(3, [(0, 1, 2, 3)]), 4, listed(3, [(0, 1, 2, 3)]), 2)]
-STEP_CALLS = ["corners", "corners_stepping", "refine", "refine_by_steps"]
-BANDS = [("band 2048 x 1", grid(2048, P, 1, O), grid(512, P, 1, O)), ("band 64 x 32", grid(64, P, 32, O), grid(32, P, 16, O))]
+NOT_IN_RUST = {"chained_nvertices", "chained_classes", "chained_closed_classes", "chained_cell_words", "facet_records", "crossing", "edge_length_sq", "orientation_looks", "drop_cells", "incidence", "faces", "boundary", "matrix_market", "corners", "corners_stepping", "refine_by_steps", "geojson", "need_facets"}
+BY_STEPS = [("one triangle, R 4", (TRIANGLE, 4), (TRIANGLE, 2), (TRIANGLE, 1)), ("one tetrahedron, R 4", (SOLID, 4), (SOLID, 2), (SOLID, 1))]
+STEP_CALLS = ["corners", "corners_stepping", "refine", "refine_by_steps", "need_facets"]
+BANDS = [("band 2048 x 1", grid(2048, P, 1, O), grid(512, P, 1, O), grid(128, P, 1, O)), ("band 64 x 32", grid(64, P, 32, O), grid(32, P, 16, O), grid(16, P, 8, O))]
 RUST_CALL = {"swath": "reduce"}                                 # all points in a loop
-CONSTANT = {"nvertices", "is_orientation_preserving"}          # made a thousand times in one run: they do not grow
+CONSTANT = {"nvertices", "is_orientation_preserving", "need_facets"}          # made a thousand times in one run: they do not grow
 
 
 def coherent(d, ws):
@@ -88,20 +96,15 @@ class Case:
 
 
 def cases():
-    for name, whole, quarter in GRIDS:
-        for call in GRID_CALLS:
-            yield call, name, Case(call, whole), Case(call, quarter)
-    for name, whole, quarter in BANDS:
-        yield "geojson", name, Case("geojson", whole), Case("geojson", quarter)
-    for name, whole, quarter in LISTS:
-        for call in LIST_CALLS:
-            yield call, name, Case(call, whole), Case(call, quarter)
-    for name, whole, r, quarter, s in REFINED:
-        for call in REFINE_CALLS:
-            yield call, name, Case(call, whole, r), Case(call, quarter, s)
-    for name, whole, r, quarter, s in BY_STEPS:
-        for call in STEP_CALLS:
-            yield call, name, Case(call, whole, r), Case(call, quarter, s)
+    """each call, its input's name, and its cases from the whole down"""
+    for inputs, calls in ((GRIDS, GRID_CALLS), (BANDS, ["geojson"]), (LISTS, LIST_CALLS)):
+        for name, *sizes in inputs:
+            for call in calls:
+                yield call, name, [Case(call, value) for value in sizes]
+    for inputs, calls in ((REFINED, REFINE_CALLS), (BY_STEPS, STEP_CALLS)):
+        for name, *sizes in inputs:
+            for call in calls:
+                yield call, name, [Case(call, value, r) for value, r in sizes]
 
 
 def run(program, lines):
@@ -126,28 +129,34 @@ def counted(program, function, lines):
 
 def shown(ns):
     if "count" in sys.argv:
-        return "%12d" % ns
-    return "%9.3f us" % (ns / 1e3) if ns < 1e6 else "%9.3f ms" % (ns / 1e6)
+        return format(round(ns), ",")
+    return "%.0f ns" % ns if ns < 1e3 else "%.1f us" % (ns / 1e3) if ns < 1e6 else "%.2f ms" % (ns / 1e6)
+
+
+def growths(call, sizes, times):
+    if call in CONSTANT:
+        return "-"
+    return ", ".join("%.1f" % (times[k] / times[k + 1] * 4 * sizes[k + 1].cells / sizes[k].cells) for k in (1, 0))
 
 
 def main():
     table = list(cases())
-    asked = [row for row in table if row[0] not in NOT_IN_RUST]
+    lines = [c.ours for _, _, sizes in table for c in sizes]
+    asked = [sizes[0].rust for call, _, sizes in table if call not in NOT_IN_RUST]
     if "count" in sys.argv:
-        ours = counted(sys.argv[1], "once", [c.ours for row in table for c in row[2:]])
-        rust = iter(counted(sys.argv[2], "bench::timed*", [row[2].rust for row in asked]))
+        ours = counted(sys.argv[1], "clocked", lines)
+        rust = iter(counted(sys.argv[2], "bench::timed*", asked))
     else:
-        ours = run(sys.argv[1], [c.ours for row in table for c in row[2:]])
-        rust = iter(run(sys.argv[2], [row[2].rust for row in asked]))
-    print("%-26s %-26s %12s %12s %8s %12s %7s" % ("call", "input", "ours", "Rust", "ratio", "Rust alone", "growth"))
-    for i, (call, name, whole, quarter) in enumerate(table):
-        a, b = ours[2 * i][0], ours[2 * i + 1][0]
-        growth = "%7.1f" % (a / b * 4 * quarter.cells / whole.cells) if call not in CONSTANT else "      -"
-        if call in NOT_IN_RUST:
-            print("%-26s %-26s %12s %12s %8s %12s %s" % (call, name, shown(a), "-", "-", "-", growth))
-            continue
-        all_, alone = next(rust)
-        print("%-26s %-26s %12s %12s %8.1f %12s %s" % (call, name, shown(a), shown(all_), all_ / a, shown(alone) if alone else "-", growth))
+        ours = run(sys.argv[1], lines)
+        rust = iter(run(sys.argv[2], asked))
+    print("| Call | Input | ours | C by hand | ours / C | Rust, from words or grid on | Rust / ours | growth |")
+    print("|---|---|---|---|---|---|---|---|")
+    for i, (call, name, sizes) in enumerate(table):
+        here = ours[3 * i:3 * i + 3]
+        mine, peer = here[0]
+        whole = 0 if call in NOT_IN_RUST else next(rust)[0]
+        row = [shown(mine), shown(peer) if peer else "-", "%.1f" % (mine / peer) if peer else "-", shown(whole) if whole else "-", "%.1f" % (whole / mine) if whole else "-"]
+        print("| `%s` | %s | %s | %s |" % (call, name, " | ".join(row), growths(call, sizes, [t for t, _ in here])))
 
 
 if __name__ == "__main__":

@@ -177,7 +177,7 @@ def refine_need(d, n, r):
     """the ten working lists of a refinement of words with n corners"""
     children = min(n // (d + 1) * (r if 1 <= r <= 64 else 1) ** d, 4096)
     corners = children * (d + 1)
-    return [n, n, corners * (d + 1), 4 * n + 8 * corners, n + corners, n + corners, n + corners + 65, corners, children, 4096]
+    return [n, n, corners * (d + 1), 4 * n + 8 * corners, n + corners, n + corners, n + corners + 65, corners, children, n + corners]
 
 
 def refined_lists(d, f):

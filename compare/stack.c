@@ -1,5 +1,5 @@
-/* How much stack a call takes: each is made on a stack of its own that was filled beforehand, on the largest inputs. Prints the most, and stops with status 1 where it is
- * not under the bound that include/planner.h tells. */
+/* How much stack a call takes: each is made on a stack of its own that was filled beforehand, on the largest inputs. Prints the most, or with an argument a table of all, and
+ * stops with status 1 where one is not under the bound that include/planner.h tells. */
 #include <stdio.h>
 #include <stdlib.h>
 #include <string.h>
@@ -15,7 +15,8 @@ static int32_t signed_lists[2][LONG];
 static double floats[3][LONG], sides[3] = {1.0, 1.0, 1.0};
 static uint32_t solid[6] = {8, PLANNER_PERIODIC, 8, PLANNER_PERIODIC, 10, PLANNER_PERIODIC};
 static uint32_t chain[24] = {0, 1, 2, 3, 1, 2, 3, 4, 2, 3, 4, 5, 3, 4, 5, 6, 4, 5, 6, 7, 5, 6, 7, 8};
-static uint8_t file[LONG];
+static uint32_t band[4] = {64, PLANNER_PERIODIC, 32, PLANNER_OPEN};
+static uint8_t file[4 * LONG];
 static size_t n, cells_len, file_len;
 
 #define ROOM(k) lists[k], LONG, lists[k + 1], LONG, lists[k + 2], LONG, lists[k + 3], LONG
@@ -45,6 +46,19 @@ static void looks(void) { answer = planner_orientation_looks(3, words, n, signed
 static void orient_by(void) { answer = planner_orient_by(3, words, n, signed_lists[0], n / 4, ROOM(0)); }
 static void ordering(void) { answer = planner_ordering(3, words, n, words, n, lists[4], LONG, ROOM(0)); }
 static void induced(void) { answer = planner_induced_orientation(3, words, n, words, n, ROOM(0)); }
+static void swath(void) { answer = planner_swath(3, solid, 6, words, n, lists[4], LONG); }
+static void geojson(void) { answer = planner_geojson(2, -60, 60, band, 4, file, LONG, ROOM(0)); }
+static void chained_classes(void) { answer = planner_chained_classes(3, solid, 6, lists[4], LONG, lists[5], LONG); }
+static void chained_closed(void) { answer = planner_chained_closed_classes(3, solid, 6, lists[4], LONG, lists[5], LONG); }
+static void chained_words(void) { answer = planner_chained_cell_words(3, solid, 6, lists[4], LONG, ROOM(0)); }
+static void incidence(void) { answer = planner_incidence(3, words, n, lists[4], LONG, lists[5], LONG, ROOM(0)); }
+static void faces(void) { answer = planner_faces(3, 1, words, n, lists[4], LONG, ROOM(0)); }
+static void boundary(void) { answer = planner_boundary(3, 2, words, n, signed_lists[0], LONG, lists[4], LONG, lists[5], LONG, ROOM(0)); }
+static void matrix_market(void) { answer = planner_matrix_market(3, 1, words, n, file, LONG, ROOM(0)); }
+static void drop_cells(void) { answer = planner_drop_cells(3, words, n, words, 4, lists[4], LONG, lists[5], LONG, ROOM(0), fixed); }
+static void corners(void) { answer = planner_corners(3, 16, lists[4], LONG); }
+static void corners_stepping(void) { answer = planner_corners_stepping(3, 16, lists[4], LONG); }
+static void refine_by_steps(void) { answer = planner_refine_by_steps(3, 8, chain, 24, REFINED); }
 static void refine(void) { answer = planner_refine(3, 8, chain, 24, REFINED); }
 static void refine_with(void) { answer = planner_refine_with(3, 8, chain, 24, chain, 24, REFINED); }
 
@@ -54,6 +68,9 @@ static const struct { const char *name; void (*call)(void); size_t bound; } call
     {"nvertices", nvertices, BOUND}, {"is_orientation_preserving", preserving, BOUND}, {"triangulate_ordered", triangulate, BOUND}, {"edge_lengths_sq", lengths, BOUND}, {"edge_length_sq", length, BOUND},
     {"cells", cells, BOUND}, {"write_mesh", write_mesh, BOUND}, {"read_mesh", read_mesh, MESH_BOUND}, {"edges", edges, BOUND}, {"facets", facets, BOUND}, {"border", border, BOUND}, {"orientation", orientation, BOUND}, {"orientation_looks", looks, BOUND}, {"orient_by", orient_by, BOUND},
     {"ordering", ordering, BOUND}, {"induced_orientation", induced, BOUND}, {"refine", refine, BOUND}, {"refine_with", refine_with, BOUND},
+    {"refine_by_steps", refine_by_steps, BOUND}, {"corners", corners, BOUND}, {"corners_stepping", corners_stepping, BOUND}, {"swath", swath, BOUND}, {"geojson", geojson, BOUND},
+    {"chained_classes", chained_classes, BOUND}, {"chained_closed_classes", chained_closed, BOUND}, {"chained_cell_words", chained_words, BOUND}, {"incidence", incidence, BOUND},
+    {"faces", faces, BOUND}, {"boundary", boundary, BOUND}, {"matrix_market", matrix_market, BOUND}, {"drop_cells", drop_cells, BOUND},
 };
 
 /* The bytes of the stack that the call wrote to, from its top down to the lowest. */
@@ -70,7 +87,9 @@ static size_t taken(void (*call)(void)) {
     return STACK - low;
 }
 
-int main(void) {
+int main(int argc, char **argv) {
+    (void)argv;
+    if (argc > 1) puts("| Call | bytes of stack |\n|---|---|");
     const char *deepest = "";
     size_t most = 0;
     stack = malloc(STACK);
@@ -87,6 +106,7 @@ int main(void) {
             printf("stack: %s takes %zu bytes\n", calls[i].name, bytes);
             return 1;
         }
+        if (argc > 1) printf("| `%s` | %zu |\n", calls[i].name, bytes);
         if (bytes > most) { most = bytes; deepest = calls[i].name; }
     }
     printf("stack: %zu calls, the most is %zu bytes, by %s\n", sizeof calls / sizeof *calls, most, deepest);

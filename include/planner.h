@@ -313,7 +313,7 @@ uint64_t planner_drop_cells(
  *   vertices[0]                  how many vertices there are, coarse and new together
  * The call returns m. Refused: 1, 2, 3, 4, 6, 5, 12 (working lists), 7, 16 (planner_refine_with and its sibling below), 11 (r outside 1 to 64), 3 and 6 (of the refined complex), 12 (a result
  * list). Working lists, where c is the lesser of 4,096 and (n / (d + 1)) * r^d (r as 1 where it is outside 1 to 64) and k = c * (d + 1): cells n, along n,
- * pattern (d + 1) * k, keys 4 * n + 8 * k, rows n + k, spare n + k, counts n + k + 65, sorted k, firsts c, buckets 4,096. */
+ * pattern (d + 1) * k, keys 4 * n + 8 * k, rows n + k, spare n + k, counts n + k + 65, sorted k, firsts c, buckets n + k. */
 
 /* Along each cell's sorted vertices. */
 uint64_t planner_refine(
@@ -411,9 +411,14 @@ uint64_t planner_read_mesh(
 /* How many corners the words of a grid have: d+1 for each cell. Refused: 1, 9, 8, 3, 6. */
 uint64_t planner_grid_corners(uint32_t d, const uint32_t *axes, size_t axes_len);
 
-void planner_need_cell_words(uint32_t d, size_t n, size_t need[5]);          /* words, keys, rows, spare, counts */
+/* The same for the calls of honest gluing, which ask 6 of their classes and later. Refused: 1, 9, 8, 3. */
+uint64_t planner_chained_corners(uint32_t d, const uint32_t *axes, size_t axes_len);
+
+void planner_need_cell_words(uint32_t d, size_t n, size_t need[5]);          /* words, keys, rows, spare, counts; planner_chained_cell_words too */
 void planner_need_triangulate_ordered(uint32_t d, size_t n, size_t need[6]); /* cells, order, keys, rows, spare, counts */
 void planner_need_edge_lengths_sq(uint32_t d, size_t n, size_t need[5]);     /* lengths, keys, rows, spare, counts */
+void planner_need_geojson(uint32_t d, size_t n, size_t need[5]);             /* bytes, keys, rows, spare, counts */
+void planner_need_chained_classes(uint32_t d, size_t n, size_t need[2]);     /* classes, room; the room of all calls of honest gluing that have one */
 void planner_need_cells(uint32_t d, size_t n, size_t need[5]);               /* cells, keys, rows, spare, counts */
 void planner_need_edges(uint32_t d, size_t n, size_t need[5]);               /* edges, keys, rows, spare, counts */
 void planner_need_facets(uint32_t d, size_t n, size_t need[6]);              /* facets, table, keys, rows, spare, counts */
@@ -422,6 +427,17 @@ void planner_need_orientation(uint32_t d, size_t n, size_t need[5]);         /* 
 void planner_need_orient_by(uint32_t d, size_t n, size_t need[4]);           /* keys, rows, spare, counts */
 void planner_need_ordering(uint32_t d, size_t n, size_t need[5]);            /* listed, keys, rows, spare, counts */
 void planner_need_induced_orientation(uint32_t d, size_t n, size_t need[4]); /* keys, rows, spare, counts */
+void planner_need_incidence(uint32_t d, size_t n, size_t need[6]);           /* starts, touching, keys, rows, spare, counts */
+void planner_need_faces(uint32_t d, size_t n, size_t need[5]);               /* faces, keys, rows, spare, counts; for every k */
+void planner_need_boundary(uint32_t d, size_t n, size_t need[7]);            /* signs, faces, cofaces, keys, rows, spare, counts; for every k */
+void planner_need_matrix_market(uint32_t d, size_t n, size_t need[5]);       /* bytes, keys, rows, spare, counts; for every k */
+void planner_need_drop_cells(uint32_t d, size_t n, size_t need[6]);          /* kept, old, keys, rows, spare, counts */
+
+/* Where births and pairs have so many numbers: bytes, keys, rows, spare, counts. */
+void planner_need_write_mesh(uint32_t d, size_t n, size_t births_len, size_t pairs_len, size_t need[5]);
+
+/* A file of so many bytes: words, births, pairs, keys, rows, spare, counts; the working lists at most too, since only the file tells its dimension and cells. */
+void planner_need_read_mesh(size_t bytes_len, size_t need[7]);
 
 #ifdef __cplusplus
 }

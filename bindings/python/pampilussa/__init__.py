@@ -12,10 +12,10 @@ Every call is the proved library's; nothing is kept between calls, and what is n
 from .complex import Boundary, Complex, Facets, NO_CELL, Order
 from .grid import Clash, Crossing, Grid
 from .mesh_file import Mesh, read_mesh, write_mesh
-from .refined import Births, Child, NO_VERTEX, Refined, corners
+from .refined import Birth, Births, Child, NO_VERTEX, Refined, corners
 from .refused import Refused
 
-__all__ = ["Births", "Boundary", "Child", "Clash", "Complex", "Crossing", "Facets", "Grid", "Mesh", "NO_CELL", "NO_VERTEX", "Order", "Refined", "Refused", "corners", "read_mesh", "refine", "write_mesh"]
+__all__ = ["Birth", "Births", "Boundary", "Child", "Clash", "Complex", "Crossing", "Facets", "Grid", "Mesh", "NO_CELL", "NO_VERTEX", "Order", "Refined", "Refused", "corners", "read_mesh", "refine", "write_mesh"]
 __version__ = "0.1.0"
 
 

@@ -32,6 +32,7 @@ SIGNATURES: Dict[str, str] = {
     "planner_edge_lengths_sq": "u32 u32[] f64[] f64[&]" + ROOM,
     "planner_edge_length_sq": "u32 u32 u32 u32[] f64[] f64&",
     "planner_grid_corners": "u32 u32[]",
+    "planner_chained_corners": "u32 u32[]",
     "planner_geojson": "u32 i32 i32 u32[] u8[&]" + ROOM,
     "planner_chained_reduce": "u32 u32 u32[] u32[&]",
     "planner_chained_nvertices": "u32 u32[] u32[&]",
@@ -50,24 +51,29 @@ SIGNATURES: Dict[str, str] = {
     "planner_induced_orientation": "u32 u32[] u32[]" + ROOM,
     "planner_refine": "u32 u32 u32[]" + REFINED,
     "planner_refine_with": "u32 u32 u32[] u32[]" + REFINED,
+    "planner_refine_by_steps": "u32 u32 u32[]" + REFINED,
+    "planner_refine_with_by_steps": "u32 u32 u32[] u32[]" + REFINED,
     "planner_drop_cells": "u32 u32[] u32[] u32[&] u32[&]" + ROOM + " u32&",
     "planner_incidence": "u32 u32[] u32[&] u32[&]" + ROOM,
     "planner_faces": "u32 u32 u32[] u32[&]" + ROOM,
     "planner_boundary": "u32 u32 u32[] i32[&] u32[&] u32[&]" + ROOM,
     "planner_matrix_market": "u32 u32 u32[] u8[&]" + ROOM,
     "planner_corners": "u32 u32 u32[&]",
+    "planner_corners_stepping": "u32 u32 u32[&]",
     "planner_write_mesh": "u32 u32[] u32[] u32[] u8[&]" + ROOM,
     "planner_read_mesh": "u8[] u32[&] u32[&] u32[&]" + ROOM + " u32&",
     "planner_child_of": "u32 u32[] f64[] i32[] f64& i32&",
     "planner_birth_of": "u32 u32 u32[] u32[] f64[] u32& u32& f64&",
 }
-# The functions that tell how long the lists of a call must be: how many lengths each writes.
+# The functions that tell how long the lists of a call must be: what each takes, and how many lengths it writes.
 NEEDS: Dict[str, int] = {
-    "planner_need_cell_words": 5, "planner_need_triangulate_ordered": 6, "planner_need_edge_lengths_sq": 5, "planner_need_cells": 5, "planner_need_edges": 5,
-    "planner_need_facets": 6, "planner_need_border": 5, "planner_need_orientation": 5, "planner_need_orient_by": 4, "planner_need_ordering": 5,
-    "planner_need_induced_orientation": 4,
+    "planner_need_cell_words": 5, "planner_need_triangulate_ordered": 6, "planner_need_edge_lengths_sq": 5, "planner_need_geojson": 5, "planner_need_chained_classes": 2,
+    "planner_need_cells": 5, "planner_need_edges": 5, "planner_need_facets": 6, "planner_need_border": 5, "planner_need_orientation": 5, "planner_need_orient_by": 4,
+    "planner_need_ordering": 5, "planner_need_induced_orientation": 4, "planner_need_incidence": 6, "planner_need_faces": 5, "planner_need_boundary": 7,
+    "planner_need_matrix_market": 5, "planner_need_drop_cells": 6, "planner_need_write_mesh": 5, "planner_need_read_mesh": 7,
 }
-SIGNATURES.update((name, "u32 size size&") for name in NEEDS)
+TAKES = {"planner_need_write_mesh": "u32 size size size", "planner_need_read_mesh": "size"}
+SIGNATURES.update((name, TAKES.get(name, "u32 size") + " size&") for name in NEEDS)
 DTYPES = {"u8": np.uint8, "u32": np.uint32, "i32": np.int32, "f64": np.float64}
 NUMBERS = {"size": ctypes.c_size_t, "u32": ctypes.c_uint32, "i32": ctypes.c_int32, "f64": ctypes.c_double}
 
@@ -137,11 +143,11 @@ def call(name: str, *given: Argument, **about: Any) -> int:
     return answer & 0xFFFFFFFF
 
 
-def needed(call_name: str, d: int, n: int) -> List[int]:
-    """How long the lists of that call must be, in the order of its parameters, where the words have n corners."""
+def needed(call_name: str, *given: int) -> List[int]:
+    """How long the lists of that call must be, in the order of its parameters; given are, for most calls, the dimension and the number of corners of the words."""
     name = "planner_need_" + call_name
     lengths = np.zeros(NEEDS[name], np.uintp)
-    function(name)(d, n, lengths.ctypes.data)
+    function(name)(*given, lengths.ctypes.data)
     return [int(x) for x in lengths]
 
 

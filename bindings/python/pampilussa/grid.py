@@ -1,11 +1,12 @@
 """Grids with glued axes."""
+import math
 from typing import Any, List, NamedTuple, Optional, Sequence, Tuple, Union
 
 import numpy as np
 
 from ._library import call, needed, numbers, room, whole
 from .complex import Complex
-from .refused import MOST_CELLS, MOST_DIMENSION, Refused
+from .refused import MOST_DIMENSION, Refused
 
 OPEN = 0
 PERIODIC = 256
@@ -240,10 +241,10 @@ class Grid:
         vertex = self._ask("planner_crossing", whole(point, "the point"), self._axes, sets)
         return Crossing(vertex, int(sets[0]), int(sets[1]))
 
-    def _need(self, name: str) -> List[int]:
-        """How long the lists of that call must be; nothing is needed for a grid that the call refuses."""
+    def _need(self, name: str, mode: str = "grid") -> List[int]:
+        """How long the lists of that call must be; nothing is needed for a grid that the call refuses. The mode is grid, or chained for honest gluing."""
         try:
-            corners = self._ask("planner_grid_corners", self._axes)
+            corners = self._ask("planner_%s_corners" % mode, self._axes)
         except Refused:
             corners = 0
         return needed(name, self.d, corners)
@@ -260,10 +261,6 @@ class Grid:
         count = self._ask("planner_cell_words", self._axes, out, *room(need))
         return out[:count * (self.d + 1)].reshape(count, self.d + 1)
 
-    def _most(self) -> int:
-        """The corners of as many cells as are taken: room for every grid of honest gluing, whose classes may be fewer than the glued vertices."""
-        return MOST_CELLS * (self.d + 1)
-
     def chained_classes(self) -> np.ndarray:
         """Honest gluing: the class of each grid point, points in one class exactly where a chain of gluing steps joins them.
 
@@ -272,17 +269,14 @@ class Grid:
         >>> int(plane.chained_classes().max()) + 1, plane.chained_nvertices, plane.nvertices
         (17, 17, 16)
         """
-        points = 1
-        for count, _ in self.axes:
-            points = min(points * (count + 1), 2 ** 24)
-        classes = np.empty(points, np.uint32)
-        self._ask("planner_chained_classes", self._axes, classes, *room([self._most()]))
-        return classes
+        classes, lent = room(self._need("chained_classes", "chained"))
+        self._ask("planner_chained_classes", self._axes, classes, lent)
+        return classes[:math.prod(count + 1 for count, _ in self.axes)]
 
     @property
     def chained_nvertices(self) -> int:
         """Honest gluing: how many classes there are."""
-        return self._ask("planner_chained_nvertices", self._axes, *room([self._most()]))
+        return self._ask("planner_chained_nvertices", self._axes, *room(self._need("chained_classes", "chained")[1:]))
 
     def chained_reduce(self, point: int) -> int:
         """Honest gluing: the class of a grid point; NO_VERTEX past the last point.
@@ -291,7 +285,7 @@ class Grid:
         >>> pa.Grid([(3, "P"), (1, "O")]).chained_reduce(7)
         3
         """
-        return self._ask("planner_chained_reduce", whole(point, "the point"), self._axes, *room([self._most()]))
+        return self._ask("planner_chained_reduce", whole(point, "the point"), self._axes, *room(self._need("chained_classes", "chained")[1:]))
 
     def chained_words(self) -> np.ndarray:
         """Honest gluing: the words of the grid's cells, d+1 classes each; a word that names a class twice is refused with 4.
@@ -300,23 +294,10 @@ class Grid:
         >>> pa.Grid([(3, "P"), (1, "O")]).chained_words().tolist() == pa.Grid([(3, "P"), (1, "O")]).words().tolist()
         True
         """
-        most, *need = needed("cell_words", self.d, self._most())
+        most, *need = self._need("cell_words", "chained")
         out = np.empty(most, np.uint32)
         count = self._ask("planner_chained_cell_words", self._axes, out, *room(need))
         return out[:count * (self.d + 1)].reshape(count, self.d + 1)
-
-    def geojson(self, south: int, north: int) -> str:
-        """The band between two latitudes in whole degrees as an RFC 7946 GeoJSON file; a feature's id is its cell's row in `complex().cells`. Refused with 18 unless
-        axis 0 is periodic and axis 1 open, and with 19 where south is not below north or either beyond 90.
-
-        >>> import json, pampilussa as pa
-        >>> [f["id"] for f in json.loads(pa.Grid([(3, "P"), (1, "O")]).geojson(0, 60))["features"]]
-        [1, 2, 3, 5, 0, 4]
-        """
-        most, *need = self._need("cell_words")
-        out = np.empty(43 + 276 * (most // (self.d + 1)), np.uint8)
-        count = self._ask("planner_geojson", _degrees(south), _degrees(north), self._axes, out, *room(need))
-        return out[:count].tobytes().decode("ascii")
 
     def complex(self) -> Complex:
         """The grid's cells."""
@@ -352,16 +333,17 @@ class Grid:
         return lengths[:count]
 
     def geojson(self, south: int, north: int) -> bytes:
-        """The band as an RFC 7946 GeoJSON file, between two latitudes in whole degrees and once round the earth; axis 0 joined (P), axis 1 open (O).
+        """The band between two latitudes in whole degrees, once round the earth, as an RFC 7946 GeoJSON file: one Polygon for each cell, none across 180 degrees; a
+        feature's id is its cell's row in `complex().cells`. Refused with 18 unless axis 0 is periodic and axis 1 open, and with 19 where south is not below north or either
+        beyond 90.
 
-        One Polygon for each cell, none across 180 degrees; a feature's id is the cell's row in Complex.cells.
+        >>> import json, pampilussa as pa
+        >>> [f["id"] for f in json.loads(pa.Grid([(3, "P"), (1, "O")]).geojson(0, 60))["features"]]
+        [1, 2, 3, 5, 0, 4]
         """
-        south, north = int(south), int(north)
-        if not -2 ** 31 <= south < 2 ** 31 or not -2 ** 31 <= north < 2 ** 31:
-            raise ValueError("a latitude is a whole number of degrees")
-        most, *need = self._need("cell_words")
-        cells = most // (self.d + 1)
-        out = np.empty(43 + 276 * cells, np.uint8)
+        south, north = _degrees(south), _degrees(north)
+        most, *need = self._need("geojson")
+        out = np.empty(most, np.uint8)
         size = call("planner_geojson", self.d, south, north, self._axes, out, *room(need), d=self.d, axes=self._axes, south=south, north=north)
         return out[:size].tobytes()
 

@@ -44,8 +44,9 @@ def write_mesh(words: Any, births: Sequence[Dict[int, int]] = (), r: int = 0) ->
     heads = [x for k, birth in enumerate(births) for x in (first + k, whole(r, "r"), len(birth))]
     pairs = [x for birth in births for pair in sorted(birth.items()) for x in pair]
     lists = numbers(np.array(heads, np.int64), "births"), numbers(np.array(pairs, np.int64), "pairs")
-    out = np.empty(16 + (10 + 4 * d) * len(rows) + 14 * len(births) + 3 * len(pairs), np.uint8)
-    size = call("planner_write_mesh", d, flat, *lists, out, *room(needed("orient_by", d, flat.size)), d=d, words=flat)
+    most, *need = needed("write_mesh", d, flat.size, *(x.size for x in lists))
+    out = np.empty(most, np.uint8)
+    size = call("planner_write_mesh", d, flat, *lists, out, *room(need), d=d, words=flat)
     return out[:size].tobytes()
 
 
@@ -60,10 +61,10 @@ def read_mesh(data: bytes) -> Mesh:
     pampilussa.refused.Refused: refused 20: the file ends inside a record, or before the record that ends it; it was cut, or not carried over whole
     """
     given = np.frombuffer(data, np.uint8)
-    n = given.size
-    words, births, pairs = (np.empty(n // k, np.uint32) for k in (4, 8, 3))
+    lists = room(needed("read_mesh", given.size))
+    words, births, pairs = lists[:3]
     shape = np.zeros(3, np.uint32)
-    count = call("planner_read_mesh", given, words, births, pairs, *room([3 * (n // 4)] + [n // 4] * 3), shape, file=given)
+    count = call("planner_read_mesh", given, *lists, shape, file=given)
     d, many, _ = (int(x) for x in shape)
     heads = births[:3 * many].reshape(many, 3).tolist()
     listed, at = [], 0

@@ -5,7 +5,7 @@ import numpy as np
 
 from . import _room
 from ._library import call, room, whole
-from .refused import MOST_CELLS
+from .refused import MOST_CELLS, MOST_DIMENSION
 
 if TYPE_CHECKING:
     from .complex import Complex
@@ -31,6 +31,14 @@ class Child(NamedTuple):
     parent: int
     jacobian: np.ndarray
     whole: np.ndarray
+
+
+class Birth(NamedTuple):
+    """One new vertex: the coarse vertices that it was born of, rising, with their weights over r and their shares."""
+
+    vertices: np.ndarray
+    weights: np.ndarray
+    shares: np.ndarray
 
 
 class Refined:
@@ -91,6 +99,21 @@ class Refined:
         parent = call("planner_child_of", k, self.parents, *self._forms, jacobian, form, short="there is no child %d; there are %d" % (k, len(self)))
         return Child(parent, self._square(jacobian)[0], self._square(form)[0])
 
+    def birth(self, number: int) -> Birth:
+        """One new vertex by number, counted from the first one on; refused with 12 past the last.
+
+        >>> import pampilussa as pa
+        >>> one = pa.Complex([[0, 1, 2]]).refine(3).birth(0)
+        >>> one.vertices.tolist(), one.weights.tolist()
+        ([0, 1], [2, 1])
+        """
+        k = whole(number, "the birth's number")
+        row = MOST_DIMENSION + 1
+        vertices, weights, shares = np.zeros(row, np.uint32), np.zeros(row, np.uint32), np.zeros(row)
+        lists = (np.ascontiguousarray(x).reshape(-1) for x in self.births)
+        support = call("planner_birth_of", self.d, k, *lists, vertices, weights, shares, short="there is no birth %d; there are %d" % (k, len(self.births.weights)))
+        return Birth(vertices[:support], weights[:support], shares[:support])
+
     def mesh(self) -> "Mesh":
         """The children's words with the births, as a mesh file has them."""
         from .mesh_file import Mesh
@@ -121,7 +144,7 @@ def corners(d: int, r: int) -> np.ndarray:
     return out[:count * (d + 1)].reshape(-1, d + 1, d + 1)
 
 
-def refine(d: int, words: np.ndarray, r: int, order: Optional[np.ndarray]) -> Refined:
+def refine(d: int, words: np.ndarray, r: int, order: Optional[np.ndarray], how: str = "") -> Refined:
     """The words refined by r, along the cells' sorted vertices or along an order."""
     n = _room.corners(d, words.size)
     most = _room.children(d, n, r)
@@ -131,5 +154,5 @@ def refine(d: int, words: np.ndarray, r: int, order: Optional[np.ndarray]) -> Re
     vertices = np.zeros(1, np.uint32)
     name, more = ("planner_refine", []) if order is None else ("planner_refine_with", [order])
     about = dict(d=d, words=words, r=r, **({} if order is None else {"order": order}))
-    count = call(name, d, r, words, *more, *lists, *room(_room.refined(d, n, r)), vertices, **about)
+    count = call(name + how, d, r, words, *more, *lists, *room(_room.refined(d, n, r)), vertices, **about)
     return Refined(d, r, int(words.max()) + 1, int(vertices[0]), lists, count)

@@ -1,7 +1,7 @@
 //! Honest gluing: grid points are one class exactly where a chain of gluing steps joins them. A second mode beside [`Grid::reduce`]'s rule, which runs classes
 //! together where a twisted axis is itself reflected.
 use crate::answer::said;
-use crate::complex::listed;
+use crate::complex::{listed, needed};
 use crate::{raw, Grid, GridVertex, Refusal};
 
 /// A class of grid points, numbered in the order of the classes' least points: neither a [`GridVertex`] nor a [`crate::GluedVertex`]. Only the calls of this
@@ -27,7 +27,8 @@ impl Grid {
     /// ```
     pub fn chained_reduce(&self, v: GridVertex) -> Result<Option<ClassVertex>, Refusal> {
         let (d, axes) = self.codes();
-        let mut room = vec![0; self.corners_before_six()];
+        let [_, n] = needed(raw::planner_need_chained_classes, d, self.chained_corners());
+        let mut room = vec![0; n];
         let class = said(unsafe { raw::planner_chained_reduce(d, v.0, axes.as_ptr(), axes.len(), room.as_mut_ptr(), room.len()) })?;
         Ok((class != u32::MAX).then_some(ClassVertex(class)))
     }
@@ -43,7 +44,8 @@ impl Grid {
     /// ```
     pub fn chained_nvertices(&self) -> Result<u32, Refusal> {
         let (d, axes) = self.codes();
-        let mut room = vec![0; self.corners_before_six()];
+        let [_, n] = needed(raw::planner_need_chained_classes, d, self.chained_corners());
+        let mut room = vec![0; n];
         said(unsafe { raw::planner_chained_nvertices(d, axes.as_ptr(), axes.len(), room.as_mut_ptr(), room.len()) })
     }
 
@@ -84,14 +86,13 @@ impl Grid {
     /// ```
     pub fn chained_cell_words(&self) -> Result<Vec<u32>, Refusal> {
         let (d, axes) = self.codes();
-        let n = self.corners_before_six();
-        listed(raw::planner_chained_cell_words, d, &axes, n, d as usize + 1, [d as usize * n, n, n, n])
+        let [most, need @ ..] = needed::<5>(raw::planner_need_cell_words, d, self.chained_corners());
+        listed(raw::planner_chained_cell_words, d, &axes, most, d as usize + 1, need)
     }
 
     fn classed(&self, call: Classing) -> Result<Vec<ClassVertex>, Refusal> {
         let (d, axes) = self.codes();
-        let n = self.corners_before_six();
-        let (mut classes, mut room) = (vec![0; n], vec![0; n]);
+        let [mut classes, mut room] = needed(raw::planner_need_chained_classes, d, self.chained_corners()).map(|n| vec![0; n]);
         said(unsafe { call(d, axes.as_ptr(), axes.len(), classes.as_mut_ptr(), classes.len(), room.as_mut_ptr(), room.len()) })?;
         let points = self.axes.iter().map(|a| a.cells as usize + 1).product();
         classes.truncate(points);

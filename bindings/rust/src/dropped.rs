@@ -1,5 +1,5 @@
 //! Cells dropped from a mesh.
-use crate::complex::{corners, plain};
+use crate::complex::needed;
 use crate::{raw, Refusal};
 
 /// What stays of a mesh.
@@ -24,10 +24,8 @@ pub struct Kept {
 /// assert_eq!(planner::drop_cells(2, &[0, 1, 2], &[0]).unwrap_err().number, 2);
 /// ```
 pub fn drop_cells(d: u32, words: &[u32], gone: &[u32]) -> Result<Kept, Refusal> {
-    let n = corners(d, words);
-    let mut room = plain(d, n).map(|n| vec![0u32; n]);
-    let [keys, rows, spare, counts] = &mut room;
-    let (mut kept, mut old, mut vertices) = (vec![0; n], vec![0; n], 0);
+    let [mut kept, mut old, mut keys, mut rows, mut spare, mut counts] = needed(raw::planner_need_drop_cells, d, words.len()).map(|n| vec![0u32; n]);
+    let mut vertices = 0;
     let count = crate::answer::said(unsafe {
         raw::planner_drop_cells(
             d, words.as_ptr(), words.len(), gone.as_ptr(), gone.len(), kept.as_mut_ptr(), kept.len(), old.as_mut_ptr(), old.len(), keys.as_mut_ptr(), keys.len(), rows.as_mut_ptr(), rows.len(),

@@ -1,5 +1,5 @@
 //! A band as a map file.
-use crate::complex::with_room;
+use crate::complex::{needed, with_room};
 use crate::{raw, Grid, Refusal};
 
 impl Grid {
@@ -22,10 +22,9 @@ impl Grid {
     /// ```
     pub fn geojson(&self, south: i32, north: i32) -> Result<String, Refusal> {
         let (d, axes) = self.codes();
-        let n = self.corners();
-        let mut bytes = vec![0u8; 43 + 92 * n];
+        let [most, need @ ..] = needed::<5>(raw::planner_need_geojson, d, self.corners());
+        let mut bytes = vec![0u8; most];
         let call = raw::planner_geojson;
-        let need = [d as usize * n, n, n, n];
         let count = with_room!(call, need, d, south, north, axes.as_ptr(), axes.len(), bytes.as_mut_ptr(), bytes.len())?;
         bytes.truncate(count as usize);
         Ok(String::from_utf8(bytes).expect("the file is ASCII"))

@@ -180,16 +180,10 @@ impl Grid {
         said(unsafe { raw::planner_grid_corners(d, axes.as_ptr(), axes.len()) }).map_or(0, |n| n as usize)
     }
 
-    /// How many numbers the words have; 0 where there are more words than the limit, which is refused before the working lists are tested.
-    pub(crate) fn corners_before_six(&self) -> usize {
-        let boxes = self.axes.iter().fold(1u64, |n, a| n.saturating_mul(u64::from(a.cells)));
-        let each = [0, 1, 2, 6].get(self.axes.len()).copied().unwrap_or(0);
-        let words = boxes.saturating_mul(each);
-        if words <= 4096 {
-            words as usize * (self.axes.len() + 1)
-        } else {
-            0
-        }
+    /// The same for honest gluing, which asks 6 of its own classes and later.
+    pub(crate) fn chained_corners(&self) -> usize {
+        let (d, axes) = self.codes();
+        said(unsafe { raw::planner_chained_corners(d, axes.as_ptr(), axes.len()) }).map_or(0, |n| n as usize)
     }
 
     /// The cells in colex order, and an order of them exactly where no two words sort to one cell and all facets agree.

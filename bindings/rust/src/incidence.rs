@@ -1,5 +1,5 @@
 //! Faces by dimension, the boundary operator between two dimensions, and the cells at each vertex.
-use crate::complex::{corners, plain, with_room};
+use crate::complex::{needed, with_room};
 use crate::{raw, Refusal};
 
 /// One entry of a boundary operator.
@@ -13,30 +13,16 @@ pub struct Entry {
     pub coface: u32,
 }
 
-/// How many faces of dimension e a cell of dimension d has.
-fn each(d: usize, e: usize) -> usize {
-    (0..=e).fold(1, |n, i| n * (d + 1 - i) / (i + 1))
-}
-
-/// What the calls on faces need of the working lists.
-fn face_need(d: u32, n: usize) -> [usize; 4] {
-    let d = (d as usize).min(8);
-    let m = n / (d + 1);
-    let rows = (0..=d).map(|e| each(d, e) * (e + 1)).max().unwrap_or(1) * m;
-    let keys = (0..=d).map(|e| each(d, e) * (e + 1) * e).max().unwrap_or(1).max(d + 1) * m;
-    [keys, rows, rows, rows]
-}
-
 /// The cells at each vertex, rising, by their places in the list of [`cells`](crate::cells).
 ///
 /// ```
 /// assert_eq!(planner::incidence(2, &[0, 1, 2, 1, 2, 3]).unwrap(), [vec![0], vec![0, 1], vec![0, 1], vec![1]]);
 /// ```
 pub fn incidence(d: u32, words: &[u32]) -> Result<Vec<Vec<u32>>, Refusal> {
-    let n = corners(d, words);
-    let (mut starts, mut touching) = (vec![0; n + 1], vec![0; n]);
+    let [most_starts, most, need @ ..] = needed::<6>(raw::planner_need_incidence, d, words.len());
+    let (mut starts, mut touching) = (vec![0; most_starts], vec![0; most]);
     let call = raw::planner_incidence;
-    let count = with_room!(call, plain(d, n), d, words.as_ptr(), words.len(), starts.as_mut_ptr(), starts.len(), touching.as_mut_ptr(), touching.len())?;
+    let count = with_room!(call, need, d, words.as_ptr(), words.len(), starts.as_mut_ptr(), starts.len(), touching.as_mut_ptr(), touching.len())?;
     Ok((0..count as usize).map(|v| touching[starts[v] as usize..starts[v + 1] as usize].to_vec()).collect())
 }
 
@@ -47,8 +33,8 @@ pub fn incidence(d: u32, words: &[u32]) -> Result<Vec<Vec<u32>>, Refusal> {
 /// assert_eq!(planner::faces(2, 3, &[0, 1, 2]).unwrap_err().number, 24);
 /// ```
 pub fn faces(d: u32, k: u32, words: &[u32]) -> Result<Vec<u32>, Refusal> {
-    let need = face_need(d, corners(d, words));
-    let mut out = vec![0; need[1]];
+    let [most, need @ ..] = needed::<5>(raw::planner_need_faces, d, words.len());
+    let mut out = vec![0; most];
     let call = raw::planner_faces;
     let count = with_room!(call, need, d, k, words.as_ptr(), words.len(), out.as_mut_ptr(), out.len())?;
     out.truncate(count as usize * (k as usize + 1));
@@ -62,8 +48,8 @@ pub fn faces(d: u32, k: u32, words: &[u32]) -> Result<Vec<u32>, Refusal> {
 /// assert_eq!(edge.iter().map(|e| (e.sign, e.face, e.coface)).collect::<Vec<_>>(), [(1, 1, 0), (-1, 0, 0)]);
 /// ```
 pub fn boundary(d: u32, k: u32, words: &[u32]) -> Result<Vec<Entry>, Refusal> {
-    let need = face_need(d, corners(d, words));
-    let (mut signs, mut faces, mut cofaces) = (vec![0i32; need[1]], vec![0u32; need[1]], vec![0u32; need[1]]);
+    let [a, b, c, need @ ..] = needed::<7>(raw::planner_need_boundary, d, words.len());
+    let (mut signs, mut faces, mut cofaces) = (vec![0i32; a], vec![0u32; b], vec![0u32; c]);
     let call = raw::planner_boundary;
     let count = with_room!(
         call, need, d, k, words.as_ptr(), words.len(), signs.as_mut_ptr(), signs.len(), faces.as_mut_ptr(), faces.len(), cofaces.as_mut_ptr(), cofaces.len()
@@ -78,8 +64,8 @@ pub fn boundary(d: u32, k: u32, words: &[u32]) -> Result<Vec<Entry>, Refusal> {
 /// assert_eq!(file, "%%MatrixMarket matrix coordinate integer general\n2 1 2\n2 1 1\n1 1 -1\n");
 /// ```
 pub fn matrix_market(d: u32, k: u32, words: &[u32]) -> Result<String, Refusal> {
-    let need = face_need(d, corners(d, words));
-    let mut bytes = vec![0u8; 83 + 34 * need[1]];
+    let [most, need @ ..] = needed::<5>(raw::planner_need_matrix_market, d, words.len());
+    let mut bytes = vec![0u8; most];
     let call = raw::planner_matrix_market;
     let count = with_room!(call, need, d, k, words.as_ptr(), words.len(), bytes.as_mut_ptr(), bytes.len())?;
     bytes.truncate(count as usize);

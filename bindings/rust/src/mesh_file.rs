@@ -1,5 +1,5 @@
 //! Mesh files: a mesh's words and births as bytes, to be carried home and read again.
-use crate::complex::{corners, with_room};
+use crate::complex::with_room;
 use crate::{raw, Refined, Refusal};
 
 /// A vertex that a refinement made.
@@ -48,11 +48,6 @@ impl Refined {
     }
 }
 
-/// What both calls need of the working lists for n corners of words of dimension d.
-fn room(d: u32, n: usize) -> [usize; 4] {
-    [n * (d as usize).clamp(1, 3), n, n, n]
-}
-
 /// Writes the file of a mesh. Refused with 22 where its lists break the rules of a mesh file.
 ///
 /// ```
@@ -63,21 +58,18 @@ fn room(d: u32, n: usize) -> [usize; 4] {
 /// assert_eq!(write_mesh(&Mesh { d: 1, words: vec![1, 2, 0, 1], births: vec![] }).unwrap_err().number, 22);
 /// ```
 pub fn write_mesh(mesh: &Mesh) -> Result<Vec<u8>, Refusal> {
-    let n = corners(mesh.d, &mesh.words);
     let births: Vec<u32> = mesh.births.iter().flat_map(|birth| [birth.number, birth.r, birth.pairs.len() as u32]).collect();
     let pairs: Vec<u32> = mesh.births.iter().flat_map(|birth| birth.pairs.iter().flat_map(|pair| [pair.0, pair.1])).collect();
-    let mut bytes = vec![0u8; 16 + 10 * n + 5 * births.len() + 3 * pairs.len()];
+    let mut need = [0usize; 5];
+    unsafe { raw::planner_need_write_mesh(mesh.d, mesh.words.len(), births.len(), pairs.len(), need.as_mut_ptr()) };
+    let [most, need @ ..] = need;
+    let mut bytes = vec![0u8; most];
     let size = with_room!(
-        raw::planner_write_mesh, room(mesh.d, n), mesh.d, mesh.words.as_ptr(), mesh.words.len(), births.as_ptr(), births.len(), pairs.as_ptr(), pairs.len(), bytes.as_mut_ptr(), bytes.len()
+        raw::planner_write_mesh, need, mesh.d, mesh.words.as_ptr(), mesh.words.len(), births.as_ptr(), births.len(), pairs.as_ptr(), pairs.len(), bytes.as_mut_ptr(), bytes.len()
     )?;
     bytes.truncate(size as usize);
     Ok(bytes)
 }
-
-/// The most numbers that the lists of an accepted file have: the lists below are as long as the file's length and these allow, whatever its header says.
-const MOST_WORDS: usize = 4 * 4096;
-const MOST_BIRTHS: usize = 3 * 4096;
-const MOST_PAIRS: usize = 2 * 64 * 4096;
 
 /// Reads a mesh file. Refused with 20 where it ends too soon, 21 for a record of an unknown kind, 22 for anything else that is wrong with its bytes; then as a cell list is.
 ///
@@ -90,11 +82,10 @@ const MOST_PAIRS: usize = 2 * 64 * 4096;
 /// assert_eq!(read_mesh(&[0; 4]).unwrap_err().number, 22);
 /// ```
 pub fn read_mesh(bytes: &[u8]) -> Result<Mesh, Refusal> {
-    let n = (bytes.len() / 4).min(MOST_WORDS);
-    let (mut words, mut births, mut pairs) = (vec![0u32; n], vec![0u32; (bytes.len() / 8).min(MOST_BIRTHS)], vec![0u32; (bytes.len() / 3).min(MOST_PAIRS)]);
+    let mut need = [0usize; 7];
+    unsafe { raw::planner_need_read_mesh(bytes.len(), need.as_mut_ptr()) };
+    let [mut words, mut births, mut pairs, mut keys, mut rows, mut spare, mut counts] = need.map(|n| vec![0u32; n]);
     let mut shape = [0u32; 3];
-    let mut lists = room(3, n).map(|n| vec![0u32; n]);
-    let [keys, rows, spare, counts] = &mut lists;
     let cells = crate::answer::said(unsafe {
         raw::planner_read_mesh(
             bytes.as_ptr(), bytes.len(), words.as_mut_ptr(), words.len(), births.as_mut_ptr(), births.len(), pairs.as_mut_ptr(), pairs.len(), keys.as_mut_ptr(), keys.len(),

@@ -34,6 +34,7 @@ extern "C" {
     pub fn planner_refine(d: u32, r: u32, words: *const u32, words_len: usize, out_cells: *mut u32, out_cells_len: usize, out_words: *mut u32, out_words_len: usize, parents: *mut u32, parents_len: usize, jacobians: *mut f64, jacobians_len: usize, wholes: *mut i32, wholes_len: usize, birth_vertices: *mut u32, birth_vertices_len: usize, birth_weights: *mut u32, birth_weights_len: usize, birth_shares: *mut f64, birth_shares_len: usize, cells: *mut u32, cells_len: usize, along: *mut u32, along_len: usize, pattern: *mut u32, pattern_len: usize, keys: *mut u32, keys_len: usize, rows: *mut u32, rows_len: usize, spare: *mut u32, spare_len: usize, counts: *mut u32, counts_len: usize, sorted: *mut u32, sorted_len: usize, firsts: *mut u32, firsts_len: usize, buckets: *mut u32, buckets_len: usize, vertices: *mut u32) -> u64;
     pub fn planner_refine_with(d: u32, r: u32, words: *const u32, words_len: usize, order: *const u32, order_len: usize, out_cells: *mut u32, out_cells_len: usize, out_words: *mut u32, out_words_len: usize, parents: *mut u32, parents_len: usize, jacobians: *mut f64, jacobians_len: usize, wholes: *mut i32, wholes_len: usize, birth_vertices: *mut u32, birth_vertices_len: usize, birth_weights: *mut u32, birth_weights_len: usize, birth_shares: *mut f64, birth_shares_len: usize, cells: *mut u32, cells_len: usize, along: *mut u32, along_len: usize, pattern: *mut u32, pattern_len: usize, keys: *mut u32, keys_len: usize, rows: *mut u32, rows_len: usize, spare: *mut u32, spare_len: usize, counts: *mut u32, counts_len: usize, sorted: *mut u32, sorted_len: usize, firsts: *mut u32, firsts_len: usize, buckets: *mut u32, buckets_len: usize, vertices: *mut u32) -> u64;
     pub fn planner_grid_corners(d: u32, axes: *const u32, axes_len: usize) -> u64;
+    pub fn planner_chained_corners(d: u32, axes: *const u32, axes_len: usize) -> u64;
     pub fn planner_need_cell_words(d: u32, n: usize, need: *mut usize);
     pub fn planner_need_triangulate_ordered(d: u32, n: usize, need: *mut usize);
     pub fn planner_need_edge_lengths_sq(d: u32, n: usize, need: *mut usize);
@@ -45,6 +46,15 @@ extern "C" {
     pub fn planner_need_orient_by(d: u32, n: usize, need: *mut usize);
     pub fn planner_need_ordering(d: u32, n: usize, need: *mut usize);
     pub fn planner_need_induced_orientation(d: u32, n: usize, need: *mut usize);
+    pub fn planner_need_geojson(d: u32, n: usize, need: *mut usize);
+    pub fn planner_need_chained_classes(d: u32, n: usize, need: *mut usize);
+    pub fn planner_need_incidence(d: u32, n: usize, need: *mut usize);
+    pub fn planner_need_faces(d: u32, n: usize, need: *mut usize);
+    pub fn planner_need_boundary(d: u32, n: usize, need: *mut usize);
+    pub fn planner_need_matrix_market(d: u32, n: usize, need: *mut usize);
+    pub fn planner_need_drop_cells(d: u32, n: usize, need: *mut usize);
+    pub fn planner_need_write_mesh(d: u32, n: usize, births_len: usize, pairs_len: usize, need: *mut usize);
+    pub fn planner_need_read_mesh(bytes_len: usize, need: *mut usize);
     pub fn planner_drop_cells(d: u32, words: *const u32, words_len: usize, gone: *const u32, gone_len: usize, kept: *mut u32, kept_len: usize, old: *mut u32, old_len: usize, keys: *mut u32, keys_len: usize, rows: *mut u32, rows_len: usize, spare: *mut u32, spare_len: usize, counts: *mut u32, counts_len: usize, vertices: *mut u32) -> u64;
     pub fn planner_incidence(d: u32, words: *const u32, words_len: usize, starts: *mut u32, starts_len: usize, touching: *mut u32, touching_len: usize, keys: *mut u32, keys_len: usize, rows: *mut u32, rows_len: usize, spare: *mut u32, spare_len: usize, counts: *mut u32, counts_len: usize) -> u64;
     pub fn planner_faces(d: u32, k: u32, words: *const u32, words_len: usize, faces: *mut u32, faces_len: usize, keys: *mut u32, keys_len: usize, rows: *mut u32, rows_len: usize, spare: *mut u32, spare_len: usize, counts: *mut u32, counts_len: usize) -> u64;

@@ -99,7 +99,7 @@ fn refined(d: u32, words: &[u32], order: Option<&[u32]>, r: u32, by_steps: bool)
     let (mut out_cells, mut out_words, mut parents) = (vec![0u32; k], vec![0u32; k], vec![0u32; c]);
     let (mut jacobians, mut wholes) = (vec![0.0f64; 9 * c], vec![0i32; 9 * c]);
     let (mut vertices, mut weights, mut shares) = (vec![0u32; births], vec![0u32; births], vec![0.0f64; births]);
-    let mut room = [n, n, size * k, 4 * n + 8 * k, n + k, n + k, n + k + 65, k, c, 4096].map(|n| vec![0u32; n]);
+    let mut room = [n, n, size * k, 4 * n + 8 * k, n + k, n + k, n + k + 65, k, c, n + k].map(|n| vec![0u32; n]);
     let [a, b, p, e, o, s, t, u, f, v] = &mut room;
     let mut total = [0u32];
     macro_rules! call {

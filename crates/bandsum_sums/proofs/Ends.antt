@@ -49,10 +49,11 @@ use Rattle.grid_order.specs.Promise.Ends.{crowded as order-crowded, short as or
 use Rattle.grid_order.specs.Promise as Order
 use Rattle.grid_order.specs.Promise.{Handed, nothing, orderRoom, HandsOut, TriangulateOrdered}
 use Rattle.bandsum_lines.specs.declared.Summary.{Summary}
+use Rattle.refusal.specs.Told.{countOf}
 use Rattle.bandsum_sums.specs.declared.Sum.the-variants.{Told, Refused}
 use Rattle.bandsum_sums.specs.Promise.{SidesOf, two, one, Sound, SumsOf}
 use Rattle.bandsum_sums.specs.Promise as Promise
-use Rattle.bandsum_sums.specs.Work.{mostCorners, mostListed, countOf, sidesAs, Triangulates, Glued, HasWords, HasCells, Tells}
+use Rattle.bandsum_sums.specs.Work.{bandCorners, bandListed, sidesAs, Triangulates, Glued, HasWords, HasCells, Tells}
 use Rattle.bandsum_sums.specs.Work as Work
 use Rattle.bandsum_sums.proofs.Bounds.{corners-most, words-most, size-most, cells-corners, edges-fit, border-fits}
 
@@ -89,20 +90,20 @@ module _ (g : Grid) (fine : checkOf g ≡ Answer.Fine) where
   pub words-fine : answerOf (g .d) (flatWords g) ≡ Answer.Fine
   words-fine = passed-fine (g .d) (flatWords g) (words-pass g fine)
 
-  keys-most : keyRoom (g .d) (cornersOf g) ≤ mostListed
+  keys-most : keyRoom (g .d) (cornersOf g) ≤ bandListed
   keys-most = omega (arith, room-most (g .d) (cornersOf g) (dim g fine), corners-most g fine)
 
-  pub grid-roomy : (keys rows spare counts : List ℕ) → mostListed ≤ length keys → mostCorners ≤ length rows → mostCorners ≤ length spare → mostCorners ≤ length counts → Roomy (gridNeed g) (lengths keys rows spare counts)
+  pub grid-roomy : (keys rows spare counts : List ℕ) → bandListed ≤ length keys → bandCorners ≤ length rows → bandCorners ≤ length spare → bandCorners ≤ length counts → Roomy (gridNeed g) (lengths keys rows spare counts)
   grid-roomy keys rows spare counts k r s c =
       record { in-keys = omega (arith, keys-most); in-rows = omega (arith, corners-most g fine); in-spare = omega (arith, corners-most g fine); in-counts = omega (arith, corners-most g fine) }
 
-  pub order-roomy : (keys rows spare counts : List ℕ) → mostListed + mostCorners + mostCorners ≤ length keys → mostCorners ≤ length rows → mostCorners ≤ length spare → mostCorners ≤ length counts → Roomy (orderRoom g) (lengths keys rows spare counts)
+  pub order-roomy : (keys rows spare counts : List ℕ) → bandListed + bandCorners + bandCorners ≤ length keys → bandCorners ≤ length rows → bandCorners ≤ length spare → bandCorners ≤ length counts → Roomy (orderRoom g) (lengths keys rows spare counts)
   order-roomy keys rows spare counts k r s c =
       record { in-keys = omega (arith, keys-most, corners-most g fine); in-rows = omega (arith, corners-most g fine); in-spare = omega (arith, corners-most g fine); in-counts = omega (arith, corners-most g fine) }
 
-  pub edges-roomy : (n : ℕ) → n ≡ cornersOf g → (keys rows spare counts : List ℕ) → mostListed + mostListed ≤ length keys → mostListed ≤ length rows → mostListed ≤ length spare → mostListed ≤ length counts → Roomy (edgeNeed (g .d) n) (lengths keys rows spare counts)
+  pub edges-roomy : (n : ℕ) → n ≡ cornersOf g → (keys rows spare counts : List ℕ) → bandListed + bandListed ≤ length keys → bandListed ≤ length rows → bandListed ≤ length spare → bandListed ≤ length counts → Roomy (edgeNeed (g .d) n) (lengths keys rows spare counts)
   edges-roomy n e keys rows spare counts k r s c =
-      let m : keyRoom (g .d) n ≤ mostListed = rw e keys-most in
+      let m : keyRoom (g .d) n ≤ bandListed = rw e keys-most in
       record { in-keys = omega arith; in-rows = omega arith; in-spare = omega arith; in-counts = omega arith }
 
   pub taken-counted : countOf (nverticesOf g) ≡ verticesOf g
@@ -110,7 +111,7 @@ module _ (g : Grid) (fine : checkOf g ≡ Answer.Fine) where
   taken-counted = rw fine
 
 -- ---- the order
-module _ (g : Grid) (cells order keys rows spare counts : List ℕ) (lc : mostCorners ≤ length cells) (lo : mostCorners ≤ length order) (lk : mostListed + mostCorners + mostCorners ≤ length keys) (lr : mostCorners ≤ length rows) (ls : mostCorners ≤ length spare) (ln : mostCorners ≤ length counts) where
+module _ (g : Grid) (cells order keys rows spare counts : List ℕ) (lc : bandCorners ≤ length cells) (lo : bandCorners ≤ length order) (lk : bandListed + bandCorners + bandCorners ≤ length keys) (lr : bandCorners ≤ length rows) (ls : bandCorners ≤ length spare) (ln : bandCorners ≤ length counts) where
   order-ends : (r : Triangulated) (h : Handed) → checkOf g ≡ Answer.Fine → Order.Ends g (length cells) (length order) r h → Triangulates g r
   order-ends r h e (order-crowded x) = Work.crowded e x
   order-ends r h e (order-short f l) = absurd (let x : ⊥ = omega (arith, size-most g e) in x)
@@ -131,7 +132,7 @@ pub record Written (g : Grid) (r : Counted) (words words′ : List ℕ) : Type 0
   pub many : countOf r ≡ cellCount g
   pub is : words′ ≡ onto (flatWords g) words
 
-module _ (g : Grid) (sound : Sound g) (words keys rows spare counts : List ℕ) (lw : mostCorners ≤ length words) (lk : mostListed ≤ length keys) (lr : mostCorners ≤ length rows) (ls : mostCorners ≤ length spare) (ln : mostCorners ≤ length counts) where
+module _ (g : Grid) (sound : Sound g) (words keys rows spare counts : List ℕ) (lw : bandCorners ≤ length words) (lk : bandListed ≤ length keys) (lr : bandCorners ≤ length rows) (ls : bandCorners ≤ length spare) (ln : bandCorners ≤ length counts) where
   words-ends : (r : Counted) (h words′ : List ℕ) → words′ ≡ onto h words → WordsEnd g (length words) r h → Written g r words words′
   words-ends r h words′ e (mesh-crowded x) = absurd (sound .free x)
   words-ends r h words′ e (mesh-short f l) = absurd (let x : ⊥ = omega (arith, words-most g (sound .taken)) in x)
@@ -142,7 +143,7 @@ module _ (g : Grid) (sound : Sound g) (words keys rows spare counts : List ℕ) 
       words-ends r (t .handed) words′ (t .result)
       (comes-end Counted.Refused [] (checkOf g) (gridNeed g) (lengths keys rows spare counts) (WordsEnd g (length words)) (sound .taken) (grid-roomy g (sound .taken) keys rows spare counts lk lr ls ln) (t .comes))
 
-pub written-glued : (g : Grid) (r : Counted) (words words′ : List ℕ) (n : ℕ) → Sound g → mostCorners ≤ length words → Written g r words words′ → n ≡ countOf r * (g .d + 1) → Glued g n words′
+pub written-glued : (g : Grid) (r : Counted) (words words′ : List ℕ) (n : ℕ) → Sound g → bandCorners ≤ length words → Written g r words words′ → n ≡ countOf r * (g .d + 1) → Glued g n words′
 written-glued g r words words′ n sound l w e =
     let m : n ≡ length (flatWords g) = e ∙ corners-are g (sound .taken) (countOf r) (w .many) ∙ sym (words-long g (sound .taken)) in
     record {
@@ -150,11 +151,11 @@ written-glued g r words words′ n sound l w e =
       begins = ap (take n) (w .is) ∙ take-at (flatWords g) (drop (length (flatWords g)) words) n (sym m);
     }
 
-pub words-small : (g : Grid) (r : Counted) (words words′ : List ℕ) (n : ℕ) → Sound g → Written g r words words′ → n ≡ countOf r → n * (g .d + 1) ≤ mostCorners
+pub words-small : (g : Grid) (r : Counted) (words words′ : List ℕ) (n : ℕ) → Sound g → Written g r words words′ → n ≡ countOf r → n * (g .d + 1) ≤ bandCorners
 words-small g r words words′ n sound w e = omega (arith, corners-are g (sound .taken) n (e ∙ w .many), corners-most g (sound .taken))
 
 -- ---- edges and border of words that are those of the grid
-module _ (g : Grid) (ws : List ℕ) (w : HasWords g ws) (r : Counted) (out out′ keys keys′ rows rows′ spare spare′ counts counts′ : List ℕ) (lo : mostListed ≤ length out) where
+module _ (g : Grid) (ws : List ℕ) (w : HasWords g ws) (r : Counted) (out out′ keys keys′ rows rows′ spare spare′ counts counts′ : List ℕ) (lo : bandListed ≤ length out) where
   fine-words : answerOf (g .d) ws ≡ Answer.Fine
   fine-words = rw (w .same) (words-fine g (w .sound .taken))
 
@@ -164,7 +165,7 @@ module _ (g : Grid) (ws : List ℕ) (w : HasWords g ws) (r : Counted) (out out�
   long-words : length ws ≡ cornersOf g
   long-words = ap length (w .same) ∙ words-long g (w .sound .taken)
 
-  pub edges-counted : mostListed + mostListed ≤ length keys → mostListed ≤ length rows → mostListed ≤ length spare → mostListed ≤ length counts →
+  pub edges-counted : bandListed + bandListed ≤ length keys → bandListed ≤ length rows → bandListed ≤ length spare → bandListed ≤ length counts →
       Listed (edgeNeed (g .d) (length ws)) (edgesOf (Complex.cellsOf (g .d) ws)) (g .d) ws r out out′ keys keys′ rows rows′ spare spare′ counts counts′ → countOf r ≡ length (edgesOf (gluedCells g))
   edges-counted lk lr ls ln t =
       let e : edgesOf (Complex.cellsOf (g .d) ws) ≡ edgesOf (gluedCells g) = ap (λ (l : List ℕ). edgesOf (Complex.cellsOf (g .d) l)) (w .same) in
@@ -172,7 +173,7 @@ module _ (g : Grid) (ws : List ℕ) (w : HasWords g ws) (r : Counted) (out out�
       (edges-roomy g (w .sound .taken) (length ws) long-words keys rows spare counts lk lr ls ln) (omega (arith, ap (λ (l : List (List ℕ)). length (flat l)) e, edges-fit g (w .sound .taken))) t
       ∙ ap length e
 
-  pub border-counted : mostListed ≤ length keys → mostCorners ≤ length rows → mostCorners ≤ length spare → mostCorners ≤ length counts →
+  pub border-counted : bandListed ≤ length keys → bandCorners ≤ length rows → bandCorners ≤ length spare → bandCorners ≤ length counts →
       Listed (needOf (g .d) (length ws)) (borderOf (g .d) (Complex.cellsOf (g .d) ws)) (g .d) ws r out out′ keys keys′ rows rows′ spare spare′ counts counts′ → countOf r ≡ length (borderOf (g .d) (gluedCells g))
   border-counted lk lr ls ln t =
       let e : borderOf (g .d) (Complex.cellsOf (g .d) ws) ≡ borderOf (g .d) (gluedCells g) = ap (λ (l : List ℕ). borderOf (g .d) (Complex.cellsOf (g .d) l)) (w .same) in
@@ -181,7 +182,7 @@ module _ (g : Grid) (ws : List ℕ) (w : HasWords g ws) (r : Counted) (out out�
       ∙ ap length e
 
 -- ---- the sides, by the signs of words that are those of the grid
-module _ (g : Grid) (ws : List ℕ) (w : HasWords g ws) (signs : List ℤ) (keys rows spare counts : List ℕ) (lg : mostCorners ≤ length signs) (lk : mostListed ≤ length keys) (lr : mostCorners ≤ length rows) (ls : mostCorners ≤ length spare) (ln : mostCorners ≤ length counts) where
+module _ (g : Grid) (ws : List ℕ) (w : HasWords g ws) (signs : List ℤ) (keys rows spare counts : List ℕ) (lg : bandCorners ≤ length signs) (lk : bandListed ≤ length keys) (lr : bandCorners ≤ length rows) (ls : bandCorners ≤ length spare) (ln : bandCorners ≤ length counts) where
   sides-end : (r : Coherence) (h : List ℤ) → Signs.Ends (g .d) (gluedCells g) (length signs) r h → SidesOf g (sidesAs r)
   sides-end r h (signs-crowded x) = absurd (w .sound .free x)
   sides-end r h (one-sided f n) = one n

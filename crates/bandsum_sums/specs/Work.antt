@@ -2,11 +2,10 @@
 use mathlib.Core.Bool.{Bool}
 use mathlib.Core.List.{List}
 use mathlib.Core.Path.{_≡_}
-use Prim.Native.Nat.{ℕ, _≤_}
+use Prim.Native.Nat.{ℕ, suc, _*_, _≤_}
 use lib.ListN.{length, take}
 use Rattle.refusal.specs.declared.Answer.the-variants as Answer
-use Rattle.refusal.specs.declared.Counted.{Counted}
-use Rattle.refusal.specs.declared.Counted.the-variants as Counted
+use Rattle.refusal.specs.Limits.{bandDimension, bandCells}
 use Rattle.refusal.specs.Table.{crowdedFacet}
 use Rattle.complex.specs.Facets.{Crowded}
 use Rattle.orientation.specs.declared.Coherence.{Coherence}
@@ -21,18 +20,13 @@ use Rattle.grid_order.specs.Promise.{HandsOut}
 use Rattle.bandsum_lines.specs.declared.Summary.{Summary}
 use Rattle.bandsum_sums.specs.Promise.{Sound, SidesOf, summaryOf}
 
--- the most corners that the words of a grid have
-abbrev pub mostCorners : ℕ
-mostCorners = 16384
+-- the most corners that the words of a grid have within bandsum's limits
+abbrev pub bandCorners : ℕ
+bandCorners = bandCells * suc bandDimension
 
 -- the most numbers that its edges have, or its border
-abbrev pub mostListed : ℕ
-mostListed = 49152
-
--- the number that is counted; 0 for a refusal
-abbrev pub countOf : Counted → ℕ
-countOf (Counted.Count n) = n
-countOf (Counted.Refused n p) = 0
+abbrev pub bandListed : ℕ
+bandListed = bandDimension * bandCorners
 
 -- the sides, by what `orientation` says
 abbrev pub sidesAs : Coherence → ℕ
@@ -50,7 +44,7 @@ pub data Triangulates (g : Grid) : Triangulated → Type 0 where
 -- a list that holds the words of any grid
 pub record Fitting (g : Grid) (words : List ℕ) : Type 0 where
   pub sound : Sound g
-  pub long : mostCorners ≤ length words
+  pub long : bandCorners ≤ length words
 
 -- the list begins with the words of the grid, which have n numbers
 pub record Glued (g : Grid) (n : ℕ) (words : List ℕ) : Type 0 where

@@ -6,11 +6,12 @@
 ghost use mathlib.Core.Path.{_≡_};
 ghost use lib.ListN.{length};
 ghost use Rattle.refusal.specs.declared.Answer.the-variants.{Fine};
+ghost use Rattle.refusal.specs.Told.{countOf};
 ghost use Rattle.complex.specs.Skeleton.{edgesOf, borderOf};
 ghost use Rattle.quotient.specs.Shape.{checkOf, verticesOf};
 ghost use Rattle.grid_mesh.specs.Words.{gluedCells};
 ghost use Rattle.bandsum_sums.specs.Promise.{SidesOf, SumsOf, Printed};
-ghost use Rattle.bandsum_sums.specs.Work.{countOf, Triangulates, Fitting, Glued, HasWords, HasCells, Tells};
+ghost use Rattle.bandsum_sums.specs.Work.{Triangulates, Fitting, Glued, HasWords, HasCells, Tells};
 use bandsum_line::Line;
 use bandsum_lines::Summary;
 use grid_order::Triangulated;
@@ -19,14 +20,19 @@ use quotient::Grid;
 use refusal::Counted;
 use text::Text;
 
-pub const CORNERS: usize = 16384;
+// Bandsum's own limits: the same numbers as `bandDimension` and `bandCells`.
+const DIMENSION: usize = 3;
 
-pub const LISTED: usize = 49152;
+const CELLS: usize = 4096;
+
+pub const CORNERS: usize = CELLS * (DIMENSION + 1);
+
+pub const LISTED: usize = DIMENSION * CORNERS;
 
 // The keys of an order and of edges.
-pub const ORDER_KEYS: usize = 81920;
+pub const ORDER_KEYS: usize = LISTED + 2 * CORNERS;
 
-pub const EDGE_KEYS: usize = 98304;
+pub const EDGE_KEYS: usize = 2 * LISTED;
 
 // What is told of a grid, or the refusal with its number and place.
 pub enum Sum {

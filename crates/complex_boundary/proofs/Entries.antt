@@ -13,6 +13,8 @@ use Rattle.refusal.specs.declared.Counted.{Counted}
 use Rattle.refusal.specs.declared.Counted.the-variants.{Count, Refused}
 use Rattle.refusal.specs.Table.{crowdedFacet, tooShort}
 use Rattle.refusal.specs.Lent.{onto}
+use Rattle.lists.specs.Tables.{tab}
+use Rattle.lists.proofs.Tables.{length-tab, tab-ext, tab-more}
 use Rattle.lists.specs.Rows.{cut}
 use Rattle.lists.proofs.Rows.{cut-length, row-in, row-div, row-mod}
 use Rattle.multiindex.specs.Sign.{Sign, plus, minus, opposite, induced, signNumber}
@@ -28,27 +30,17 @@ use Rattle.complex_faces.proofs.Laws.{facets-of-faces}
 use Rattle.complex_faces.proofs.Shape.{cells-each, faces-cells}
 use Rattle.complex_descent.specs.Down.{Classed}
 use Rattle.complex_boundary.specs.Promise.{Within, outside, inside, GivesEntries, signs-short, faces-short, cofaces-short, entries-listed}
-use Rattle.complex_boundary.specs.Work.{each, Reached, EntryLists, EntriesHanded, EntriesWorked}
+use Rattle.complex_boundary.specs.Work.{Reached, EntryLists, EntriesHanded, EntriesWorked}
 
 -- ---- lists written from the front
-pub each-length : {A : Type 0} (n : ℕ) (f : ℕ → A) → length (each n f) ≡ n
-unfolding each
-each-length zero f = refl
-each-length (suc n) f = length-append (each n f) (f n ∷ []) ∙ omega (arith, each-length n f)
-
-pub each-more : {A : Type 0} (z : A) (f : ℕ → A) (d : List A) (i : ℕ) (a : A) → a ≡ f i → i < length d → set (each i f ++ drop i d) i a ≡ each (i + 1) f ++ drop (i + 1) d
-unfolding each
-each-more {A} z f d i a e h =
-    ap (λ (l : List A). set (each i f ++ l) i a) (drop-cons d i z h)
-    ∙ set-at (each i f) (getD d i z) (drop (suc i) d) a i (each-length i f)
-    ∙ sym (append-snoc (each i f) a (drop (suc i) d))
-    ∙ ap (λ (x : A). (each i f ++ (x ∷ [])) ++ drop (suc i) d) e
-    ∙ ap (λ (n : ℕ). each n f ++ drop n d) (sym (add-one i))
-
-each-ext : {A : Type 0} (n : ℕ) (f g : ℕ → A) → ((i : ℕ) → i < n → f i ≡ g i) → each n f ≡ each n g
-unfolding each
-each-ext zero f g h = refl
-each-ext {A} (suc n) f g h = ap (λ (l : List A). l ++ (f n ∷ [])) (each-ext n f g (λ i l. h i (omega arith))) ∙ ap (λ (x : A). each n g ++ (x ∷ [])) (h n (omega arith))
+pub tab-put : {A : Type 0} (z : A) (f : ℕ → A) (d : List A) (i : ℕ) (a : A) → a ≡ f i → i < length d → set (tab i f ++ drop i d) i a ≡ tab (i + 1) f ++ drop (i + 1) d
+tab-put {A} z f d i a e h =
+    ap (λ (l : List A). set (tab i f ++ l) i a) (drop-cons d i z h)
+    ∙ set-at (tab i f) (getD d i z) (drop (suc i) d) a i (length-tab i f)
+    ∙ sym (append-snoc (tab i f) a (drop (suc i) d))
+    ∙ ap (λ (x : A). (tab i f ++ (x ∷ [])) ++ drop (suc i) d) e
+    ∙ ap (λ (l : List A). l ++ drop (suc i) d) (sym (tab-more i f))
+    ∙ ap (λ (n : ℕ). tab n f ++ drop n d) (sym (add-one i))
 
 -- ---- signs by parity
 pub sign-even : (i : ℕ) → i % 2 ≡ 0 → signNumber (induced i) ≡ pos 1
@@ -74,27 +66,28 @@ module _ {A : Type 0} (g : Entry → A) (faces cofaces : List (List ℕ)) (n : �
   abbrev nth : ℕ → A
   nth x = g (entryAt faces (x / n) (getD cofaces (x / n) []) (x % n))
 
-  of-one : (c j : ℕ) → j ≤ n → each (c * n + j) nth ≡ each (c * n) nth ++ map g (entriesAt faces c (getD cofaces c []) j)
-  unfolding each entriesAt
-  of-one c zero h = ap (λ (x : ℕ). each x nth) (add-zero (c * n)) ∙ sym (append-nil (each (c * n) nth))
+  of-one : (c j : ℕ) → j ≤ n → tab (c * n + j) nth ≡ tab (c * n) nth ++ map g (entriesAt faces c (getD cofaces c []) j)
+  unfolding entriesAt
+  of-one c zero h = ap (λ (x : ℕ). tab x nth) (add-zero (c * n)) ∙ sym (append-nil (tab (c * n) nth))
   of-one c (suc j) h =
       let l : j < n = omega arith in
-      ap (λ (x : ℕ). each x nth) {x = c * n + suc j} {y = suc (c * n + j)} (omega arith)
+      ap (λ (x : ℕ). tab x nth) {x = c * n + suc j} {y = suc (c * n + j)} (omega arith)
+      ∙ tab-more (c * n + j) nth
       ∙ ap (λ (l : List A). l ++ (nth (c * n + j) ∷ [])) (of-one c j (omega arith))
-      ∙ append-assoc (each (c * n) nth) (map g (entriesAt faces c (getD cofaces c []) j)) (nth (c * n + j) ∷ [])
-      ∙ ap (λ (x : A). each (c * n) nth ++ (map g (entriesAt faces c (getD cofaces c []) j) ++ (x ∷ [])))
+      ∙ append-assoc (tab (c * n) nth) (map g (entriesAt faces c (getD cofaces c []) j)) (nth (c * n + j) ∷ [])
+      ∙ ap (λ (x : A). tab (c * n) nth ++ (map g (entriesAt faces c (getD cofaces c []) j) ++ (x ∷ [])))
       (ap (λ (x : ℕ). g (entryAt faces x (getD cofaces x []) ((c * n + j) % n))) (row-div c j n l) ∙ ap (λ (x : ℕ). g (entryAt faces c (getD cofaces c []) x)) (row-mod c j n l))
-      ∙ ap (λ (l : List A). each (c * n) nth ++ l) (sym (map-append g (entriesAt faces c (getD cofaces c []) j) (entryAt faces c (getD cofaces c []) j ∷ [])))
+      ∙ ap (λ (l : List A). tab (c * n) nth ++ l) (sym (map-append g (entriesAt faces c (getD cofaces c []) j) (entryAt faces c (getD cofaces c []) j ∷ [])))
 
-  pub entries-each : (m : ℕ) → ((c : ℕ) → c < m → length (getD cofaces c []) ≡ n) → map g (entriesBelow faces cofaces m) ≡ each (m * n) nth
-  unfolding entriesBelow each
-  entries-each zero h = ap (λ (x : ℕ). each x nth) (sym (zero-mul n))
-  entries-each (suc m) h =
+  pub entries-listing : (m : ℕ) → ((c : ℕ) → c < m → length (getD cofaces c []) ≡ n) → map g (entriesBelow faces cofaces m) ≡ tab (m * n) nth
+  unfolding entriesBelow
+  entries-listing zero h = ap (λ (x : ℕ). tab x nth) (sym (zero-mul n))
+  entries-listing (suc m) h =
       map-append g (entriesBelow faces cofaces m) (entriesAt faces m (getD cofaces m []) (length (getD cofaces m [])))
-      ∙ ap (λ (l : List A). l ++ map g (entriesAt faces m (getD cofaces m []) (length (getD cofaces m [])))) (entries-each m (λ c l. h c (omega arith)))
-      ∙ ap (λ (x : ℕ). each (m * n) nth ++ map g (entriesAt faces m (getD cofaces m []) x)) (h m (omega arith))
+      ∙ ap (λ (l : List A). l ++ map g (entriesAt faces m (getD cofaces m []) (length (getD cofaces m [])))) (entries-listing m (λ c l. h c (omega arith)))
+      ∙ ap (λ (x : ℕ). tab (m * n) nth ++ map g (entriesAt faces m (getD cofaces m []) x)) (h m (omega arith))
       ∙ sym (of-one m n (omega arith))
-      ∙ ap (λ (x : ℕ). each x nth) {x = m * n + n} {y = suc m * n} (omega (arith, suc-mul m n))
+      ∙ ap (λ (x : ℕ). tab x nth) {x = m * n + n} {y = suc m * n} (omega (arith, suc-mul m n))
 
 -- ---- from the classes of the facets
 module _ (d k : ℕ) (ws : List ℕ) (f : ℕ) (keys rows spare counts : List ℕ) (a : Reached d (suc k) ws f keys rows spare counts) (high : suc k ≤ d) (g : ℕ) (keys′ reps ids : List ℕ) (c : Classed (suc k) (cut (suc (suc k)) f rows) g keys′ reps ids) where
@@ -119,20 +112,20 @@ module _ (d k : ℕ) (ws : List ℕ) (f : ℕ) (keys rows spare counts : List �
       ∙ ap (λ (z : ℕ). numberOf (facesOf (cellsOf d ws) k) (facetAt (getD (facesOf (cellsOf d ws) (suc k)) ((x / suc (suc k) * suc (suc k) + (suc k - x % suc (suc k))) / suc (suc k)) []) z)) ei
       ∙ ap (λ (z : ℕ). numberOf (facesOf (cellsOf d ws) k) (facetAt (getD (facesOf (cellsOf d ws) (suc k)) z []) (x % suc (suc k)))) ec)
 
-  listed : {A : Type 0} (h : Entry → A) → map h (entriesOf (cellsOf d ws) (suc k)) ≡ each (f * suc (suc k)) (λ x. h (entryAt (facesOf (cellsOf d ws) k) (x / suc (suc k)) (getD (facesOf (cellsOf d ws) (suc k)) (x / suc (suc k)) []) (x % suc (suc k))))
+  listed : {A : Type 0} (h : Entry → A) → map h (entriesOf (cellsOf d ws) (suc k)) ≡ tab (f * suc (suc k)) (λ x. h (entryAt (facesOf (cellsOf d ws) k) (x / suc (suc k)) (getD (facesOf (cellsOf d ws) (suc k)) (x / suc (suc k)) []) (x % suc (suc k))))
   unfolding entriesOf
   listed {A} h =
-      entries-each h (facesOf (cellsOf d ws) k) (facesOf (cellsOf d ws) (suc k)) (suc (suc k)) (length (facesOf (cellsOf d ws) (suc k))) (λ c l. faces-cells d (cellsOf d ws) (a .cells) (suc k) .long c l)
-      ∙ ap (λ (z : ℕ). each (z * suc (suc k)) (λ x. h (entryAt (facesOf (cellsOf d ws) k) (x / suc (suc k)) (getD (facesOf (cellsOf d ws) (suc k)) (x / suc (suc k)) []) (x % suc (suc k))))) (a .many)
+      entries-listing h (facesOf (cellsOf d ws) k) (facesOf (cellsOf d ws) (suc k)) (suc (suc k)) (length (facesOf (cellsOf d ws) (suc k))) (λ c l. faces-cells d (cellsOf d ws) (a .cells) (suc k) .long c l)
+      ∙ ap (λ (z : ℕ). tab (z * suc (suc k)) (λ x. h (entryAt (facesOf (cellsOf d ws) k) (x / suc (suc k)) (getD (facesOf (cellsOf d ws) (suc k)) (x / suc (suc k)) []) (x % suc (suc k))))) (a .many)
 
   lists-are : EntryLists (suc k) f ids (entriesOf (cellsOf d ws) (suc k))
   lists-are =
       record {
-        signs-are = subst (λ (z : ℕ). signsIn (entriesOf (cellsOf d ws) (suc k)) ≡ each (f * z) (λ x. signNumber (induced (x % z)))) (sym (add-one (suc k))) (listed (λ e. e .sign));
+        signs-are = subst (λ (z : ℕ). signsIn (entriesOf (cellsOf d ws) (suc k)) ≡ tab (f * z) (λ x. signNumber (induced (x % z)))) (sym (add-one (suc k))) (listed (λ e. e .sign));
         faces-are =
-            subst (λ (z : ℕ). facesIn (entriesOf (cellsOf d ws) (suc k)) ≡ each (f * z) (λ x. getD ids (x / z * z + (suc k - x % z)) 0)) (sym (add-one (suc k)))
-            (listed (λ e. e .face) ∙ each-ext (f * suc (suc k)) (λ x. numberOf (facesOf (cellsOf d ws) k) (facetAt (getD (facesOf (cellsOf d ws) (suc k)) (x / suc (suc k)) []) (x % suc (suc k)))) (λ x. getD ids (x / suc (suc k) * suc (suc k) + (suc k - x % suc (suc k))) 0) face-is);
-        cofaces-are = subst (λ (z : ℕ). cofacesIn (entriesOf (cellsOf d ws) (suc k)) ≡ each (f * z) (λ x. x / z)) (sym (add-one (suc k))) (listed (λ e. e .coface));
+            subst (λ (z : ℕ). facesIn (entriesOf (cellsOf d ws) (suc k)) ≡ tab (f * z) (λ x. getD ids (x / z * z + (suc k - x % z)) 0)) (sym (add-one (suc k)))
+            (listed (λ e. e .face) ∙ tab-ext (f * suc (suc k)) (λ x. numberOf (facesOf (cellsOf d ws) k) (facetAt (getD (facesOf (cellsOf d ws) (suc k)) (x / suc (suc k)) []) (x % suc (suc k)))) (λ x. getD ids (x / suc (suc k) * suc (suc k) + (suc k - x % suc (suc k))) 0) face-is);
+        cofaces-are = subst (λ (z : ℕ). cofacesIn (entriesOf (cellsOf d ws) (suc k)) ≡ tab (f * z) (λ x. x / z)) (sym (add-one (suc k))) (listed (λ e. e .coface));
       }
 
 pub entry-lists : (d k : ℕ) (ws : List ℕ) (f : ℕ) (keys rows spare counts : List ℕ) → Reached d k ws f keys rows spare counts → 1 ≤ k → k ≤ d → (g : ℕ) (keys′ reps ids : List ℕ) → Classed k (cut (suc k) f rows) g keys′ reps ids → EntryLists k f ids (entriesOf (cellsOf d ws) k)
@@ -148,7 +141,7 @@ ids-long d (suc k) ws f keys rows spare counts a some g keys′ reps ids c =
 -- ---- handing out
 module _ (k f : ℕ) (ids : List ℕ) (es : List Entry) (a : EntryLists k f ids es) where
   many : length es ≡ f * (k + 1)
-  many = sym (length-map es (λ (e : Entry). e .sign)) ∙ ap length (a .signs-are) ∙ each-length (f * (k + 1)) (λ x. signNumber (induced (x % (k + 1))))
+  many = sym (length-map es (λ (e : Entry). e .sign)) ∙ ap length (a .signs-are) ∙ length-tab (f * (k + 1)) (λ x. signNumber (induced (x % (k + 1))))
 
   signs-many : length (signsIn es) ≡ f * (k + 1)
   signs-many = length-map es (λ (e : Entry). e .sign) ∙ many
@@ -170,9 +163,9 @@ module _ (k f : ℕ) (ids : List ℕ) (es : List Entry) (a : EntryLists k f ids 
     few-cofaces h = record { handed = ([], [], []); gives = cofaces-short (omega (arith, many)); signs-are = refl; faces-are = refl; cofaces-are = refl }
 
     pub all-handed : (signs′ : List ℤ) (faces′ cofaces′ : List ℕ) → f * (k + 1) ≤ length signs → f * (k + 1) ≤ length faces → f * (k + 1) ≤ length cofaces →
-        signs′ ≡ each (f * (k + 1)) (λ x. signNumber (induced (x % (k + 1)))) ++ drop (f * (k + 1)) signs →
-        faces′ ≡ each (f * (k + 1)) (λ x. getD ids (x / (k + 1) * (k + 1) + (k - x % (k + 1))) 0) ++ drop (f * (k + 1)) faces →
-        cofaces′ ≡ each (f * (k + 1)) (λ x. x / (k + 1)) ++ drop (f * (k + 1)) cofaces → EntriesHanded es (Count (f * (k + 1))) signs signs′ faces faces′ cofaces cofaces′
+        signs′ ≡ tab (f * (k + 1)) (λ x. signNumber (induced (x % (k + 1)))) ++ drop (f * (k + 1)) signs →
+        faces′ ≡ tab (f * (k + 1)) (λ x. getD ids (x / (k + 1) * (k + 1) + (k - x % (k + 1))) 0) ++ drop (f * (k + 1)) faces →
+        cofaces′ ≡ tab (f * (k + 1)) (λ x. x / (k + 1)) ++ drop (f * (k + 1)) cofaces → EntriesHanded es (Count (f * (k + 1))) signs signs′ faces faces′ cofaces cofaces′
     all-handed signs′ faces′ cofaces′ h i j p q r =
         record {
           handed = (signsIn es, facesIn es, cofacesIn es);

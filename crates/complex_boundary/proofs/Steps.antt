@@ -9,7 +9,8 @@ use native.Mathlib.Omega.{arith}
 use lib.ListN.{length, getD, take, drop}
 use Rattle.refusal.specs.declared.Counted.{Counted}
 use Rattle.refusal.specs.declared.Counted.the-variants.{Count, Refused}
-use Rattle.refusal.specs.Table.{crowdedFacet, tooShort}
+use Rattle.refusal.specs.Limits.{mostCells}
+use Rattle.refusal.specs.Table.{crowdedFacet, tooShort, badFaces}
 use Rattle.refusal.specs.Lent.{onto, lengths, Roomy}
 use Rattle.lists.specs.Rows.{flat, cut, rows as rows-of}
 use Rattle.lists.proofs.Flat.{flat-cut}
@@ -29,10 +30,10 @@ use Rattle.complex_faces.specs.Faces.{facesOf}
 use Rattle.complex_faces.proofs.Shape.{cells-each, faces-top}
 use Rattle.complex_descent.specs.Down.{perCell, Wide, Descending}
 use Rattle.complex_descent.proofs.Steps.{meeting, narrow, fits, few, faces-many}
-use Rattle.complex_boundary.specs.Need.{largest, faceRows, faceKeys, faceNeed}
+use Rattle.complex_boundary.specs.Need.{mostUpTo, faceRows, faceKeys, faceNeed}
 use Rattle.complex_boundary.specs.Promise.{Within, outside, inside}
 use Rattle.complex_boundary.specs.Work.{Reaching, Reached, FacesWorked}
-use Rattle.complex_boundary.proofs.Room.{largest-above, rows-most, keys-most}
+use Rattle.complex_boundary.proofs.Room.{largest-above, mostRows, mostKeys, rows-most, keys-most}
 
 -- ---- room
 module _ (d : ℕ) (ws keys rows spare counts : List ℕ) (w : Working (faceNeed d (length ws)) d ws keys rows spare counts) where
@@ -58,17 +59,17 @@ module _ (d : ℕ) (ws keys rows spare counts : List ℕ) (w : Working (faceNeed
             };
       }
 
-  few-words : length ws / suc d ≤ 4096
-  few-words = subst (λ (z : ℕ). length ws / z ≤ 4096) (add-one d) (w .passed .few)
+  few-words : length ws / suc d ≤ mostCells
+  few-words = subst (λ (z : ℕ). length ws / z ≤ mostCells) (add-one d) (w .passed .few)
 
   -- a number for each of at most as many cells as words
   times-most : (m x y : ℕ) → m ≤ length ws / suc d → x ≤ y → m * x ≤ y * (length ws / suc d)
   times-most m x y h l = omega (arith, mul-le-mul-right x h, mul-le-mul-left (length ws / suc d) l, mul-comm y (length ws / suc d))
 
-  rows-small : faceRows d * (length ws / suc d) ≤ 49152
+  rows-small : faceRows d * (length ws / suc d) ≤ mostRows * mostCells
   rows-small = omega (arith, mul-le-mul-right (length ws / suc d) (rows-most d (w .passed .small) .1), few-words)
 
-  keys-small : faceKeys d * (length ws / suc d) ≤ 98304
+  keys-small : faceKeys d * (length ws / suc d) ≤ mostKeys * mostCells
   keys-small = omega (arith, mul-le-mul-right (length ws / suc d) (keys-most d (w .passed .small) .1), few-words)
 
   module _ (m : ℕ) (keys′ rows′ spare′ counts′ : List ℕ) (lk : length keys′ ≡ length keys) (lr : length rows′ ≡ length rows) (ls : length spare′ ≡ length spare) (lc : length counts′ ≡ length counts) (a : Made d ws m rows′) where
@@ -139,7 +140,7 @@ module _ (d k : ℕ) (ws : List ℕ) (ok : Bool) (s : Sound d ws ok) where
   pub faces-crowded : (out : List ℕ) → ok ≡ false → FacesWorked d k ws (Refused crowdedFacet 0) out out
   faces-crowded out e = record { handed = []; ends = crowded (s .no e); result = refl }
 
-  pub faces-outside : (out : List ℕ) → ok ≡ true → d < k → FacesWorked d k ws (Refused 24 0) out out
+  pub faces-outside : (out : List ℕ) → ok ≡ true → d < k → FacesWorked d k ws (Refused badFaces 0) out out
   faces-outside out e h = record { handed = []; ends = rest (s .yes e) (outside (λ l. omega arith)); result = refl }
 
   pub faces-rest : (r : Counted) (out out′ : List ℕ) → ok ≡ true → k ≤ d → Handed (facesOf (cellsOf d ws) k) r out out′ → FacesWorked d k ws r out out′

@@ -7,6 +7,7 @@ use lib.IntN.{ℤ}
 use Rattle.refusal.specs.declared.Counted.{Counted}
 use Rattle.refusal.specs.Lent.{onto}
 use Rattle.lists.specs.Rows.{cut}
+use Rattle.lists.specs.Tables.{tab}
 use Rattle.multiindex.specs.Sign.{induced, signNumber}
 use Rattle.complex.specs.Cells.{cellsOf}
 use Rattle.complex.specs.Facets.{Cells, slots}
@@ -17,11 +18,6 @@ use Rattle.complex_faces.specs.Faces.{facesOf}
 use Rattle.complex_faces.specs.Entries.{Entry, entriesOf, signsIn, facesIn, cofacesIn}
 use Rattle.complex_boundary.specs.Need.{faceNeed}
 use Rattle.complex_boundary.specs.Promise.{Within, GivesEntries}
-
--- f 0, f 1, .. f (n - 1)
-unfoldable pub each : {A : Type 0} → ℕ → (ℕ → A) → List A
-each zero f = []
-each (suc n) f = each n f ++ (f n ∷ [])
 
 -- a checked word list and room, and a dimension that its cells have
 pub record Reaching (d k : ℕ) (ws keys rows spare counts : List ℕ) : Type 0 where
@@ -46,9 +42,9 @@ pub record FacesWorked (d k : ℕ) (ws : List ℕ) (r : Counted) (out out′ : L
 
 -- the entries of f cofaces of dimension k as three lists, where ids has the facets of a coface from the last position dropped to the first
 pub record EntryLists (k f : ℕ) (ids : List ℕ) (es : List Entry) : Type 0 where
-  pub signs-are : signsIn es ≡ each (f * (k + 1)) (λ x. signNumber (induced (x % (k + 1))))
-  pub faces-are : facesIn es ≡ each (f * (k + 1)) (λ x. getD ids (x / (k + 1) * (k + 1) + (k - x % (k + 1))) 0)
-  pub cofaces-are : cofacesIn es ≡ each (f * (k + 1)) (λ x. x / (k + 1))
+  pub signs-are : signsIn es ≡ tab (f * (k + 1)) (λ x. signNumber (induced (x % (k + 1))))
+  pub faces-are : facesIn es ≡ tab (f * (k + 1)) (λ x. getD ids (x / (k + 1) * (k + 1) + (k - x % (k + 1))) 0)
+  pub cofaces-are : cofacesIn es ≡ tab (f * (k + 1)) (λ x. x / (k + 1))
 
 -- the entries are handed out
 pub record EntriesHanded (es : List Entry) (r : Counted) (signs signs′ : List ℤ) (faces faces′ cofaces cofaces′ : List ℕ) : Type 0 where

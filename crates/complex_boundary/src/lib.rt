@@ -9,6 +9,7 @@ use refusal::Answer;
 use refusal::BAD_FACES;
 use refusal::CROWDED_FACET;
 use refusal::Counted;
+use refusal::MOST_DIMENSION;
 use refusal::Room;
 use refusal::TOO_SHORT;
 ghost use mathlib.Core.List.{List, _++_};
@@ -16,34 +17,29 @@ ghost use mathlib.Core.Path.{_≡_};
 ghost use Prim.Native.Nat.{ℕ, suc, _+_, _-_, _*_, _/_, _%_, _<_, _≤_};
 ghost use lib.ListN.{length, getD, drop};
 ghost use lib.IntN.{pos, negsuc};
-ghost use Rattle.refusal.specs.Limits.{mostDimension};
-ghost use Rattle.lists.specs.Rows.{flat};
+ghost use Rattle.refusal.specs.Limits.{mostDimension, manyCorners};
+ghost use Rattle.lists.specs.Tables.{tab};
 ghost use Rattle.lists.specs.Zero.{AllZero};
 ghost use Rattle.multiindex.specs.Sign.{induced, signNumber};
 ghost use Rattle.complex.specs.Cells.{cellsOf};
-ghost use Rattle.complex.specs.Room.{needOf};
-ghost use Rattle.skeleton.specs.Work.{Working, Sound, Handed};
+ghost use Rattle.skeleton.specs.Work.{Working, Handed};
 ghost use Rattle.complex_faces.specs.Faces.{facesOf};
 ghost use Rattle.complex_faces.specs.Entries.{Entry, entriesOf};
 ghost use Rattle.complex_boundary.specs.Need.{faceRows, faceKeys, faceNeed};
 ghost use Rattle.complex_boundary.specs.Promise.{Faced, Bounded};
-ghost use Rattle.complex_boundary.specs.Work.{each, Reaching, Reached, FacesWorked, EntryLists, EntriesHanded, EntriesWorked};
+ghost use Rattle.complex_boundary.specs.Work.{Reaching, Reached, FacesWorked, EntryLists, EntriesHanded, EntriesWorked};
+
+// What `face_rows` and `face_keys` give, for each dimension.
+const FACE_ROWS: [u8; MOST_DIMENSION as usize + 1] = [1, 2, 6, 12];
+
+const FACE_KEYS: [u8; MOST_DIMENSION as usize + 1] = [1, 2, 6, 24];
 
 // The most vertices that the faces of one dimension of a cell have together.
 fn face_rows(d: usize) -> usize
     requires { ⌜ d ≤ mostDimension ⌝ }
     ensures { λ r. ⌜ r ≡ faceRows d ⌝ }
 {
-    if d == 0 {
-        return 1;
-    }
-    if d == 1 {
-        return 2;
-    }
-    if d == 2 {
-        return 6;
-    }
-    12
+    FACE_ROWS[d] as usize
 }
 
 // The most numbers that the facets of the faces of one dimension of a cell have together, and no fewer than the cell's vertices.
@@ -51,21 +47,12 @@ fn face_keys(d: usize) -> usize
     requires { ⌜ d ≤ mostDimension ⌝ }
     ensures { λ r. ⌜ r ≡ faceKeys d ⌝ }
 {
-    if d == 0 {
-        return 1;
-    }
-    if d == 1 {
-        return 2;
-    }
-    if d == 2 {
-        return 6;
-    }
-    24
+    FACE_KEYS[d] as usize
 }
 
 // What both calls need of their working lists, for words with `len` corners.
 pub fn need(d: usize, len: usize) -> Room
-    requires { ⌜ (d ≤ mostDimension) × (len < 65536) ⌝ }
+    requires { ⌜ (d ≤ mostDimension) × (len < manyCorners) ⌝ }
     ensures { λ r. ⌜ r ≡ faceNeed d len ⌝ }
 {
     let count = len / (d + 1);
@@ -77,22 +64,6 @@ pub fn need(d: usize, len: usize) -> Room
         spare: wide,
         counts: wide,
     }
-}
-
-// Whether no facet lies in three or more cells.
-pub fn sound(
-    d: usize,
-    words: &[u32],
-    keys: &mut [u32],
-    rows: &mut [u32],
-    spare: &mut [u32],
-    counts: &mut [u32],
-) -> bool
-    requires { ⌜ Working (needOf d (length (now words))) d (now words) (now keys) (now rows) (now spare) (now counts) ⌝ }
-    ensures { λ r. ⌜ Sound d (now (words .entry)) r ⌝ }
-{
-    let m = complex_cells::cells(d, words, keys, rows, spare, counts);
-    complex_mates::mates(d, m, words.len(), keys, rows, spare, counts)
 }
 
 // Writes the faces of dimension k, one after the other, to `rows`, and says how many there are.
@@ -112,19 +83,6 @@ pub fn reach(
     complex_descent::descend(d, k, m, words.len(), keys, rows, spare, counts)
 }
 
-// Hands out a flat list of m words.
-fn hand_out(m: usize, from: &[u32], out: &mut [u32]) -> Counted
-    requires { ⌜ m < 4294967296 ⌝ }
-    ensures { λ r. ⌜ ((ws : List (List ℕ)) → flat ws ≡ now (from .entry) → length ws ≡ m → Handed ws r (now (out .entry)) (now (out .exit))) ⌝ }
-{
-    let long = from.len();
-    if out.len() < long {
-        return Counted::Refused(TOO_SHORT, 0);
-    }
-    lists::copy(from, &mut out[..long]);
-    Counted::Count(m as u32)
-}
-
 // Hands out the faces of dimension k.
 fn list_faces(
     d: usize,
@@ -141,7 +99,7 @@ fn list_faces(
 {
     let f = reach(d, k, words, keys, rows, spare, counts);
     let long = f * (k + 1);
-    hand_out(f, &rows[..long], out)
+    skeleton::hand_out(f, &rows[..long], out)
 }
 
 // The faces, or 7, 24, in working lists of just the sizes that are needed. Nothing is promised of them.
@@ -158,7 +116,7 @@ fn faces_work(
     requires { ⌜ Working (faceNeed d (length (now words))) d (now words) (now keys) (now rows) (now spare) (now counts) ⌝ }
     ensures { λ r. ⌜ FacesWorked d k (now (words .entry)) r (now (out .entry)) (now (out .exit)) ⌝ }
 {
-    if !sound(d, words, keys, rows, spare, counts) {
+    if !skeleton::sound(d, words, keys, rows, spare, counts) {
         return Counted::Refused(CROWDED_FACET, 0);
     }
     if d < k {
@@ -249,7 +207,7 @@ fn sign_of(i: usize) -> i32
 // Writes the sign of each entry, n entries a coface.
 fn write_signs(n: usize, total: usize, signs: &mut [i32])
     requires { ⌜ (0 < n) × (total ≤ length (now signs)) ⌝ }
-    ensures { λ _. ⌜ now (signs .exit) ≡ each total (λ x. signNumber (induced (x % n))) ++ drop total (now (signs .entry)) ⌝ }
+    ensures { λ _. ⌜ now (signs .exit) ≡ tab total (λ x. signNumber (induced (x % n))) ++ drop total (now (signs .entry)) ⌝ }
 {
     let mut x = 0;
     while x < total {
@@ -262,7 +220,7 @@ fn write_signs(n: usize, total: usize, signs: &mut [i32])
 fn write_faces(k: usize, m: usize, ids: &[u32], faces: &mut [u32])
     requires { ⌜ (m * (k + 1) < 4294967295) × (k < 4294967295) × (m * (k + 1) ≤ length (now ids)) × (m * (k + 1) ≤ length (now faces)) ⌝ }
     ensures { λ _.
-        ⌜ now (faces .exit) ≡ each (m * (k + 1)) (λ x. getD (now (ids .entry)) (x / (k + 1) * (k + 1) + (k - x % (k + 1))) 0) ++ drop (m * (k + 1)) (now (faces .entry)) ⌝ }
+        ⌜ now (faces .exit) ≡ tab (m * (k + 1)) (λ x. getD (now (ids .entry)) (x / (k + 1) * (k + 1) + (k - x % (k + 1))) 0) ++ drop (m * (k + 1)) (now (faces .entry)) ⌝ }
 {
     let n = k + 1;
     let total = m * n;
@@ -277,7 +235,7 @@ fn write_faces(k: usize, m: usize, ids: &[u32], faces: &mut [u32])
 // Writes the coface of each entry, n entries a coface.
 fn write_cofaces(n: usize, total: usize, cofaces: &mut [u32])
     requires { ⌜ (0 < n) × (total < 4294967296) × (total ≤ length (now cofaces)) ⌝ }
-    ensures { λ _. ⌜ now (cofaces .exit) ≡ each total (λ x. x / n) ++ drop total (now (cofaces .entry)) ⌝ }
+    ensures { λ _. ⌜ now (cofaces .exit) ≡ tab total (λ x. x / n) ++ drop total (now (cofaces .entry)) ⌝ }
 {
     let mut x = 0;
     while x < total {
@@ -358,7 +316,7 @@ fn entries_work(
         ⌜ EntriesWorked d k (now (words .entry)) r (now (signs .entry)) (now (signs .exit)) (now (faces .entry)) (now (faces .exit)) (now (cofaces .entry))
         (now (cofaces .exit)) ⌝ }
 {
-    if !sound(d, words, keys, rows, spare, counts) {
+    if !skeleton::sound(d, words, keys, rows, spare, counts) {
         return Counted::Refused(CROWDED_FACET, 0);
     }
     if k < 1 {

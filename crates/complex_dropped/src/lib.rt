@@ -6,6 +6,7 @@
 //   rows     cells            mates          cells that go      old numbers
 //   spare    first rows       first rows     words that stay    new numbers
 //   counts   buckets          classes        the cell of each word
+use lists::wide;
 use refusal::Answer;
 use refusal::CROWDED_FACET;
 use refusal::NO_SUCH_CELL;
@@ -29,12 +30,6 @@ ghost use Rattle.complex_dropped.specs.Work.{Within, WordCells, Staying,
 pub enum Dropped {
     Kept(u32, u32),
     Refused(u32, u32),
-}
-
-fn wide(x: u32) -> usize
-    ensures { λ r. ⌜ r ≡ x ⌝ }
-{
-    x as usize
 }
 
 // Whether the set names a cell that is not there, where there are m.

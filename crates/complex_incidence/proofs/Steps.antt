@@ -41,7 +41,7 @@ use Rattle.skeleton.specs.Promise.{GivesBoth, words-short, table-short, both-li
 use Rattle.skeleton.specs.Work.{Working, Sound}
 use Rattle.skeleton.proofs.Steps.{room-least, cells-many, cells-flat}
 use Rattle.complex_faces.specs.Index.{cellsAt, indexOf, startsOf}
-use Rattle.complex_incidence.specs.Work.{cornersBelow, Ordered, Before, ByVertex, Sorting, Handing}
+use Rattle.complex_incidence.specs.Work.{cornersBelow, CornerOrder, IsBelow, ByVertex, Sorting, Handing}
 use Rattle.complex_incidence.specs.Work.{Handed, Worked}
 use Rattle.complex_incidence.proofs.Corners.{tab-map, key-cuts, index-flat, index-starts}
 
@@ -62,7 +62,7 @@ module _ (vertices long : ℕ) (corners order : List ℕ) (b : ByVertex vertices
   pub at-rises : (v : ℕ) → cornersBelow corners long v ≤ cornersBelow corners long (v + 1)
   at-rises v = length-bucket-mono (cell corners 1 0) v (v + 1) (upto long) (omega arith)
 
-  pub step-yes : (v i : ℕ) (r : Bool) → v ≤ vertices → Before v i long corners order r → r ≡ true → i + 1 ≤ cornersBelow corners long v
+  pub step-yes : (v i : ℕ) (r : Bool) → v ≤ vertices → IsBelow v i long corners order r → r ≡ true → i + 1 ≤ cornersBelow corners long v
   step-yes v i r h p e =
       let q = p .yes e in
       elim (decLt i (cornersBelow corners long v)) [
@@ -70,7 +70,7 @@ module _ (vertices long : ℕ) (corners order : List ℕ) (b : ByVertex vertices
         | no l ↦ absurd (omega (arith, q .1, order-at i (q .0), key-cuts (cell corners 1 0) (upto long) vertices v i h (omega (arith, whole, q .0)) .1 (omega arith)))
       ]
 
-  pub step-no : (v i : ℕ) (r : Bool) → v ≤ vertices → i ≤ cornersBelow corners long v → Before v i long corners order r → r ≡ false → i ≡ cornersBelow corners long v
+  pub step-no : (v i : ℕ) (r : Bool) → v ≤ vertices → i ≤ cornersBelow corners long v → IsBelow v i long corners order r → r ≡ false → i ≡ cornersBelow corners long v
   step-no v i r h l p e =
       elim (decLt i (cornersBelow corners long v)) [
         | yes s ↦

@@ -20,18 +20,18 @@ abbrev pub cornersBelow : List ℕ → ℕ → ℕ → ℕ
 cornersBelow corners long v = length (bucketSort (cell corners 1 0) v (upto long))
 
 -- the first `long` of the order are numbers of corners
-pub record Ordered (long : ℕ) (corners order : List ℕ) : Type 0 where
+pub record CornerOrder (long : ℕ) (corners order : List ℕ) : Type 0 where
   pub fits : long ≤ length order
   pub inside : (i : ℕ) → i < long → getD order i 0 < length corners
 
 -- whether place i is one of them and its vertex is below v
-pub record Before (v i long : ℕ) (corners order : List ℕ) (r : Bool) : Type 0 where
+pub record IsBelow (v i long : ℕ) (corners order : List ℕ) (r : Bool) : Type 0 where
   pub yes : r ≡ true → (i < long) × (getD corners (getD order i 0) 0 < v)
   pub no : r ≡ false → i < long → v ≤ getD corners (getD order i 0) 0
 
 -- and they stand by rising vertex, then by rising number
 pub record ByVertex (vertices long : ℕ) (corners order : List ℕ) : Type 0 where
-  pub ordered : Ordered long corners order
+  pub ordered : CornerOrder long corners order
   pub few : long < 4294967296
   pub some : vertices < 4294967295
   pub sorted : take long order ≡ bucketSort (cell corners 1 0) vertices (upto long)

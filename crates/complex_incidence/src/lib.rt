@@ -5,6 +5,8 @@
 //   rows     cells, mates                 cells            corner numbers by vertex
 //   spare    first rows                   first rows       scratch
 //   counts   buckets, classes             buckets          buckets
+use lists::largest;
+use lists::wide;
 use refusal::Answer;
 use refusal::CROWDED_FACET;
 use refusal::Counted;
@@ -18,37 +20,15 @@ ghost use Rattle.lists.specs.Words.{largestOf};
 ghost use Rattle.lists.specs.Zero.{AllZero};
 ghost use Rattle.complex.specs.Cells.{cellsOf};
 ghost use Rattle.complex.specs.Room.{needOf};
-ghost use Rattle.skeleton.specs.Work.{Working, Sound};
+ghost use Rattle.skeleton.specs.Work.{Working};
 ghost use Rattle.lists.specs.Tables.{tab};
-ghost use Rattle.complex_incidence.specs.Work.{cornersBelow, Before, Ordered, Sorting, ByVertex, Handing, Handed, Worked};
+ghost use Rattle.complex_incidence.specs.Work.{cornersBelow, IsBelow, CornerOrder, Sorting, ByVertex, Handing, Handed, Worked};
 ghost use Rattle.complex_incidence.specs.Promise.{Indexed};
-
-fn wide(x: u32) -> usize
-    ensures { λ r. ⌜ r ≡ x ⌝ }
-{
-    x as usize
-}
-
-// The largest of the numbers, 0 where there is none.
-fn largest(ws: &[u32]) -> u32
-    ensures { λ r. ⌜ r ≡ largestOf (now (ws .entry)) ⌝ }
-{
-    let mut top = 0;
-    let mut i = 0;
-    while i < ws.len() {
-        let v = ws[i];
-        if top < v {
-            top = v;
-        }
-        i += 1;
-    }
-    top
-}
 
 // Whether there is a corner at place i of the order, and its vertex is below v.
 fn is_below(v: usize, i: usize, long: usize, corners: &[u32], order: &[u32]) -> bool
-    requires { ⌜ Ordered long (now corners) (now order) ⌝ }
-    ensures { λ r. ⌜ Before v i long (now (corners .entry)) (now (order .entry)) r ⌝ }
+    requires { ⌜ CornerOrder long (now corners) (now order) ⌝ }
+    ensures { λ r. ⌜ IsBelow v i long (now (corners .entry)) (now (order .entry)) r ⌝ }
 {
     if long <= i {
         return false;
@@ -162,22 +142,6 @@ fn list_index(
     hand_index(n, long, vertices, keys, rows, touching, starts)
 }
 
-// Whether no facet lies in three or more cells.
-fn sound(
-    d: usize,
-    words: &[u32],
-    keys: &mut [u32],
-    rows: &mut [u32],
-    spare: &mut [u32],
-    counts: &mut [u32],
-) -> bool
-    requires { ⌜ Working (needOf d (length (now words))) d (now words) (now keys) (now rows) (now spare) (now counts) ⌝ }
-    ensures { λ r. ⌜ Sound d (now (words .entry)) r ⌝ }
-{
-    let m = complex_cells::cells(d, words, keys, rows, spare, counts);
-    complex_mates::mates(d, m, words.len(), keys, rows, spare, counts)
-}
-
 // The index, or 7, in working lists of just the sizes that are needed. Nothing is promised of them.
 fn index_work(
     d: usize,
@@ -193,7 +157,7 @@ fn index_work(
     ensures { λ r.
         ⌜ Worked d (now (words .entry)) r (now (touching .entry)) (now (touching .exit)) (now (starts .entry)) (now (starts .exit)) ⌝ }
 {
-    if !sound(d, words, keys, rows, spare, counts) {
+    if !skeleton::sound(d, words, keys, rows, spare, counts) {
         return Counted::Refused(CROWDED_FACET, 0);
     }
     list_index(d, words, touching, starts, keys, rows, spare, counts)

@@ -20,7 +20,7 @@ use Rattle.orientation_signs.proofs.Unique.{forced}
 use Rattle.orientation.specs.declared.Coherence.the-variants as Coherence
 use Rattle.orientation.specs.Promise as Orientation
 use Rattle.quotient.specs.declared.Grid.{Grid}
-use Rattle.quotient.specs.Fold.{firstFrom, product, some}
+use Rattle.quotient.specs.Fold.{product, some}
 use Rattle.quotient.specs.Shape.{axisOf, badSet, checkOf, verticesOf}
 use Rattle.quotient.specs.Reduce.{restAt, reflectedBy, numberTo}
 use Rattle.quotient.specs.Points.{fromDigits}
@@ -133,7 +133,7 @@ ring-ordered =
     (Order.ordered (subst (λ (cs : Words). Crowded 2 cs → ⊥) (sym ring-cells) ring-free) ring-hands-out (le-refl _) (le-refl _)))
 
 ring-taken : checkOf ring ≡ Fine
-unfolding checkOf firstFrom badSet some axisOf product
+unfolding checkOf firstWhere foundAt badSet some axisOf product
 ring-taken = refl
 
 ring-read : readLine ringLine ≡ Line.Taken ring

@@ -17,7 +17,7 @@ use Rattle.complex.specs.Cells.{cellsOf}
 use Rattle.skeleton.specs.Promise.{Ends, crowded, rest}
 use Rattle.complex_faces.specs.Entries.{Entry}
 use Rattle.complex_boundary.specs.Promise.{Within, outside, inside}
-use Rattle.file_market.specs.File.{headWord, lineOf, signedOf, entryLine, linesOf, fileOf, marketOf}
+use Rattle.file_market.specs.File.{headWord, lineOfThree, signedOf, entryLine, entryLines, matrixFile, marketOf}
 use Rattle.file_market.specs.Promise.{GivesFile, short, written, Marketed}
 use Rattle.file_market.proofs.Listing.{signed-long, line-long, sizes-long}
 
@@ -42,23 +42,23 @@ market-said d k ws n bytes bytes′ keys keys′ rows rows′ spare spare′ cou
     ap (take n) (a .result ∙ ap (λ (l : List ℕ). onto l bytes) (w .0)) ∙ take-at (marketOf d k ws) (drop (length (marketOf d k ws)) bytes) n (w .1)
 
 -- ---- how many bytes are enough
-lines-most : (es : List Entry) → length (linesOf es) ≤ 34 * length es
+lines-most : (es : List Entry) → length (entryLines es) ≤ 34 * length es
 lines-most [] = omega arith
 lines-most (e ∷ es) =
     omega (
       arith,
-      length-append (entryLine e) (linesOf es),
+      length-append (entryLine e) (entryLines es),
       line-long (decimal (e .face + 1)) (decimal (e .coface + 1)) (signedOf (e .sign)) (decimal-long 9 (e .face + 1)) (decimal-long 9 (e .coface + 1)) (signed-long (e .sign)),
       lines-most es,
     )
 
-pub file-long : (rows columns : ℕ) (es : List Entry) → length (fileOf rows columns es) ≤ 83 + 34 * length es
-unfolding fileOf
+pub file-long : (rows columns : ℕ) (es : List Entry) → length (matrixFile rows columns es) ≤ 83 + 34 * length es
+unfolding matrixFile
 file-long rows columns es =
     omega (
       arith,
-      length-append headWord (lineOf (decimal rows) (decimal columns) (decimal (length es)) ++ linesOf es),
-      length-append (lineOf (decimal rows) (decimal columns) (decimal (length es))) (linesOf es),
+      length-append headWord (lineOfThree (decimal rows) (decimal columns) (decimal (length es)) ++ entryLines es),
+      length-append (lineOfThree (decimal rows) (decimal columns) (decimal (length es))) (entryLines es),
       sizes-long rows columns (length es),
       lines-most es,
     )

@@ -15,9 +15,11 @@ use Rattle.file_writing.specs.Wrote.{farthest, Wrote}
 use Rattle.file_writing.proofs.Laws.{wrote-none, wrote-more, wrote-same}
 use Rattle.multiindex.specs.Sign.{induced, signNumber}
 use Rattle.complex_faces.specs.Entries.{Entry, signsIn, facesIn, cofacesIn}
-use Rattle.complex_boundary.specs.Work.{each, EntryLists}
-use Rattle.complex_boundary.proofs.Entries.{each-length, sign-even, sign-odd, place-fits}
-use Rattle.file_market.specs.File.{headWord, followedBy, lineOf, signedOf, linesOf, fileOf}
+use Rattle.lists.specs.Tables.{tab}
+use Rattle.lists.proofs.Tables.{length-tab, tab-more}
+use Rattle.complex_boundary.specs.Work.{EntryLists}
+use Rattle.complex_boundary.proofs.Entries.{sign-even, sign-odd, place-fits}
+use Rattle.file_market.specs.File.{headWord, followedBy, lineOfThree, signedOf, entryLines, matrixFile}
 use Rattle.file_market.specs.Work.{manyEntries, Numbered, lineAt, linesBelow}
 
 -- ---- the sign at the end of a line
@@ -40,14 +42,14 @@ followed-long x b m h = omega (arith, length-append x (b ∷ []))
 pub field-long : (n b : ℕ) {at : ℕ} {to : List ℕ} {r : ℕ} {to′ : List ℕ} → Wrote (followedBy (decimal n) b) at to r to′ → r ≤ at + 11
 field-long n b a = omega (arith, a .next, followed-long (decimal n) b 10 (decimal-long 9 n))
 
-pub line-long : (x y z : List ℕ) → length x ≤ 10 → length y ≤ 10 → length z ≤ 11 → length (lineOf x y z) ≤ 34
+pub line-long : (x y z : List ℕ) → length x ≤ 10 → length y ≤ 10 → length z ≤ 11 → length (lineOfThree x y z) ≤ 34
 line-long x y z h i j =
     omega (arith, length-append (followedBy x 32) (followedBy y 32 ++ followedBy z 10), length-append (followedBy y 32) (followedBy z 10), followed-long x 32 10 h, followed-long y 32 10 i, followed-long z 10 11 j)
 
-pub sizes-long : (a b c : ℕ) → length (lineOf (decimal a) (decimal b) (decimal c)) ≤ 34
+pub sizes-long : (a b c : ℕ) → length (lineOfThree (decimal a) (decimal b) (decimal c)) ≤ 34
 sizes-long a b c = line-long (decimal a) (decimal b) (decimal c) (decimal-long 9 a) (decimal-long 9 b) (omega (arith, decimal-long 9 c))
 
-pub sizes-end : (a b c : ℕ) {at : ℕ} {to : List ℕ} {r : ℕ} {to′ : List ℕ} → Wrote (lineOf (decimal a) (decimal b) (decimal c)) at to r to′ → r ≤ at + 34
+pub sizes-end : (a b c : ℕ) {at : ℕ} {to : List ℕ} {r : ℕ} {to′ : List ℕ} → Wrote (lineOfThree (decimal a) (decimal b) (decimal c)) at to r to′ → r ≤ at + 34
 sizes-end a b c w = omega (arith, w .next, sizes-long a b c)
 
 at-long : (k : ℕ) (ids : List ℕ) (x : ℕ) → length (lineAt k ids x) ≤ 34
@@ -58,11 +60,9 @@ line-end : (k x : ℕ) (ids : List ℕ) {at : ℕ} {to : List ℕ} {r : ℕ} {to
 line-end k x ids w = omega (arith, w .next, at-long k ids x)
 
 lines-more : (k : ℕ) (ids : List ℕ) (x : ℕ) → linesBelow k ids (suc x) ≡ linesBelow k ids x ++ lineAt k ids x
-unfolding each
-lines-more k ids x = flat-append (each x (lineAt k ids)) (lineAt k ids x ∷ []) ∙ ap (λ (l : List ℕ). flat (each x (lineAt k ids)) ++ l) (append-nil (lineAt k ids x))
+lines-more k ids x = ap flat (tab-more x (lineAt k ids)) ∙ flat-append (tab x (lineAt k ids)) (lineAt k ids x ∷ []) ∙ ap (λ (l : List ℕ). flat (tab x (lineAt k ids)) ++ l) (append-nil (lineAt k ids x))
 
 lines-none : (k : ℕ) (ids : List ℕ) → linesBelow k ids 0 ≡ []
-unfolding each
 lines-none k ids = refl
 
 pub lines-long : (k : ℕ) (ids : List ℕ) (x : ℕ) → length (linesBelow k ids x) ≤ 34 * x
@@ -75,7 +75,6 @@ pub record Listing (k : ℕ) (ids : List ℕ) (x start : ℕ) (to : List ℕ) (r
   pub near : r ≤ start + 34 * x
 
 pub listing-none : (k : ℕ) (ids : List ℕ) (start : ℕ) (to : List ℕ) → Listing k ids 0 start to start to
-unfolding each
 listing-none k ids start to = record { wrote = wrote-none start to; near = omega arith }
 
 pub listing-more : (k : ℕ) (ids : List ℕ) (x start : ℕ) (to : List ℕ) {r : ℕ} {to′ : List ℕ} {s : ℕ} {to″ : List ℕ} → Listing k ids x start to r to′ → Wrote (lineAt k ids x) r to′ s to″ → Listing k ids (x + 1) start to s to″
@@ -100,38 +99,28 @@ pub coface-below : (k f g : ℕ) (ids : List ℕ) (x : ℕ) → Numbered k f g i
 coface-below k f g ids x n h = omega (arith, div-le-self x (k + 1), n .entries)
 
 -- ---- the lines are those of the entries
-each-front : {A : Type 0} (n : ℕ) (f : ℕ → A) → each (suc n) f ≡ f 0 ∷ each n (λ x. f (suc x))
-unfolding each
-each-front zero f = refl
-each-front {A} (suc n) f = ap (λ (l : List A). l ++ (f (suc n) ∷ [])) (each-front n f)
-
 -- three lists read together
-each-three : (h : ℕ → ℕ → ℤ → List ℕ) (es : List Entry) (n : ℕ) (fa co : ℕ → ℕ) (si : ℕ → ℤ) → facesIn es ≡ each n fa → cofacesIn es ≡ each n co → signsIn es ≡ each n si → map (λ (e : Entry). h (e .face) (e .coface) (e .sign)) es ≡ each n (λ x. h (fa x) (co x) (si x))
-unfolding each
-each-three h [] zero fa co si p q r = refl
-each-three h (e ∷ es) zero fa co si p q r = absurd (let z : suc (length (facesIn es)) ≡ 0 = ap length p in omega arith)
-each-three h [] (suc n) fa co si p q r = absurd (let z : 0 ≡ suc n = ap length p ∙ each-length (suc n) fa in omega arith)
-each-three h (e ∷ es) (suc n) fa co si p q r =
-    let p′ = p ∙ each-front n fa in
-    let q′ = q ∙ each-front n co in
-    let r′ = r ∙ each-front n si in
-    ap (λ (l : List (List ℕ)). h (e .face) (e .coface) (e .sign) ∷ l) (each-three h es n (λ x. fa (suc x)) (λ x. co (suc x)) (λ x. si (suc x)) (ap (λ (l : List ℕ). drop 1 l) p′) (ap (λ (l : List ℕ). drop 1 l) q′) (ap (λ (l : List ℤ). drop 1 l) r′))
-    ∙ ap (λ (z : ℕ). h z (e .coface) (e .sign) ∷ each n (λ x. h (fa (suc x)) (co (suc x)) (si (suc x)))) (ap (λ (l : List ℕ). getD l 0 0) p′)
-    ∙ ap (λ (z : ℕ). h (fa 0) z (e .sign) ∷ each n (λ x. h (fa (suc x)) (co (suc x)) (si (suc x)))) (ap (λ (l : List ℕ). getD l 0 0) q′)
-    ∙ ap (λ (z : ℤ). h (fa 0) (co 0) z ∷ each n (λ x. h (fa (suc x)) (co (suc x)) (si (suc x)))) (ap (λ (l : List ℤ). getD l 0 (pos 0)) r′)
-    ∙ sym (each-front n (λ x. h (fa x) (co x) (si x)))
+three-lists : (h : ℕ → ℕ → ℤ → List ℕ) (es : List Entry) (n : ℕ) (fa co : ℕ → ℕ) (si : ℕ → ℤ) → facesIn es ≡ tab n fa → cofacesIn es ≡ tab n co → signsIn es ≡ tab n si → map (λ (e : Entry). h (e .face) (e .coface) (e .sign)) es ≡ tab n (λ x. h (fa x) (co x) (si x))
+three-lists h [] zero fa co si p q r = refl
+three-lists h (e ∷ es) zero fa co si p q r = absurd (let z : suc (length (facesIn es)) ≡ 0 = ap length p in omega arith)
+three-lists h [] (suc n) fa co si p q r = absurd (let z : 0 ≡ suc n = ap length p ∙ length-tab (suc n) fa in omega arith)
+three-lists h (e ∷ es) (suc n) fa co si p q r =
+    ap (λ (l : List (List ℕ)). h (e .face) (e .coface) (e .sign) ∷ l) (three-lists h es n (λ x. fa (suc x)) (λ x. co (suc x)) (λ x. si (suc x)) (ap (λ (l : List ℕ). drop 1 l) p) (ap (λ (l : List ℕ). drop 1 l) q) (ap (λ (l : List ℤ). drop 1 l) r))
+    ∙ ap (λ (z : ℕ). h z (e .coface) (e .sign) ∷ tab n (λ x. h (fa (suc x)) (co (suc x)) (si (suc x)))) (ap (λ (l : List ℕ). getD l 0 0) p)
+    ∙ ap (λ (z : ℕ). h (fa 0) z (e .sign) ∷ tab n (λ x. h (fa (suc x)) (co (suc x)) (si (suc x)))) (ap (λ (l : List ℕ). getD l 0 0) q)
+    ∙ ap (λ (z : ℤ). h (fa 0) (co 0) z ∷ tab n (λ x. h (fa (suc x)) (co (suc x)) (si (suc x)))) (ap (λ (l : List ℤ). getD l 0 (pos 0)) r)
 
 module _ (k f : ℕ) (ids : List ℕ) (es : List Entry) (a : EntryLists k f ids es) where
-  lines-same : linesBelow k ids (f * (k + 1)) ≡ linesOf es
+  lines-same : linesBelow k ids (f * (k + 1)) ≡ entryLines es
   lines-same =
       ap flat
-      (sym (each-three (λ x y z. lineOf (decimal (x + 1)) (decimal (y + 1)) (signedOf z)) es (f * (k + 1)) (λ x. getD ids (x / (k + 1) * (k + 1) + (k - x % (k + 1))) 0) (λ x. x / (k + 1)) (λ x. signNumber (induced (x % (k + 1)))) (a .faces-are) (a .cofaces-are) (a .signs-are)))
+      (sym (three-lists (λ x y z. lineOfThree (decimal (x + 1)) (decimal (y + 1)) (signedOf z)) es (f * (k + 1)) (λ x. getD ids (x / (k + 1) * (k + 1) + (k - x % (k + 1))) 0) (λ x. x / (k + 1)) (λ x. signNumber (induced (x % (k + 1)))) (a .faces-are) (a .cofaces-are) (a .signs-are)))
 
   many : length es ≡ f * (k + 1)
-  many = sym (length-map es (λ (e : Entry). e .sign)) ∙ ap length (a .signs-are) ∙ each-length (f * (k + 1)) (λ x. signNumber (induced (x % (k + 1))))
+  many = sym (length-map es (λ (e : Entry). e .sign)) ∙ ap length (a .signs-are) ∙ length-tab (f * (k + 1)) (λ x. signNumber (induced (x % (k + 1))))
 
-  pub file-same : (g : ℕ) → headWord ++ (lineOf (decimal g) (decimal f) (decimal (f * (k + 1))) ++ linesBelow k ids (f * (k + 1))) ≡ fileOf g f es
-  unfolding fileOf
+  pub file-same : (g : ℕ) → headWord ++ (lineOfThree (decimal g) (decimal f) (decimal (f * (k + 1))) ++ linesBelow k ids (f * (k + 1))) ≡ matrixFile g f es
+  unfolding matrixFile
   file-same g =
-      ap (λ (l : List ℕ). headWord ++ (lineOf (decimal g) (decimal f) (decimal (f * (k + 1))) ++ l)) lines-same
-      ∙ ap (λ (n : ℕ). headWord ++ (lineOf (decimal g) (decimal f) (decimal n) ++ linesOf es)) (sym many)
+      ap (λ (l : List ℕ). headWord ++ (lineOfThree (decimal g) (decimal f) (decimal (f * (k + 1))) ++ l)) lines-same
+      ∙ ap (λ (n : ℕ). headWord ++ (lineOfThree (decimal g) (decimal f) (decimal n) ++ entryLines es)) (sym many)

@@ -10,21 +10,22 @@ use lib.ListN.{length, getD, length-append}
 use Rattle.refusal.specs.declared.Counted.{Counted}
 use Rattle.refusal.specs.declared.Counted.the-variants.{Count, Refused}
 use Rattle.refusal.specs.Table.{crowdedFacet, tooShort}
-use Rattle.lists.specs.Words.{firstWhere, foundAt, sameWord}
+use Rattle.lists.specs.Words.{sameWord}
+use Rattle.lists.proofs.Words.{first-most}
 use Rattle.lists.specs.Rows.{cut, rows as rows-of}
 use Rattle.lists.proofs.Rows.{cut-length}
 use Rattle.text.specs.Decimal.{decimal}
 use Rattle.file_writing.specs.Wrote.{Wrote}
 use Rattle.file_writing.proofs.Laws.{wrote-same, wrote-long, wrote-whole, wrote-nowhere}
 use Rattle.complex.specs.Check.{Passed}
-use Rattle.complex.specs.Cells.{comesBefore, placed, place, inOrder, cellsOf}
+use Rattle.complex.specs.Cells.{cellsOf}
 use Rattle.complex.specs.Facets.{Cells, slots}
 use Rattle.complex.specs.Skeleton.{facetRowOf, facetsOf}
-use Rattle.multiindex.specs.Sort.{sortWord}
 use Rattle.complex_cells.proofs.Words.{Word}
 use Rattle.complex_cells.proofs.Named.{named-many}
 use Rattle.skeleton.specs.Promise.{crowded, rest}
 use Rattle.skeleton.specs.Work.{Sound}
+use Rattle.skeleton.proofs.Sizes.{order-most}
 use Rattle.complex_faces.specs.Faces.{facesOf}
 use Rattle.complex_faces.specs.Entries.{Entry, entriesOf}
 use Rattle.complex_faces.proofs.Laws.{facets-of-faces}
@@ -34,36 +35,12 @@ use Rattle.complex_boundary.specs.Promise.{outside, inside}
 use Rattle.complex_boundary.specs.Work.{Reached, EntryLists}
 use Rattle.complex_boundary.proofs.Room.{largest-above, rows-most}
 use Rattle.complex_boundary.proofs.Entries.{entry-lists, ids-long}
-use Rattle.file_market.specs.File.{headWord, lineOf, fileOf, marketOf}
+use Rattle.file_market.specs.File.{headWord, lineOfThree, matrixFile, marketOf}
 use Rattle.file_market.specs.Promise.{GivesFile, short, written}
 use Rattle.file_market.specs.Work.{manyEntries, Numbered, linesBelow, FileHanded, FileWorked}
 use Rattle.file_market.proofs.Listing.{file-same, lines-long, sizes-long}
 
 -- ---- how many cells, faces and entries
-place-most : (n : ℕ) (w : Word) (cs : List Word) → length (place n w cs) ≤ suc (length cs)
-unfolding place placed
-place-most n w [] = omega arith
-place-most n w (c ∷ cs) = go (comesBefore n w c) (comesBefore n c w) (place-most n w cs)
-  where
-    go : (s t : Bool) → length (place n w cs) ≤ suc (length cs) → length (placed s t w c cs (place n w cs)) ≤ suc (suc (length cs))
-    go true t h = omega arith
-    go false true h = omega (arith, h)
-    go false false h = omega arith
-
-order-most : (n : ℕ) (ws : List Word) → length (inOrder n ws) ≤ length ws
-unfolding inOrder
-order-most n [] = omega arith
-order-most n (w ∷ ws) = omega (arith, place-most n (sortWord w) (inOrder n ws), order-most n ws)
-
-first-most : (p : ℕ → Bool) (m : ℕ) → firstWhere p m ≤ m
-unfolding firstWhere foundAt
-first-most p zero = omega arith
-first-most p (suc m) = go (p zero) (first-most (λ k. p (suc k)) m)
-  where
-    go : (b : Bool) → firstWhere (λ k. p (suc k)) m ≤ m → foundAt b (firstWhere (λ k. p (suc k)) m) ≤ suc m
-    go true h = omega arith
-    go false h = omega (arith, h)
-
 module _ (d : ℕ) (ws : List ℕ) (p : Passed d ws) (a : Cells d (cellsOf d ws)) where
   few-cells : length (cellsOf d ws) ≤ length ws / (d + 1)
   unfolding cellsOf
@@ -110,11 +87,11 @@ module _ (d k : ℕ) (ws : List ℕ) (p : Passed d ws) (f : ℕ) (keys rows spar
         below = λ y h. omega (arith, number-most y h, faces-few);
       }
 
-  file-up : fileOf g f (entriesOf (cellsOf d ws) (suc k)) ≡ marketOf d (suc k) ws
+  file-up : matrixFile g f (entriesOf (cellsOf d ws) (suc k)) ≡ marketOf d (suc k) ws
   file-up =
-      ap (λ (z : ℕ). fileOf z f (entriesOf (cellsOf d ws) (suc k))) (sym faces-are)
-      ∙ ap (λ (z : ℕ). fileOf (length (facesOf (cellsOf d ws) k)) z (entriesOf (cellsOf d ws) (suc k))) (sym (a .many))
-      ∙ ap (λ (z : ℕ). fileOf (length (facesOf (cellsOf d ws) z)) (length (facesOf (cellsOf d ws) (suc k))) (entriesOf (cellsOf d ws) (suc k))) {x = k} {y = suc k - 1} (omega arith)
+      ap (λ (z : ℕ). matrixFile z f (entriesOf (cellsOf d ws) (suc k))) (sym faces-are)
+      ∙ ap (λ (z : ℕ). matrixFile (length (facesOf (cellsOf d ws) k)) z (entriesOf (cellsOf d ws) (suc k))) (sym (a .many))
+      ∙ ap (λ (z : ℕ). matrixFile (length (facesOf (cellsOf d ws) z)) (length (facesOf (cellsOf d ws) (suc k))) (entriesOf (cellsOf d ws) (suc k))) {x = k} {y = suc k - 1} (omega arith)
 
 module _ (d k : ℕ) (ws : List ℕ) (p : Passed d ws) (f : ℕ) (keys rows spare counts : List ℕ) (a : Reached d k ws f keys rows spare counts) (some : 1 ≤ k) (high : k ≤ d) (g : ℕ) (keys′ reps ids : List ℕ) (c : Classed k (cut (suc k) f rows) g keys′ reps ids) where
   pub numbered : Numbered k f g ids
@@ -124,28 +101,28 @@ module _ (d k : ℕ) (ws : List ℕ) (p : Passed d ws) (f : ℕ) (keys rows spar
       go zero a some high c = absurd (omega arith)
       go (suc k) a some high c = numbered-up d k ws p f keys rows spare counts a high g keys′ reps ids c
 
-  file-is : fileOf g f (entriesOf (cellsOf d ws) k) ≡ marketOf d k ws
+  file-is : matrixFile g f (entriesOf (cellsOf d ws) k) ≡ marketOf d k ws
   file-is = go k a some high c
     where
-      go : (k : ℕ) → Reached d k ws f keys rows spare counts → 1 ≤ k → k ≤ d → Classed k (cut (suc k) f rows) g keys′ reps ids → fileOf g f (entriesOf (cellsOf d ws) k) ≡ marketOf d k ws
+      go : (k : ℕ) → Reached d k ws f keys rows spare counts → 1 ≤ k → k ≤ d → Classed k (cut (suc k) f rows) g keys′ reps ids → matrixFile g f (entriesOf (cellsOf d ws) k) ≡ marketOf d k ws
       go zero a some high c = absurd (omega arith)
       go (suc k) a some high c = file-up d k ws p f keys rows spare counts a high g keys′ reps ids c
 
-  pub market-handed : (r : Counted) (bytes bytes′ : List ℕ) → ((es : List Entry) → EntryLists k f ids es → FileHanded (fileOf g f es) r bytes bytes′) → FileHanded (marketOf d k ws) r bytes bytes′
+  pub market-handed : (r : Counted) (bytes bytes′ : List ℕ) → ((es : List Entry) → EntryLists k f ids es → FileHanded (matrixFile g f es) r bytes bytes′) → FileHanded (marketOf d k ws) r bytes bytes′
   market-handed r bytes bytes′ h =
       subst (λ (z : List ℕ). FileHanded z r bytes bytes′) file-is (h (entriesOf (cellsOf d ws) k) (entry-lists d k ws f keys rows spare counts a some high g keys′ reps ids c))
 
 -- ---- measured in no bytes, and then written
 abbrev raw : ℕ → ℕ → ℕ → List ℕ → List ℕ
-raw k f g ids = headWord ++ (lineOf (decimal g) (decimal f) (decimal (f * (k + 1))) ++ linesBelow k ids (f * (k + 1)))
+raw k f g ids = headWord ++ (lineOfThree (decimal g) (decimal f) (decimal (f * (k + 1))) ++ linesBelow k ids (f * (k + 1)))
 
 pub raw-fits : (k f g : ℕ) (ids : List ℕ) → Numbered k f g ids → (len : ℕ) (to part : List ℕ) → Wrote (raw k f g ids) 0 to len part → len < 4294967296
 raw-fits k f g ids n len to part w =
     omega (
       arith,
       wrote-long w,
-      length-append headWord (lineOf (decimal g) (decimal f) (decimal (f * (k + 1))) ++ linesBelow k ids (f * (k + 1))),
-      length-append (lineOf (decimal g) (decimal f) (decimal (f * (k + 1)))) (linesBelow k ids (f * (k + 1))),
+      length-append headWord (lineOfThree (decimal g) (decimal f) (decimal (f * (k + 1))) ++ linesBelow k ids (f * (k + 1))),
+      length-append (lineOfThree (decimal g) (decimal f) (decimal (f * (k + 1)))) (linesBelow k ids (f * (k + 1))),
       sizes-long g f (f * (k + 1)),
       lines-long k ids (f * (k + 1)),
       n .entries,
@@ -155,19 +132,19 @@ module _ (k f g : ℕ) (ids : List ℕ) (bytes : List ℕ) (len : ℕ) (part : L
   same : part ++ bytes ≡ bytes
   same = ap (λ (z : List ℕ). z ++ bytes) (w .stored ∙ wrote-nowhere (raw k f g ids) 0)
 
-  measured : len ≡ length (fileOf g f es)
+  measured : len ≡ length (matrixFile g f es)
   measured = wrote-long w ∙ ap length (file-same k f ids es a g)
 
-  pub hand-short : length (part ++ bytes) < len → FileHanded (fileOf g f es) (Refused tooShort 0) bytes (part ++ bytes)
+  pub hand-short : length (part ++ bytes) < len → FileHanded (matrixFile g f es) (Refused tooShort 0) bytes (part ++ bytes)
   hand-short s = record { handed = []; gives = short (omega (arith, measured, ap length same)); result = same }
 
-  pub hand-written : (r : ℕ) (whole : List ℕ) → len ≤ length (part ++ bytes) → Wrote (raw k f g ids) 0 (part ++ bytes) r whole → FileHanded (fileOf g f es) (Count len) bytes whole
+  pub hand-written : (r : ℕ) (whole : List ℕ) → len ≤ length (part ++ bytes) → Wrote (raw k f g ids) 0 (part ++ bytes) r whole → FileHanded (matrixFile g f es) (Count len) bytes whole
   hand-written r whole s b =
-      let t : length (fileOf g f es) ≤ length bytes = omega (arith, measured, ap length same) in
+      let t : length (matrixFile g f es) ≤ length bytes = omega (arith, measured, ap length same) in
       record {
-        handed = fileOf g f es;
-        gives = subst (λ (z : ℕ). GivesFile (fileOf g f es) (length bytes) (Count z) (fileOf g f es)) (sym measured) (written t);
-        result = wrote-whole t (subst (λ (z : List ℕ). Wrote (fileOf g f es) 0 z r whole) same (wrote-same (file-same k f ids es a g) b));
+        handed = matrixFile g f es;
+        gives = subst (λ (z : ℕ). GivesFile (matrixFile g f es) (length bytes) (Count z) (matrixFile g f es)) (sym measured) (written t);
+        result = wrote-whole t (subst (λ (z : List ℕ). Wrote (matrixFile g f es) 0 z r whole) same (wrote-same (file-same k f ids es a g) b));
       }
 
 -- ---- after 7

@@ -18,8 +18,8 @@ abbrev pub followedBy : List ℕ → ℕ → List ℕ
 followedBy x b = x ++ (b ∷ [])
 
 -- a line of three texts
-abbrev pub lineOf : List ℕ → List ℕ → List ℕ → List ℕ
-lineOf x y z = followedBy x 32 ++ (followedBy y 32 ++ followedBy z 10)
+abbrev pub lineOfThree : List ℕ → List ℕ → List ℕ → List ℕ
+lineOfThree x y z = followedBy x 32 ++ (followedBy y 32 ++ followedBy z 10)
 
 -- a whole number in decimal, with a minus (45) where it is below zero; negsuc n is -(n + 1)
 abbrev pub signedOf : ℤ → List ℕ
@@ -28,16 +28,16 @@ signedOf (negsuc n) = 45 ∷ decimal (n + 1)
 
 -- face, coface and sign: rows and columns are counted from one
 abbrev pub entryLine : Entry → List ℕ
-entryLine e = lineOf (decimal (e .face + 1)) (decimal (e .coface + 1)) (signedOf (e .sign))
+entryLine e = lineOfThree (decimal (e .face + 1)) (decimal (e .coface + 1)) (signedOf (e .sign))
 
 -- one line after the other
-abbrev pub linesOf : List Entry → List ℕ
-linesOf es = flat (map entryLine es)
+abbrev pub entryLines : List Entry → List ℕ
+entryLines es = flat (map entryLine es)
 
 -- a matrix of so many rows and columns: its first line, its sizes, and one line an entry
-unfoldable pub fileOf : ℕ → ℕ → List Entry → List ℕ
-fileOf rows columns es = headWord ++ (lineOf (decimal rows) (decimal columns) (decimal (length es)) ++ linesOf es)
+unfoldable pub matrixFile : ℕ → ℕ → List Entry → List ℕ
+matrixFile rows columns es = headWord ++ (lineOfThree (decimal rows) (decimal columns) (decimal (length es)) ++ entryLines es)
 
 -- the operator from the faces of dimension k to those of dimension k - 1: a row for each of these, and a column for each of those
 abbrev pub marketOf : ℕ → ℕ → List ℕ → List ℕ
-marketOf d k ws = fileOf (length (facesOf (cellsOf d ws) (k - 1))) (length (facesOf (cellsOf d ws) k)) (entriesOf (cellsOf d ws) k)
+marketOf d k ws = matrixFile (length (facesOf (cellsOf d ws) (k - 1))) (length (facesOf (cellsOf d ws) k)) (entriesOf (cellsOf d ws) k)

@@ -11,8 +11,8 @@ use Rattle.multiindex.specs.Sign.{induced, signNumber}
 use Rattle.complex.specs.Cells.{cellsOf}
 use Rattle.skeleton.specs.Promise.{Ends}
 use Rattle.complex_boundary.specs.Promise.{Within}
-use Rattle.complex_boundary.specs.Work.{each}
-use Rattle.file_market.specs.File.{lineOf, signedOf, marketOf}
+use Rattle.lists.specs.Tables.{tab}
+use Rattle.file_market.specs.File.{lineOfThree, signedOf, marketOf}
 use Rattle.file_market.specs.Promise.{GivesFile}
 
 -- more entries than any operator has, and few enough for their lines to be counted in 32 bits
@@ -29,10 +29,10 @@ pub record Numbered (k f g : ℕ) (ids : List ℕ) : Type 0 where
 
 -- the line of entry x, and those of the entries before it
 abbrev pub lineAt : ℕ → List ℕ → ℕ → List ℕ
-lineAt k ids x = lineOf (decimal (getD ids (x / (k + 1) * (k + 1) + (k - x % (k + 1))) 0 + 1)) (decimal (x / (k + 1) + 1)) (signedOf (signNumber (induced (x % (k + 1)))))
+lineAt k ids x = lineOfThree (decimal (getD ids (x / (k + 1) * (k + 1) + (k - x % (k + 1))) 0 + 1)) (decimal (x / (k + 1) + 1)) (signedOf (signNumber (induced (x % (k + 1)))))
 
 abbrev pub linesBelow : ℕ → List ℕ → ℕ → List ℕ
-linesBelow k ids x = flat (each x (lineAt k ids))
+linesBelow k ids x = flat (tab x (lineAt k ids))
 
 -- the file is handed out, or the byte list is too short for it
 pub record FileHanded (file : List ℕ) (r : Counted) (bytes bytes′ : List ℕ) : Type 0 where

@@ -21,7 +21,7 @@ ghost use Rattle.text.specs.Decimal.{decimal};
 ghost use Rattle.file_writing.specs.Wrote.{farthest, Wrote};
 ghost use Rattle.complex_boundary.specs.Need.{faceNeed};
 ghost use Rattle.complex_boundary.specs.Work.{EntryLists, Reaching};
-ghost use Rattle.file_market.specs.File.{headWord, followedBy, lineOf, signedOf, fileOf, marketOf};
+ghost use Rattle.file_market.specs.File.{headWord, followedBy, lineOfThree, signedOf, matrixFile, marketOf};
 ghost use Rattle.file_market.specs.Promise.{Marketed};
 ghost use Rattle.file_market.specs.Work.{Numbered, lineAt, linesBelow, FileHanded, FileWorked};
 
@@ -75,7 +75,7 @@ fn lines(k: usize, f: usize, g: usize, ids: &[u32], to: &mut [u8], start: usize)
 // The line of the sizes: rows, columns, entries.
 fn sizes(rows: u32, columns: u32, entries: u32, to: &mut [u8], at: usize) -> usize
     requires { ⌜ at + 33 ≤ farthest ⌝ }
-    ensures { λ r. ⌜ Wrote (lineOf (decimal rows) (decimal columns) (decimal entries)) at (now (to .entry)) r (now (to .exit)) ⌝ }
+    ensures { λ r. ⌜ Wrote (lineOfThree (decimal rows) (decimal columns) (decimal entries)) at (now (to .entry)) r (now (to .exit)) ⌝ }
 {
     let second = number_then(to, at, rows, b' ');
     let third = number_then(to, second, columns, b' ');
@@ -86,7 +86,7 @@ fn sizes(rows: u32, columns: u32, entries: u32, to: &mut [u8], at: usize) -> usi
 fn file(k: usize, f: usize, g: usize, ids: &[u32], to: &mut [u8]) -> usize
     requires { ⌜ Numbered k f g (now ids) ⌝ }
     ensures { λ r.
-        ⌜ Wrote (headWord ++ (lineOf (decimal g) (decimal f) (decimal (f * (k + 1))) ++ linesBelow k (now (ids .entry)) (f * (k + 1)))) 0 (now (to .entry)) r
+        ⌜ Wrote (headWord ++ (lineOfThree (decimal g) (decimal f) (decimal (f * (k + 1))) ++ linesBelow k (now (ids .entry)) (f * (k + 1)))) 0 (now (to .entry)) r
         (now (to .exit)) ⌝ }
 {
     let second = file_writing::word(to, 0, b"%%MatrixMarket matrix coordinate integer general\n");
@@ -98,7 +98,7 @@ fn file(k: usize, f: usize, g: usize, ids: &[u32], to: &mut [u8]) -> usize
 // Hands out the file, or 12 where the byte list is too short.
 fn hand_file(k: usize, f: usize, g: usize, ids: &[u32], bytes: &mut [u8]) -> Counted
     requires { ⌜ Numbered k f g (now ids) ⌝ }
-    ensures { λ r. ⌜ ((es : List Entry) → EntryLists k f (now (ids .entry)) es → FileHanded (fileOf g f es) r (now (bytes .entry)) (now (bytes .exit))) ⌝ }
+    ensures { λ r. ⌜ ((es : List Entry) → EntryLists k f (now (ids .entry)) es → FileHanded (matrixFile g f es) r (now (bytes .entry)) (now (bytes .exit))) ⌝ }
 {
     let long = file(k, f, g, ids, &mut bytes[..0]);
     if bytes.len() < long {
@@ -141,7 +141,7 @@ fn work(
     requires { ⌜ Working (faceNeed d (length (now words))) d (now words) (now keys) (now rows) (now spare) (now counts) ⌝ }
     ensures { λ r. ⌜ FileWorked d k (now (words .entry)) r (now (bytes .entry)) (now (bytes .exit)) ⌝ }
 {
-    if !complex_boundary::sound(d, words, keys, rows, spare, counts) {
+    if !skeleton::sound(d, words, keys, rows, spare, counts) {
         return Counted::Refused(CROWDED_FACET, 0);
     }
     if k < 1 {

@@ -6,6 +6,7 @@ use native.Mathlib.Nat.{div-eq-of-eq-mul-left, mul-assoc, mul-le-mul}
 use native.Mathlib.Omega.{arith}
 use lib.ListN.{length, take, drop, length-drop}
 use lib.Seq.{length-take-le}
+use Rattle.refusal.specs.Limits.{mostVertices, mostRefinement}
 use Rattle.refusal.specs.declared.Answer.{Answer}
 use Rattle.refusal.specs.declared.Answer.the-variants as Answer
 use Rattle.refusal.specs.Table.{tooShort}
@@ -41,7 +42,7 @@ pub record FileGives (bs : List ℕ) (m : Mesh) (d count many weights : ℕ) : T
   pub of-births : length (m .births) ≡ many * 3
   pub of-pairs : length (m .pairs) ≡ weights * 2
   pub few : many ≤ past (m .words)
-  pub light : weights ≤ many * 64
+  pub light : weights ≤ many * mostRefinement
   pub heavy : many * 2 ≤ weights
   pub size : birthsAt d count + (many * 14 + weights * 6) ≤ length bs
 
@@ -131,7 +132,7 @@ module _ (bs : List ℕ) where
 -- ---- handing out
 
 module _ (bs : List ℕ) (m : Mesh) (d count many weights : ℕ) (f : FileGives bs m d count many weights) (corners : List ℕ) (ec : corners ≡ m .words) (p : Passed d corners) where
-  pub counts-small : (many ≤ 4096) × (weights ≤ 262144)
+  pub counts-small : (many ≤ mostVertices) × (weights ≤ mostVertices * mostRefinement)
   counts-small =
       let l = past-largest (m .words) in
       let q = ap past ec in

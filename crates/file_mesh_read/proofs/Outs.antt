@@ -8,6 +8,8 @@ use native.Mathlib.Omega.{arith}
 use lib.ListN.{length}
 use lib.Dec.{leb, ltb, eqb}
 use borrow.Author.Tests.{lt-ltb, le-ltb, eq-eqb, ne-eqb}
+use Rattle.refusal.specs.Limits.{mostDimension, mostCells, rowMost, mostCorners}
+use Rattle.refusal.specs.Table.{badDimension, tooManyCells}
 use Rattle.refusal.specs.declared.Answer.{Answer}
 use Rattle.refusal.specs.declared.Answer.the-variants as Answer
 use Rattle.refusal.specs.declared.Room.{Room}
@@ -29,21 +31,21 @@ use Rattle.file_mesh_read.proofs.Given.{FileGives}
 
 -- ---- the checks before the words are listed
 
-pub answer-dimension : (d : ℕ) (ws : List ℕ) → 3 < d → answerOf d ws ≡ Answer.Refused 1 0
+pub answer-dimension : (d : ℕ) (ws : List ℕ) → mostDimension < d → answerOf d ws ≡ Answer.Refused badDimension 0
 unfolding answerOf
-answer-dimension d ws h = rw (lt-ltb 3 d h)
+answer-dimension d ws h = rw (lt-ltb mostDimension d h)
 
-some-words : (d count n : ℕ) → n ≡ count * (d + 1) → 4096 < count → n ≡ 0 → ⊥
+some-words : (d count n : ℕ) → n ≡ count * (d + 1) → mostCells < count → n ≡ 0 → ⊥
 some-words d count n e h z =
     let g = mul-le-mul {n₁ = 1} {m₁ = 1} {n₂ = count} {m₂ = d + 1} (omega arith) (omega arith) in
     omega (arith, g)
 
-pub answer-many : (d count : ℕ) (ws : List ℕ) → d ≤ 3 → length ws ≡ count * (d + 1) → 4096 < count → answerOf d ws ≡ Answer.Refused 3 0
+pub answer-many : (d count : ℕ) (ws : List ℕ) → d ≤ mostDimension → length ws ≡ count * (d + 1) → mostCells < count → answerOf d ws ≡ Answer.Refused tooManyCells 0
 unfolding answerOf
 answer-many d count ws h e g =
     let m : length ws % (d + 1) ≡ 0 = ap (λ (x : ℕ). x % (d + 1)) e ∙ mul-mod-left count (d + 1) in
     let q : length ws / (d + 1) ≡ count = div-eq-of-eq-mul-left {n = d + 1} {m = length ws} {k = count} (omega arith) e in
-    rw (le-ltb 3 d h, ne-eqb (length ws) 0 (some-words d count (length ws) e g), eq-eqb (length ws % (d + 1)) 0 m, lt-ltb 4096 (length ws / (d + 1)) (omega (arith, q)))
+    rw (le-ltb mostDimension d h, ne-eqb (length ws) 0 (some-words d count (length ws) e g), eq-eqb (length ws % (d + 1)) 0 m, lt-ltb mostCells (length ws / (d + 1)) (omega (arith, q)))
 
 -- ---- the ways out
 
@@ -117,10 +119,10 @@ module _ (bs : List ℕ) (m : Mesh) (d count many weights : ℕ) (f : FileGives 
       let e : count * (6 + (d + 1) * 4) ≡ count * (10 + 4 * d) = ap (λ (x : ℕ). count * x) {x = 6 + (d + 1) * 4} {y = 10 + 4 * d} (omega arith) in
       omega (arith, f .words-inside)
 
-  pub high : 3 < d → answerOf (m .d) (m .words) ≡ Answer.Refused 1 0
+  pub high : mostDimension < d → answerOf (m .d) (m .words) ≡ Answer.Refused badDimension 0
   high h = answer-dimension (m .d) (m .words) (omega (arith, f .dimension))
 
-  pub crowd : d ≤ 3 → 4096 < count → answerOf (m .d) (m .words) ≡ Answer.Refused 3 0
+  pub crowd : d ≤ mostDimension → mostCells < count → answerOf (m .d) (m .words) ≡ Answer.Refused tooManyCells 0
   crowd h g = answer-many (m .d) count (m .words) (omega (arith, f .dimension)) (f .cells ∙ ap (λ (x : ℕ). count * (x + 1)) (sym (f .dimension))) g
 
   module _ (ys : List ℕ) (e : ys ≡ wordsIn (d + 1) count 10 bs) where
@@ -132,5 +134,5 @@ module _ (bs : List ℕ) (m : Mesh) (d count many weights : ℕ) (f : FileGives 
         subst (λ (x : ℕ). Checked x (m .words) r keys keys′ rows rows′ spare spare′ counts counts′) (sym (f .dimension))
         (subst (λ (x : List ℕ). Checked d x r keys keys′ rows rows′ spare spare′ counts counts′) words-here k)
 
-pub few-corners : (d count : ℕ) → d ≤ 3 → count ≤ 4096 → count * (d + 1) ≤ 16384
-few-corners d count h g = mul-le-mul {n₁ = count} {m₁ = d + 1} {n₂ = 4096} {m₂ = 4} g (omega arith)
+pub few-corners : (d count : ℕ) → d ≤ mostDimension → count ≤ mostCells → count * (d + 1) ≤ mostCorners
+few-corners d count h g = mul-le-mul {n₁ = count} {m₁ = d + 1} {n₂ = mostCells} {m₂ = rowMost} g (omega arith)

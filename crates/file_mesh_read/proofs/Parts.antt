@@ -10,6 +10,7 @@ use lib.ListN.{length, take, drop, length-drop, length-append}
 use lib.Seq.{drop-drop, take-all, take-at, length-take-le}
 use lib.Dec.{leb, ltb, eqb}
 use borrow.Author.Tests.{ltb-true, ltb-false, leb-true, lt-ltb, le-ltb, le-leb, lt-leb, eq-eqb, ne-eqb}
+use Rattle.refusal.specs.Limits.{mostDimension}
 use Rattle.multiindex.specs.Sort.{sortWord}
 use Rattle.complex.specs.Cells.{comesBefore}
 use Rattle.file_bytes.specs.Bytes.{said, foursOf}
@@ -201,7 +202,7 @@ unfolding follows
 follows-high d [] w h = refl
 follows-high d (x ∷ v) w h = rw (lt-ltb 3 d h)
 
-pub follows-cell : (d : ℕ) (v w : List ℕ) → d ≤ 3 → length v ≡ d + 1 → follows d v w ≡ comesBefore (d + 1) (sortWord v) (sortWord w)
+pub follows-cell : (d : ℕ) (v w : List ℕ) → d ≤ mostDimension → length v ≡ d + 1 → follows d v w ≡ comesBefore (d + 1) (sortWord v) (sortWord w)
 unfolding follows
 follows-cell d [] w h e = absurd (omega arith)
 follows-cell d (x ∷ v) w h e = rw (le-ltb 3 d h)
@@ -230,7 +231,7 @@ module _ (d k at : ℕ) (bs : List ℕ) where
   pub fits-high : 3 < d → follows d (wordBefore d k at bs) w ≡ true
   fits-high h = follows-high d (wordBefore d k at bs) w h
 
-  pub fits-cell : (k ≡ 0 → ⊥) → d ≤ 3 → follows d (wordBefore d k at bs) w ≡ comesBefore (d + 1) (sortWord (foursOf (d + 1) (drop (at - (d + 1) * 4) bs))) (sortWord w)
+  pub fits-cell : (k ≡ 0 → ⊥) → d ≤ mostDimension → follows d (wordBefore d k at bs) w ≡ comesBefore (d + 1) (sortWord (foursOf (d + 1) (drop (at - (d + 1) * 4) bs))) (sortWord w)
   fits-cell f h =
       ap (λ (v : List ℕ). follows d v w) (before-some d k at bs f)
       ∙ follows-cell d (foursOf (d + 1) (drop (at - (d + 1) * 4) bs)) w h (foursOf-length (d + 1) (drop (at - (d + 1) * 4) bs))

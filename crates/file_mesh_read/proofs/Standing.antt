@@ -7,6 +7,7 @@ use native.Mathlib.Omega.{arith}
 use lib.ListN.{length, take, drop, length-append}
 use lib.Dec.{leb, ltb, eqb}
 use borrow.Author.Tests.{ltb-true, leb-true, eqb-true}
+use Rattle.refusal.specs.Limits.{mostRefinement}
 use Rattle.file_bytes.specs.Bytes.{said}
 use Rattle.file_mesh.specs.declared.Run.{Run}
 use Rattle.file_mesh.specs.Rules.{more, numberFits, refinementFits, countFits, vertexFits, weightFits, weightsOf}
@@ -124,7 +125,7 @@ pub record BirthsAre (vertices next at : ℕ) (bs : List ℕ) (l : Births) : Typ
   pub of-births : length (l .births) ≡ many * 3
   pub of-pairs : length (l .pairs) ≡ weights * 2
   pub few : many + next ≤ vertices
-  pub light : weights ≤ many * 64
+  pub light : weights ≤ many * mostRefinement
   pub heavy : many * 2 ≤ weights
   pub size : at + (many * 14 + weights * 6) ≤ length bs
 
@@ -138,7 +139,7 @@ births-one : (vertices : ℕ) (run : Run) (at : ℕ) (bs : List ℕ) (b : Birth)
 unfolding birthsIn endIn
 births-one vertices run at bs b l z t long i =
     let on = runs-on vertices run (b .number) z (t .number-fits) in
-    let r64 : b .r ≤ 64 = leb-true (b .r) 64 (both (leb (b .r) 64) (eqb (run .r) 0 || eqb (b .r) (run .r)) (both (leb 2 (b .r)) (leb (b .r) 64 && (eqb (run .r) 0 || eqb (b .r) (run .r))) (t .refinement-fits) .1) .0) in
+    let r64 : b .r ≤ mostRefinement = leb-true (b .r) mostRefinement (both (leb (b .r) mostRefinement) (eqb (run .r) 0 || eqb (b .r) (run .r)) (both (leb 2 (b .r)) (leb (b .r) mostRefinement && (eqb (run .r) 0 || eqb (b .r) (run .r))) (t .refinement-fits) .1) .0) in
     record {
       many = suc (i .many);
       weights = b .count + i .weights;
@@ -165,7 +166,7 @@ module _ (most vertices : ℕ) (run : Run) (at : ℕ) (bs : List ℕ) (l : Birth
       let d : s ≡ drop on bs = w .rest ∙ ap (λ (x : ℕ). drop x bs) {x = at + 6 + (8 + b .count * 6)} {y = on} (omega arith) in
       let i = then-inv (birthsFrom most vertices (more run (b .number) (b .r)) s) _ l r q in
       let low : b .number < vertices = ltb-true (b .number) vertices (both (ltb (b .number) vertices) (eqb (run .r) 0 || eqb (b .number) (run .next)) (t .number-fits) .0) in
-      let two : 2 ≤ b .r = leb-true 2 (b .r) (both (leb 2 (b .r)) (leb (b .r) 64 && (eqb (run .r) 0 || eqb (b .r) (run .r))) (t .refinement-fits) .0) in
+      let two : 2 ≤ b .r = leb-true 2 (b .r) (both (leb 2 (b .r)) (leb (b .r) mostRefinement && (eqb (run .r) 0 || eqb (b .r) (run .r))) (t .refinement-fits) .0) in
       let f = next-of (run .r) run (b .number) (b .r) in
       let g = later (more run (b .number) (b .r)) on (i .x) (i .r) (omega (arith, n .inside, w .inside)) (omega (arith, f)) (λ x. absurd (omega (arith, x, r-of (run .r) run (b .number) (b .r)))) (ap (birthsFrom most vertices (more run (b .number) (b .r))) (sym d) ∙ i .part) in
       subst (BirthsAre vertices (run .next) at bs) (same-part (i .next) .0)

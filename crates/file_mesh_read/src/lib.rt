@@ -11,7 +11,9 @@ use refusal::BAD_DIMENSION;
 use refusal::BAD_FILE;
 use refusal::FILE_ENDS;
 use refusal::MOST_CELLS;
+use refusal::MOST_CORNERS;
 use refusal::MOST_DIMENSION;
+use refusal::ROW_MOST;
 use refusal::TOO_MANY_CELLS;
 use refusal::TOO_SHORT;
 use refusal::UNKNOWN_KIND;
@@ -20,7 +22,7 @@ ghost use mathlib.Core.List.{[]};
 ghost use Prim.Native.Nat.{ℕ, _+_, _*_, _-_, _<_, _≤_, max};
 ghost use lib.ListN.{length, drop};
 ghost use lib.Dec.{eqb};
-ghost use Rattle.refusal.specs.Limits.{mostDimension};
+ghost use Rattle.refusal.specs.Limits.{mostDimension, rowMost};
 ghost use Rattle.multiindex.specs.Sort.{sortWord};
 ghost use Rattle.complex.specs.Cells.{comesBefore};
 ghost use Rattle.complex.specs.Check.{Passed};
@@ -33,10 +35,6 @@ ghost use Rattle.file_mesh_read.specs.declared.Scanned.the-variants as S
 ghost use Rattle.file_mesh_read.specs.Work.{openedOf, headedOf, Low, refusalOf, weighed, wordBefore, wordedOf, bornOf, nextFrom, nextOf, countsOf, scannedOf, wordsIn, pairsIn, birthsIn, Taking, Handing};
 
 const DIMENSIONS: usize = MOST_DIMENSION as usize;
-
-const CORNERS: usize = DIMENSIONS + 1;
-
-const MOST_CORNERS: usize = MOST_CELLS * CORNERS;
 
 // What reading a mesh file says: the mesh's dimension and how many cells, births and pairs it has.
 pub enum Reading {
@@ -134,11 +132,11 @@ fn header(bytes: &[u8]) -> Headed
 
 // Whether the cell of the word whose bytes begin at v comes before that of the word at w, n vertices each.
 fn in_order(n: usize, bytes: &[u8], v: usize, w: usize) -> bool
-    requires { ⌜ (n ≤ mostDimension + 1) × (v + n * 4 ≤ length (now bytes)) × (w + n * 4 ≤ length (now bytes)) ⌝ }
+    requires { ⌜ (n ≤ rowMost) × (v + n * 4 ≤ length (now bytes)) × (w + n * 4 ≤ length (now bytes)) ⌝ }
     ensures { λ b. ⌜ b ≡ comesBefore n (sortWord (foursOf n (drop v (now (bytes .entry))))) (sortWord (foursOf n (drop w (now (bytes .entry))))) ⌝ }
 {
-    let mut a = [0u32; CORNERS];
-    let mut b = [0u32; CORNERS];
+    let mut a = [0u32; ROW_MOST];
+    let mut b = [0u32; ROW_MOST];
     file_bytes::read_fours(&bytes[v..], &mut a[..n]);
     file_bytes::read_fours(&bytes[w..], &mut b[..n]);
     file_mesh::cell_before(&a[..n], &b[..n])
@@ -390,7 +388,7 @@ fn scan(bytes: &[u8]) -> Scanned
 
 // Reads the words of an accepted file, n vertices each.
 fn list_words(n: usize, count: usize, bytes: &[u8], to: &mut [u32])
-    requires { ⌜ (n ≤ mostDimension + 1) × (length (now to) ≡ count * n) × (10 + count * (6 + n * 4) ≤ length (now bytes)) ⌝ }
+    requires { ⌜ (n ≤ rowMost) × (length (now to) ≡ count * n) × (10 + count * (6 + n * 4) ≤ length (now bytes)) ⌝ }
     ensures { λ _. ⌜ now (to .exit) ≡ wordsIn n count 10 (now (bytes .entry)) ⌝ }
 {
     let size = 6 + n * 4;

@@ -10,6 +10,7 @@ use lib.ListN.{length, take, drop, getD, length-drop, drop-of-length-le}
 use lib.Seq.{drop-cons, drop-drop, length-take-le, take-all}
 use lib.Dec.{leb, ltb, eqb}
 use borrow.Author.Tests.{ltb-true, leb-true, eqb-true, eqb-false, lt-ltb, le-ltb, le-leb, lt-leb, eq-eqb, ne-eqb}
+use Rattle.refusal.specs.Limits.{mostDimension}
 use Rattle.multiindex.specs.Sort.{sortWord}
 use Rattle.complex.specs.Cells.{comesBefore}
 use Rattle.file_mesh.specs.declared.Run.{Run}
@@ -173,7 +174,7 @@ module _ (vertices : ℕ) (run : Run) (births pairs : List ℕ) (b at : ℕ) whe
 
 -- ---- the words
 
-follows-some : (d : ℕ) (v w : List ℕ) → d ≤ 3 → length v ≡ d + 1 → follows d v w ≡ comesBefore (d + 1) (sortWord v) (sortWord w)
+follows-some : (d : ℕ) (v w : List ℕ) → d ≤ mostDimension → length v ≡ d + 1 → follows d v w ≡ comesBefore (d + 1) (sortWord v) (sortWord w)
 unfolding follows
 follows-some d [] w h e = absurd (omega arith)
 follows-some d (x ∷ v) w h e = rw (le-ltb 3 d h)
@@ -191,7 +192,7 @@ rise-none d (suc count) ws =
     let e : suc count - 1 ≡ count = omega arith in
     rw (a, b, e)
 
-module _ (d count k : ℕ) (ws : List ℕ) (dim : d ≤ 3) (low : 1 ≤ k) (h : k < count) (long : count * (d + 1) ≤ length ws) where
+module _ (d count k : ℕ) (ws : List ℕ) (dim : d ≤ mostDimension) (low : 1 ≤ k) (h : k < count) (long : count * (d + 1) ≤ length ws) where
   pub word-end : k * (d + 1) + (d + 1) ≤ length ws
   word-end = omega (arith, sym (suc-mul k (d + 1)), mul-le-mul-right {m = suc k} {n = count} (d + 1) (omega arith))
 

@@ -6,6 +6,7 @@ use native.Mathlib.Nat.{suc-mul, mul-le-mul-right}
 use native.Mathlib.Omega.{arith}
 use lib.ListN.{length, take, drop, getD, length-append, length-drop, drop-of-length-le}
 use lib.Seq.{drop-drop, length-take-le}
+use Rattle.refusal.specs.Limits.{mostDimension, mostRefinement}
 use Rattle.refusal.specs.Lent.{onto}
 use Rattle.refine_pattern.proofs.Written.{Written, written-none, written-same, written-length, written-end, written-count}
 use Rattle.file_bytes.specs.Bytes.{little}
@@ -85,7 +86,7 @@ words-begin d ws to₀ =
         ap (λ (n : ℕ). wordsOf d n ws) {x = many d ws} {y = many d ws - 0} (omega arith)
         ∙ ap (λ (n : ℕ). wordsOf d (many d ws - 0) (drop n ws)) {x = 0} {y = 0 * (d + 1)} (omega arith)
 
-module _ (d : ℕ) (ws to₀ to : List ℕ) (at k : ℕ) (dim : d ≤ 3) (fits : length (wordsOf d (many d ws) ws) ≤ length to₀) (p : WordsAt d ws to₀ to at k) where
+module _ (d : ℕ) (ws to₀ to : List ℕ) (at k : ℕ) (dim : d ≤ mostDimension) (fits : length (wordsOf d (many d ws) ws) ≤ length to₀) (p : WordsAt d ws to₀ to at k) where
   pub words-same : length to ≡ length to₀
   words-same = written-length (wordsOf d (many d ws) ws) to₀ (wordsOf d (many d ws - k) (drop (k * (d + 1)) ws)) at to fits (p .written)
 
@@ -163,11 +164,11 @@ module _ (births pairs to₀ to : List ℕ) (at p b : ℕ) (fits : length (birth
     pub three-left : b + 3 ≤ length births
     three-left = omega (arith, whole-three (drop b births) (drop p pairs) (omega (arith, length-drop b births)) (s .whole), length-drop b births)
 
-    opened : (c ≤ 64) × (c + c ≤ length (drop p pairs)) × Whole (drop (b + 3) births) (drop (c + c) (drop p pairs))
+    opened : (c ≤ mostRefinement) × (c + c ≤ length (drop p pairs)) × Whole (drop (b + 3) births) (drop (c + c) (drop p pairs))
     unfolding Whole
     opened = rw (three births b three-left) at (s .whole)
 
-    pub few : c ≤ 64
+    pub few : c ≤ mostRefinement
     few = opened .0
 
     pub pairs-in : p + c + c ≤ length pairs

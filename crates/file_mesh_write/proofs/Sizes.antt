@@ -10,7 +10,7 @@ use lib.ListN.{length, take, drop, length-append, length-drop, length-take}
 use lib.Seq.{length-take-le}
 use lib.Dec.{leb, ltb, eqb}
 use borrow.Author.Tests.{ltb-true, leb-true, eqb-true}
-use Rattle.refusal.specs.Limits.{mostDimension, mostCells}
+use Rattle.refusal.specs.Limits.{mostDimension, mostCells, mostRefinement}
 use Rattle.lists.specs.Words.{largestOf}
 use Rattle.complex.specs.Check.{Passed}
 use Rattle.file_mesh.specs.declared.Run.{Run}
@@ -68,7 +68,7 @@ sizes-more vertices run n r c bs ps z e s =
     let heavy = pairs-heavy (more run n r .first) 0 c (take (c + c) ps) (f .long) (f .pairs) in
     let light = refinement-small run r (f .refinement) in
     let sum = f .sum in
-    let few : c ≤ 64 = omega arith in
+    let few : c ≤ mostRefinement = omega arith in
     let on = runs-on vertices run n z (f .number) in
     let t = length-take (c + c) ps in
     let long = f .long in
@@ -96,7 +96,7 @@ sizes vertices run (n ∷ (r ∷ (c ∷ bs))) ps h z e =
     let f = fits-of vertices run n r c ps (g .0) in
     let low = number-low vertices run n (f .number) in
     let q = next-of (run .r) run n r in
-    let two : 2 ≤ r = leb-true 2 r (both (leb 2 r) (leb r 64 && (eqb (run .r) 0 || eqb r (run .r))) (f .refinement) .0) in
+    let two : 2 ≤ r = leb-true 2 r (both (leb 2 r) (leb r mostRefinement && (eqb (run .r) 0 || eqb r (run .r))) (f .refinement) .0) in
     let i = sizes vertices (more run n r) bs (drop (c + c) ps) (omega (arith, q)) (λ x. absurd (omega (arith, x, r-of (run .r) run n r))) (g .1) in
     sizes-more vertices run n r c bs ps z (g .0) (subst (λ (x : ℕ). Sizes vertices x bs (drop (c + c) ps)) q i)
 
@@ -143,7 +143,7 @@ module _ (m : Mesh) (p : Passed (m .d) (m .words)) (k : rules m ≡ true) where
 
   pub file-small : length (fileOf m) < 4294967296
   file-small =
-      let c = mul-le-mul {n₁ = length (m .words) / (m .d + 1)} {m₁ = 10 + 4 * m .d} {n₂ = 4096} {m₂ = 22} (p .few) (omega (arith, p .small)) in
+      let c = mul-le-mul {n₁ = length (m .words) / (m .d + 1)} {m₁ = 10 + 4 * m .d} {n₂ = mostCells} {m₂ = 10 + 4 * mostDimension} (p .few) (omega (arith, p .small)) in
       omega (arith, file-parts m, counted .of-bytes, counted .small, past-largest (m .words), p .low)
 
 -- the parts of the file, one after the other

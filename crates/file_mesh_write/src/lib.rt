@@ -16,7 +16,7 @@ ghost use mathlib.Core.Bool.{true, _&&_};
 ghost use Prim.Native.Nat.{_+_, _*_, _/_, _<_, _≤_};
 ghost use lib.ListN.{length};
 ghost use lib.Dec.{eqb};
-ghost use Rattle.refusal.specs.Limits.{mostDimension, mostRefinement};
+ghost use Rattle.refusal.specs.Limits.{mostDimension, mostRefinement, rowMost, manyCorners};
 ghost use Rattle.refusal.specs.Lent.{onto};
 ghost use Rattle.complex.specs.Check.{Passed};
 ghost use Rattle.file_bytes.specs.Bytes.{little};
@@ -184,7 +184,7 @@ fn put_header(d: u32, count: u32, to: &mut [u8])
 
 // Writes the record of a word.
 fn put_word(w: &[u32], to: &mut [u8])
-    requires { ⌜ (length (now w) ≤ mostDimension + 1) × (6 + length (now w) * 4 ≤ length (now to)) ⌝ }
+    requires { ⌜ (length (now w) ≤ rowMost) × (6 + length (now w) * 4 ≤ length (now to)) ⌝ }
     ensures { λ _. ⌜ now (to .exit) ≡ onto (wordOf (now (w .entry))) (now (to .entry)) ⌝ }
 {
     let len = 2 + w.len() * 4;
@@ -272,7 +272,7 @@ fn put_births(births: &[u32], pairs: &[u32], to: &mut [u8]) -> usize
 
 // How many bytes the file has.
 fn size(d: usize, words: usize, births: usize, pairs: usize) -> usize
-    requires { ⌜ (d ≤ mostDimension) × (words < 65536) × (births < 2305843009213693952) × (pairs < 2305843009213693952) ⌝ }
+    requires { ⌜ (d ≤ mostDimension) × (words < manyCorners) × (births < 2305843009213693952) × (pairs < 2305843009213693952) ⌝ }
     ensures { λ n. ⌜ n ≡ 16 + words / (d + 1) * (10 + 4 * d) + births / 3 * 14 + pairs / 2 * 6 ⌝ }
 {
     let cells = words / (d + 1);

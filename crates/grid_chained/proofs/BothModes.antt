@@ -1,15 +1,16 @@
 -- Where no axis with a non-empty set is itself reflected, both modes make the same classes: a renaming leads from each vertex of the first mode to a class, and back. Assumes nothing.
 use mathlib.Core.Path.{_≡_, refl, sym, ap, subst, _∙_}
-use mathlib.Core.Bool.{Bool, true, false, cond}
+use mathlib.Core.Bool.{Bool, true, false, cond, false≢true}
 use mathlib.Core.Logic.{_⊎_, _↔_, inl, inr, ⊎-elim}
 use Prim.Native.Nat.{ℕ, zero, suc, _+_, _≤_, _<_}
-use native.Mathlib.Nat.{not-suc-le-zero, add-zero}
+use native.Mathlib.Nat.{not-suc-le-zero}
 use native.Mathlib.Omega.{arith}
 use lib.Dec.{eqb}
 use borrow.Author.Tests.{eqb-true, eqb-false, eq-eqb, ne-eqb}
 use Rattle.refusal.specs.declared.Answer.the-variants.{Fine}
 use Rattle.quotient.specs.declared.Grid.{Grid}
-use Rattle.quotient.specs.Fold.{firstFrom, least}
+use Rattle.lists.specs.Words.{firstWhere}
+use Rattle.lists.proofs.Words.{first-full, first-found}
 use Rattle.quotient.specs.Shape.{verticesOf, checkOf}
 use Rattle.quotient.specs.Reduce.{vertexOf}
 use Rattle.quotient.specs.Points.{pointsOf}
@@ -20,28 +21,14 @@ use Rattle.quotient.proofs.Chain.{chain-law}
 use Rattle.grid_chained.specs.Classing.{Classing}
 use Rattle.grid_chained.specs.Laws.{Renamed}
 
--- ---- searches that find
+-- ---- a search that finds
 
-found-from : (f : ℕ → Bool) (n j i : ℕ) → j ≤ i → i < n + j → f i ≡ true → (firstFrom f n j < n + j) × (f (firstFrom f n j) ≡ true)
-unfolding firstFrom
-found-from f zero j i h l e = absurd (let w : ⊥ = omega arith in w)
-found-from f (suc n) j i h l e = by-test (f j) refl (λ u. found-from f n (suc j) i (later u) (omega arith) e)
-  where
-    later : f j ≡ false → suc j ≤ i
-    later u = ⊎-elim (λ (m : j < i). m) (λ (m : i ≤ j). let q : i ≡ j = omega arith in absurd (let z : true ≡ false = sym e ∙ ap f q ∙ u in never z)) (lt-or-ge j i)
-      where
-        never : true ≡ false → ⊥
-        never z = let w : _≡_ {A = ℕ} 0 1 = ap (λ (b : Bool). cond b 0 1) z in omega arith
-
-    by-test : (b : Bool) → f j ≡ b → (b ≡ false → (firstFrom f n (suc j) < n + suc j) × (f (firstFrom f n (suc j)) ≡ true)) → (cond b j (firstFrom f n (suc j)) < suc n + j) × (f (cond b j (firstFrom f n (suc j))) ≡ true)
-    by-test true u k = (omega arith, u)
-    by-test false u k = let w = k refl in let x : firstFrom f n (suc j) < n + suc j = w .0 in (omega arith, w .1)
-
-found : (f : ℕ → Bool) (n i : ℕ) → i < n → f i ≡ true → (least f n < n) × (f (least f n) ≡ true)
+found : (f : ℕ → Bool) (n i : ℕ) → i < n → f i ≡ true → (firstWhere f n < n) × (f (firstWhere f n) ≡ true)
 found f n i l e =
-    let w = found-from f n 0 i (omega arith) (rw (add-zero n) l) e in
-    let x : least f n < n + 0 = w .0 in
-    (omega arith, w .1)
+    ⊎-elim
+    (λ (m : firstWhere f n < n). (m, first-found f n m))
+    (λ (m : n ≤ firstWhere f n). absurd (false≢true (sym (first-full f n m i l) ∙ e)))
+    (lt-or-ge (firstWhere f n) n)
 
 -- ---- numbers below m that stay apart below n are no more than n
 
@@ -80,23 +67,23 @@ apart-le (suc m) (suc n) f below one = let h : m ≤ n = apart-le m n (moved f m
 
 -- the class of vertex x: that of its first point; and the vertex of class y
 abbrev pub classOfVertex : Grid → (ℕ → ℕ) → ℕ → ℕ
-classOfVertex g c x = c (least (λ p. eqb (vertexOf g p) x) (pointsOf g))
+classOfVertex g c x = c (firstWhere (λ p. eqb (vertexOf g p) x) (pointsOf g))
 
 abbrev pub vertexOfClass : Grid → (ℕ → ℕ) → ℕ → ℕ
-vertexOfClass g c y = vertexOf g (least (λ p. eqb (c p) y) (pointsOf g))
+vertexOfClass g c y = vertexOf g (firstWhere (λ p. eqb (c p) y) (pointsOf g))
 
 module _ (g : Grid) (fine : checkOf g ≡ Fine) (untangled : Untangled g) (c : ℕ → ℕ) (m : ℕ) (k : Classing g c m) where
   pub class-is : (p : ℕ) → p < pointsOf g → classOfVertex g c (vertexOf g p) ≡ c p
   class-is p h =
       let w = found (λ q. eqb (vertexOf g q) (vertexOf g p)) (pointsOf g) p h (eq-eqb (vertexOf g p) (vertexOf g p) refl) in
-      let q : ℕ = least (λ q. eqb (vertexOf g q) (vertexOf g p)) (pointsOf g) in
+      let q : ℕ = firstWhere (λ q. eqb (vertexOf g q) (vertexOf g p)) (pointsOf g) in
       let e : vertexOf g q ≡ vertexOf g p = eqb-true (vertexOf g q) (vertexOf g p) (w .1) in
       k .classes q p (w .0) h .1 (chain-law g fine untangled q p (w .0) h .0 e)
 
   pub vertex-is : (p : ℕ) → p < pointsOf g → vertexOfClass g c (c p) ≡ vertexOf g p
   vertex-is p h =
       let w = found (λ q. eqb (c q) (c p)) (pointsOf g) p h (eq-eqb (c p) (c p) refl) in
-      let q : ℕ = least (λ q. eqb (c q) (c p)) (pointsOf g) in
+      let q : ℕ = firstWhere (λ q. eqb (c q) (c p)) (pointsOf g) in
       let e : c q ≡ c p = eqb-true (c q) (c p) (w .1) in
       chain-law g fine untangled q p (w .0) h .1 (k .classes q p (w .0) h .0 e)
 

@@ -9,7 +9,8 @@ use Rattle.quotient.specs.declared.Glue.{Glue}
 use Rattle.quotient.specs.declared.Glue.the-variants.{Open, Periodic, Twisted}
 use Rattle.quotient.specs.declared.Axis.{Axis}
 use Rattle.quotient.specs.declared.Grid.{Grid}
-use Rattle.quotient.specs.Fold.{firstFrom, product, some, count}
+use Rattle.lists.specs.Words.{foundAt, firstWhere}
+use Rattle.quotient.specs.Fold.{product, some, count}
 use Rattle.quotient.specs.Shape.{axisOf, badSet, checkOf}
 use Rattle.quotient.specs.Reduce.{restAt}
 use Rattle.quotient.specs.Points.{fromDigits}
@@ -48,5 +49,5 @@ module _ (s : Sides) where
 
   -- 6 is not among the checks before the room
   pub line-shape : (shapeOf (record { d = 1; first = axis 4096 Open; second = axis 0 Open; third = axis 0 Open; sides = s }) ∷ checkOf (record { d = 1; first = axis 4096 Open; second = axis 0 Open; third = axis 0 Open; sides = s }) ∷ []) ≡ Fine ∷ Refused 6 0 ∷ []
-  unfolding shapeOf checkOf firstFrom some badSet axisOf product
+  unfolding shapeOf checkOf firstWhere foundAt some badSet axisOf product
   line-shape = refl

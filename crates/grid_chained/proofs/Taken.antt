@@ -3,7 +3,7 @@ use mathlib.Core.Path.{_≡_, refl, sym, ap, subst, _∙_}
 use mathlib.Core.Bool.{Bool, true, false, cond}
 use mathlib.Core.Logic.{_⊎_, inl, inr, ⊎-elim}
 use Prim.Native.Nat.{ℕ, zero, suc, _+_, _-_, _*_, _≤_, _<_}
-use native.Mathlib.Nat.{mul-comm, mul-assoc, mul-one, mul-suc, suc-mul, mul-le-mul-left, mul-le-mul-right, le-trans, le-refl, add-zero}
+use native.Mathlib.Nat.{mul-comm, mul-assoc, mul-one, mul-suc, suc-mul, mul-le-mul-left, mul-le-mul-right, le-trans, le-refl}
 use native.Mathlib.Numerals.{add-one}
 use native.Mathlib.Omega.{arith}
 use lib.Dec.{ltb, eqb}
@@ -12,13 +12,14 @@ use Rattle.refusal.specs.declared.Answer.{Answer}
 use Rattle.refusal.specs.declared.Answer.the-variants.{Fine, Refused}
 use Rattle.refusal.specs.Refuse.{refuse}
 use Rattle.refusal.specs.Table.{badDimension, tooManyCells, tooManyVertices, shortAxisNumber, badReflectionNumber}
-use Rattle.refusal.specs.Limits.{mostDimension, mostCells, mostVertices}
+use Rattle.refusal.specs.Limits.{mostDimension, mostCells, mostVertices, mostCorners}
 use Rattle.refusal.proofs.Chain.{refuse-fine}
 use Rattle.quotient.specs.declared.Grid.{Grid}
 use Rattle.quotient.specs.Fold.{product, factorial}
 use Rattle.quotient.specs.Shape.{cellsOn, closedAt, closedFloor, openFloor, pointsOn, fallsShort, badReflection, shortAxis, cellCount, verticesOf, checkOf}
 use Rattle.quotient.specs.Points.{fromDigits, pointsOf}
-use Rattle.quotient.proofs.Laws.{none-found, product-mono, product-more, product-step, place, lt-or-ge}
+use Rattle.lists.proofs.Words.{first-full}
+use Rattle.quotient.proofs.Laws.{product-mono, product-more, product-step, place, lt-or-ge}
 use Rattle.quotient.proofs.Radix.{number-lt}
 use Rattle.grid_chained.specs.Shape.{shapeOf, needOf}
 
@@ -57,10 +58,6 @@ module _ (g : Grid) where
 
 -- ---- numbers
 
--- no words have more corners
-abbrev pub mostCorners : ℕ
-mostCorners = mostCells * suc mostDimension
-
 pub regroup : (F P n k : ℕ) → F * P * (n * k) ≡ F * k * (P * n)
 regroup F P n k = rw (mul-comm n k, mul-assoc F P (k * n), ← (mul-assoc P k n), mul-comm P k, mul-assoc k P n, ← (mul-assoc F k (P * n)))
 
@@ -97,7 +94,7 @@ module _ (g : Grid) (fine : shapeOf g ≡ Fine) where
   pub some-cell : (k : ℕ) → k < g .d → 1 ≤ cellsOn g k
   some-cell k l =
       by-kind (closedAt g k) (cellsOn g k)
-      (ltb-false _ _ (none-found (fallsShort g) (g .d) 0 (rw (add-zero (g .d)) (ltb-false _ _ (tests .3))) k (omega arith) (omega arith)))
+      (ltb-false _ _ (first-full (fallsShort g) (g .d) (ltb-false _ _ (tests .3)) k l))
     where
       by-kind : (b : Bool) (n : ℕ) → cond b closedFloor openFloor ≤ n → 1 ≤ n
       by-kind true n h = omega arith

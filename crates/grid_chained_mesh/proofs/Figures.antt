@@ -30,7 +30,7 @@ use Rattle.quotient.specs.declared.Glue.{Glue}
 use Rattle.quotient.specs.declared.Glue.the-variants.{Open, Periodic, Twisted}
 use Rattle.quotient.specs.declared.Axis.{Axis}
 use Rattle.quotient.specs.declared.Grid.{Grid}
-use Rattle.quotient.specs.Fold.{firstFrom, product, some, count}
+use Rattle.quotient.specs.Fold.{product, some, count}
 use Rattle.quotient.specs.Shape.{noAxis, axisOf, badSet, checkOf, cellCount}
 use Rattle.quotient.specs.Reduce.{restAt}
 use Rattle.quotient.specs.Points.{fromDigits, pointsOf}
@@ -147,7 +147,7 @@ plane-crowd =
 
 -- ---- so the call says 7 of that grid, where there is room
 plane-shape : shapeOf plane ≡ Fine
-unfolding shapeOf axisOf product firstFrom some badSet
+unfolding shapeOf axisOf product firstWhere foundAt some badSet
 plane-shape = refl
 
 plane-few : classCount plane ≡ 10

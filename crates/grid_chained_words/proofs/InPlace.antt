@@ -6,6 +6,7 @@ use native.Mathlib.Nat.{mul-le-mul-right, le-trans, div-le-self}
 use native.Mathlib.Omega.{arith}
 use lib.ListN.{length, take, drop, take-append-drop}
 use lib.Seq.{length-take-le}
+use Rattle.refusal.specs.Limits.{manyCorners}
 use Rattle.multiindex.specs.Sort.{sortWords}
 use Rattle.multiindex.proofs.WordsLaws.{words-length}
 use Rattle.sorting.specs.Bucket.{cell}
@@ -21,8 +22,8 @@ module _ (d len : ℕ) (keys rows spare counts : List ℕ) (k : Sorting d len ke
   long : length (take len keys) ≡ len
   long = length-take-le len keys (k .front)
 
-  pub few : len < 65536
-  few = subst (λ (n : ℕ). n < 65536) long (few-corners d (take len keys) (k .passed))
+  pub few : len < manyCorners
+  few = subst (λ (n : ℕ). n < manyCorners) long (few-corners d (take len keys) (k .passed))
 
   pub whole : len / (d + 1) * (d + 1) ≡ len
   whole = subst (λ (n : ℕ). n / (d + 1) * (d + 1) ≡ n) long (whole-words d (take len keys) (k .passed))

@@ -9,6 +9,7 @@ use lib.IntN.{pos}
 use lib.Ieee.{fin}
 use lib.ListN.{length}
 use Rattle.lists.specs.Rows.{cut}
+use Rattle.lists.specs.Words.{foundAt, firstWhere}
 use Rattle.multiindex.specs.Sort.{insertBy, insert, sortWord}
 use Rattle.complex.specs.Cells.{decides, comesBefore, placed, place, inOrder}
 use Rattle.complex.specs.Cells as Complex
@@ -19,7 +20,7 @@ use Rattle.quotient.specs.declared.Glue.{Glue}
 use Rattle.quotient.specs.declared.Glue.the-variants.{Open, Periodic, Twisted}
 use Rattle.quotient.specs.declared.Axis.{Axis}
 use Rattle.quotient.specs.declared.Grid.{Grid}
-use Rattle.quotient.specs.Fold.{product, firstFrom, some}
+use Rattle.quotient.specs.Fold.{product, some}
 use Rattle.quotient.specs.Shape.{noAxis, axisOf, badSet, checkOf, cellCount}
 use Rattle.quotient.specs.Reduce.{restAt, reflectedBy, numberTo}
 use Rattle.quotient.specs.Points.{fromDigits}
@@ -46,7 +47,7 @@ abbrev tangled : Grid
 tangled = plane (axis 3 (Twisted 2)) (axis 3 (Twisted 1))
 
 tangled-taken : checkOf tangled ≡ Fine
-unfolding checkOf badSet some firstFrom product axisOf
+unfolding checkOf badSet some firstWhere foundAt product axisOf
 tangled-taken = refl
 
 pub tangled-words : cellCount tangled ≡ 18

@@ -4,4 +4,5 @@ pub mod Edges
 pub mod Sizes
 pub mod Room
 pub mod Said
+pub mod Unread
 pub mod Figures

@@ -1,8 +1,8 @@
 -- The visits of one box are those of every other, moved: what a visit measures depends only on its place in its box, so there are no more values than a box has visits. Assumes nothing.
 use mathlib.Core.Path.{_≡_, refl, sym, ap, ap₂, subst, _∙_}
-use mathlib.Core.Bool.{Bool, true, false, cond}
+use mathlib.Core.Bool.{Bool, true, false, cond, _&&_}
 use mathlib.Core.List.{List, [], _∷_, _++_}
-use Prim.Native.Nat.{ℕ, zero, suc, _+_, _-_, _*_, _/_, _%_, _≤_, _<_}
+use Prim.Native.Nat.{ℕ, zero, suc, _+_, _-_, _*_, _/_, _%_, _≤_, _<_, min, max}
 use native.Mathlib.Nat.{mod-lt, mod-le, mul-assoc, mul-comm, add-mul, one-mul, mul-one, mul-le-mul-left, mul-le-mul-right, le-trans, le-refl, le-of-suc-le-suc, div-add-mod', div-lt-iff-lt-mul, div-div-eq-div-mul}
 use native.Mathlib.Omega.{arith}
 use lib.Arith.{digits-div, digits-mod, mod-mul}
@@ -10,7 +10,7 @@ use lib.Dec.{eqb, leb}
 use lib.Ieee.{Float, binary64, add}
 use lib.ListN.{length, getD, take, drop, length-append}
 use lib.Seq.{length-take-le, take-append-le, take-all}
-use borrow.Author.Tests.{leb-true}
+use borrow.Author.Tests.{leb-true, eqb-true}
 use Rattle.refusal.specs.declared.Answer.the-variants.{Fine}
 use Rattle.multiindex.proofs.Tables.{at-below}
 use Rattle.lists.specs.Tables.{tab}
@@ -26,18 +26,28 @@ use Rattle.quotient.specs.Points.{pointsOf, pointOf}
 use Rattle.quotient.proofs.Taken.{taken-low}
 use Rattle.grid_words.specs.Cells.{boxesOf, boxAt}
 use Rattle.grid_words.specs.WorkNumbered.{eachBox, cornerOf}
-use Rattle.grid_words.specs.Work.{vertexTable, movedTo, movedBy, Moving}
-use Rattle.grid_words.proofs.Corners.{dim, few-orders, some-order, cells-product, corner-lt, boxes-some}
+use Rattle.grid_words.specs.Work.{vertexTable, movedTo, movedBy, touchesAt, Moving}
+use Rattle.grid_words.proofs.Corners.{dim, few-orders, some-order, cells-product, corner-lt, corners-apart, boxes-some}
 use Rattle.grid_words.proofs.Moved.{corner-moved, step-moved, in-cells, points-corners}
-use Rattle.grid_lengths.specs.Edges.{firstEnd, secondEnd, edgesEach, visitsOf, cornerAt, fromAt, toAt, spacingsOf, stepsOf, squareAt}
+use Rattle.grid_words.proofs.Touched.{untouched}
+use Rattle.grid_lengths.specs.Edges.{firstEnd, secondEnd, edgesEach, visitsOf, cornerAt, fromAt, toAt, spacingsOf, stepsOf, squareAt, sameEnds, visitsEdge}
 use Rattle.grid_lengths.specs.Noted.{endOf, endsOf}
 use Rattle.grid_lengths.specs.Work.{visitsEach, endPoint, endReach, Valued}
-use Rattle.grid_lengths.proofs.Measuring.{some-edges, each-few, corner-at, ends-below, place-in, cell-in}
+use Rattle.grid_lengths.proofs.Measuring.{some-edges, each-few, end-rise, corner-at, ends-below, place-in, cell-in}
 
 -- a cell has no more corners than its edges have ends
 ends-most : (d : ℕ) → 1 ≤ d → d ≤ 3 → suc d ≤ edgesEach d * 2
 ends-most zero l h = absurd (let w : ⊥ = omega arith in w)
 ends-most (suc d) l h = leb-true (suc (suc d)) (edgesEach (suc d) * 2) (at-below 3 (λ d. leb (suc (suc d)) (edgesEach (suc d) * 2)) refl d h)
+
+-- an edge at a has an end a
+ends-other : (a b p q : ℕ) → (p ≡ a → ⊥) → (q ≡ a → ⊥) → sameEnds a b p q ≡ false
+ends-other a b p q f h = go (eqb (min a b) (min p q)) (eqb (max a b) (max p q)) refl refl
+  where
+    go : (s t : Bool) → eqb (min a b) (min p q) ≡ s → eqb (max a b) (max p q) ≡ t → s && t ≡ false
+    go false t e k = refl
+    go true false e k = refl
+    go true true e k = let x : min a b ≡ min p q = eqb-true (min a b) (min p q) e in let y : max a b ≡ max p q = eqb-true (max a b) (max p q) k in absurd (let w : ⊥ = omega arith in w)
 
 -- ---- a squared length reads the steps along the axes below d
 squares-same : (h : Sides) (s t : Steps) (k : ℕ) → ((i : ℕ) → i ≤ k → stepOf s i ≡ stepOf t i) → squaresTo h s k ≡ squaresTo h t k
@@ -126,6 +136,25 @@ module _ (g : Grid) (fine : checkOf g ≡ Fine) where
 
     ends-low : (firstEnd edge ≤ g .d) × (secondEnd edge ≤ g .d)
     ends-low = ends-below (g .d) edge (dim g fine) edge-in
+
+    pub from-within : fromAt g r < pointsOf g
+    from-within = rw from-here (corner-lt g fine (box * eachBox g + cell) (firstEnd edge) (ends-low .0))
+
+    pub to-within : toAt g r < pointsOf g
+    to-within = rw to-here (corner-lt g fine (box * eachBox g + cell) (secondEnd edge) (ends-low .1))
+
+    -- its ends have different vertices
+    pub ends-apart : vertexOf g (fromAt g r) ≡ vertexOf g (toAt g r) → ⊥
+    ends-apart e =
+        corners-apart g fine (box * eachBox g + cell) (firstEnd edge) (secondEnd edge) (end-rise edge (omega (arith, edge-in, each-few (g .d) (dim g fine)))) (ends-low .1)
+        (ap (vertexOf g) (sym from-here) ∙ e ∙ ap (vertexOf g) to-here)
+
+    -- a box of which no corner is a has no visit of an edge at a
+    pub visit-skipped : (a b : ℕ) → touchesAt g (r / visitsEach g) a ≡ false → visitsEdge g a b r ≡ false
+    visit-skipped a b f =
+        ends-other a b (vertexOf g (fromAt g r)) (vertexOf g (toAt g r))
+        (λ e. untouched g fine box a cell (firstEnd edge) f cell-each (ends-low .0) (ap (vertexOf g) (sym from-here) ∙ e))
+        (λ e. untouched g fine box a cell (secondEnd edge) f cell-each (ends-low .1) (ap (vertexOf g) (sym to-here) ∙ e))
 
     -- what it measures
     pub square-boxed : squareAt g r ≡ squareAt g (r % visitsEach g)

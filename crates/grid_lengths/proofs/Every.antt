@@ -33,7 +33,7 @@ Sound (Clash x y) = Unit {0}
 Sound NoEdge = Unit {0}
 Sound (Refused n p) = ⊥
 
-abbrev Reached : EdgeLength → Type 0
+abbrev pub Reached : EdgeLength → Type 0
 Reached (Length x) = Unit {0}
 Reached (Clash x y) = Unit {0}
 Reached NoEdge = ⊥
@@ -69,7 +69,7 @@ module _ (g : Grid) (a b : ℕ) where
   sound-to zero = tt
   sound-to (suc r) = subst Sound (sym (values-more g a b r)) (sound-next (visitsEdge g a b r) (settle (valuesTo g a b r)) (squareAt g r) (sound-to r))
 
-  reached-after : (x : ℕ) → visitsEdge g a b x ≡ true → (r : ℕ) → x < r → Reached (settle (valuesTo g a b r))
+  pub reached-after : (x : ℕ) → visitsEdge g a b x ≡ true → (r : ℕ) → x < r → Reached (settle (valuesTo g a b r))
   reached-after x e zero h = absurd (let z : ⊥ = omega arith in z)
   reached-after x e (suc r) h =
       subst Reached (sym (values-more g a b r))

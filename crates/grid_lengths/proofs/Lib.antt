@@ -1,6 +1,7 @@
 -- Laws that the proofs of `grid_lengths` cite.
 pub mod Measuring
 pub mod Boxed
+pub mod Skipped
 pub mod Values
 pub mod Notes
 pub mod Gathered
@@ -8,3 +9,4 @@ pub mod Steps
 pub mod Entry
 pub mod Determined
 pub mod Every
+pub mod NoEdge

@@ -44,6 +44,9 @@ ends-below d e h l = (
 pub end-small : (e : ℕ) → e < 6 → (firstEnd e < 4) × (secondEnd e < 4)
 end-small e h = (ltb-true (firstEnd e) 4 (at-below 6 (λ e. ltb (firstEnd e) 4) refl e h), ltb-true (secondEnd e) 4 (at-below 6 (λ e. ltb (secondEnd e) 4) refl e h))
 
+pub end-rise : (e : ℕ) → e < 6 → firstEnd e < secondEnd e
+end-rise e h = ltb-true (firstEnd e) (secondEnd e) (at-below 6 (λ e. ltb (firstEnd e) (secondEnd e)) refl e h)
+
 -- ---- a grid that is taken
 module _ (g : Grid) (fine : checkOf g ≡ Fine) where
   pub some-edges : 0 < edgesEach (g .d)

@@ -1,10 +1,11 @@
 -- The visits of edges (document 01, "Lengths"): the cells of the grid in sorted order, and of each cell the pairs of its corners. Assumes nothing.
 use mathlib.Core.Bool.{Bool, _&&_}
 use mathlib.Core.List.{List, [], _∷_, map}
-use Prim.Native.Nat.{ℕ, suc, _+_, _-_, _*_, _/_, _%_, min, max}
+use mathlib.Core.Path.{_≡_}
+use Prim.Native.Nat.{ℕ, suc, _+_, _-_, _*_, _/_, _%_, _<_, min, max}
 use lib.Dec.{eqb}
 use lib.Ieee.{Float}
-use lib.ListN.{getD}
+use lib.ListN.{length, getD}
 use Rattle.lists.specs.Tables.{upto}
 use Rattle.grid_sides.specs.declared.Sides.{Sides}
 use Rattle.grid_sides.specs.declared.Steps.{Steps}
@@ -68,3 +69,9 @@ visitsEdge g a b r = sameEnds a b (vertexOf g (fromAt g r)) (vertexOf g (toAt g 
 -- the glued edges, colex
 abbrev pub edgesOf : Grid → List (List ℕ)
 edgesOf g = inOrder 2 (map (λ r. vertexOf g (fromAt g r) ∷ vertexOf g (toAt g r) ∷ []) (upto (visitsOf g)))
+
+-- a and b are the ends of a glued edge
+pub record EdgeAmong (g : Grid) (a b : ℕ) : Type 0 where
+  pub number : ℕ
+  pub within : number < length (edgesOf g)
+  pub ends : getD (edgesOf g) number [] ≡ min a b ∷ max a b ∷ []

@@ -1,6 +1,7 @@
 -- What is known of an edge once its values are met, one after the other: a later value replaces the earlier if they agree; else they clash. Assumes nothing.
 use mathlib.Core.Bool.{Bool, true, false, cond}
 use mathlib.Core.List.{List, [], _∷_, _++_}
+use mathlib.Core.Path.{_≡_}
 use Prim.Native.Nat.{ℕ, zero, suc}
 use lib.Ieee.{Float}
 use Rattle.refusal.specs.declared.Answer.{Answer}
@@ -11,7 +12,7 @@ use Rattle.quotient.specs.declared.GluedVertex.{GluedVertex}
 use Rattle.quotient.specs.Shape.{sidesCheckOf}
 use Rattle.grid_lengths.specs.declared.EdgeLength.{EdgeLength}
 use Rattle.grid_lengths.specs.declared.EdgeLength.the-variants.{Length, Clash, NoEdge, Refused}
-use Rattle.grid_lengths.specs.Edges.{visitsOf, squareAt, visitsEdge}
+use Rattle.grid_lengths.specs.Edges.{visitsOf, squareAt, visitsEdge, EdgeAmong}
 
 -- one value more
 abbrev pub metBy : EdgeLength → Float → EdgeLength
@@ -53,3 +54,8 @@ edgeAfter (Answer.Refused n p) x = Refused n p
 -- the answer to the question of one edge
 unfoldable pub edgeLengthOf : Grid → GluedVertex → GluedVertex → EdgeLength
 edgeLengthOf g a b = edgeAfter (sidesCheckOf g) (settle (edgeValues g (a .0) (b .0)))
+
+-- the answer is that there is no edge exactly where the two are not the ends of one
+pub record NoEdgeExactly (g : Grid) (a b : GluedVertex) : Type 0 where
+  pub only : edgeLengthOf g a b ≡ NoEdge → EdgeAmong g (a .0) (b .0) → ⊥
+  pub all : sidesCheckOf g ≡ Answer.Fine → (EdgeAmong g (a .0) (b .0) → ⊥) → edgeLengthOf g a b ≡ NoEdge

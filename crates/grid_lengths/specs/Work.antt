@@ -15,7 +15,9 @@ use Rattle.quotient.specs.Reduce.{vertexOf}
 use Rattle.quotient.specs.Points.{pointsOf}
 use Rattle.lists.specs.Tables.{tab}
 use Rattle.grid_words.specs.WorkNumbered.{eachBox}
+use Rattle.grid_lengths.specs.declared.EdgeLength.{EdgeLength}
 use Rattle.grid_lengths.specs.Edges.{edgesEach, visitsOf, fromAt, toAt, squareAt, edgesOf}
+use Rattle.grid_lengths.specs.Settled.{settle, valuesTo}
 use Rattle.grid_lengths.specs.Noted.{oneEdge}
 use Rattle.grid_lengths.specs.Lengths.{endsRoom, LengthsEnd}
 
@@ -29,6 +31,13 @@ endPoint g i = cond (eqb (i % 2) 0) (fromAt g (i / 2)) (toAt g (i / 2))
 
 abbrev pub endReach : Grid → List ℕ
 endReach g = tab (visitsEach g * 2) (endPoint g)
+
+-- what the visits before start came to is known, and those before end are to come
+pub record Settling (g : Grid) (a b start end : ℕ) (known : EdgeLength) : Type 0 where
+  pub taken : checkOf g ≡ Fine
+  pub rising : start ≤ end
+  pub within : end ≤ visitsOf g
+  pub so-far : known ≡ settle (valuesTo g a b start)
 
 -- values has what each visit of the first box measures, and so what every visit does
 pub record Valued (g : Grid) (values : List Float) : Type 0 where

@@ -15,10 +15,10 @@ ghost use Rattle.refusal.specs.declared.Answer.the-variants.{Fine};
 ghost use Rattle.quotient.specs.Shape.{checkOf};
 ghost use Rattle.quotient.specs.Reduce.{coordAt, vertexOf};
 ghost use Rattle.grid_lengths.specs.Edges.{firstEnd, secondEnd, edgesEach, visitsOf, fromAt, toAt, spacingsOf, squareAt, sameEnds, visitsEdge};
-ghost use Rattle.grid_lengths.specs.Settled.{metBy, settle, edgeValues, afterVisit, edgeLengthOf};
+ghost use Rattle.grid_lengths.specs.Settled.{metBy, settle, valuesTo, edgeValues, afterVisit, edgeLengthOf};
 ghost use Rattle.grid_lengths.specs.Noted.{endsOf, told, isLength, Noting, Noted, Clashed};
 ghost use Rattle.grid_lengths.specs.Lengths.{lengthsNeed, EdgeLengths};
-ghost use Rattle.grid_lengths.specs.Work.{visitsEach, endPoint, endReach, Valued, EndsLent, Working, Classed, Handing, Worked};
+ghost use Rattle.grid_lengths.specs.Work.{visitsEach, endPoint, endReach, Settling, Valued, EndsLent, Working, Classed, Handing, Worked};
 ghost use Rattle.lists.specs.Tables.{tab};
 ghost use Rattle.lists.specs.Zero.{AllZero};
 use grid_sides::Sides;
@@ -239,17 +239,36 @@ pub fn edge_length_sq(grid: Grid, from: GluedVertex, to: GluedVertex) -> EdgeLen
     settled(grid, from.0, to.0)
 }
 
-// What all visits of the edge between a and b come to.
+// What the first visits of the edge between a and b come to, up to visit `end`, where `known` is what those before visit `start` came to.
+fn settled_to(grid: Grid, a: u32, b: u32, start: usize, end: usize, known: EdgeLength) -> EdgeLength
+    requires { ⌜ Settling grid a b start end known ⌝ }
+    ensures { λ r. ⌜ r ≡ settle (valuesTo grid a b end) ⌝ }
+{
+    let mut now = known;
+    let mut r = start;
+    while r < end {
+        now = visited(grid, a, b, r, now);
+        r += 1;
+    }
+    now
+}
+
+// What all visits of the edge between a and b come to. A box of which no corner is a has none of them.
 fn settled(grid: Grid, a: u32, b: u32) -> EdgeLength
     requires { ⌜ checkOf grid ≡ Fine ⌝ }
     ensures { λ r. ⌜ r ≡ settle (edgeValues grid a b) ⌝ }
 {
-    let total = visits(grid);
+    let boxes = grid_words::boxes(grid);
+    let each = visits_each(grid);
     let mut known = EdgeLength::NoEdge;
-    let mut r = 0;
-    while r < total {
-        known = visited(grid, a, b, r, known);
-        r += 1;
+    let mut x = 0usize;
+    while x < boxes {
+        if grid_words::touches(grid, x, GluedVertex(a)) {
+            known = settled_to(grid, a, b, x * each, x * each + each, known);
+            x += 1;
+            continue;
+        }
+        x += 1;
     }
     known
 }

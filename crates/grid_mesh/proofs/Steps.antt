@@ -11,6 +11,7 @@ use lib.Seq.{length-take-le}
 use Rattle.refusal.specs.declared.Answer.the-variants.{Fine}
 use Rattle.refusal.specs.declared.Counted.{Counted}
 use Rattle.refusal.specs.declared.Counted.the-variants.{Count, Refused}
+use Rattle.refusal.specs.Limits.{manyCorners, mostCells}
 use Rattle.refusal.specs.Table.{crowdedFacet, tooShort}
 use Rattle.refusal.specs.Lent.{onto}
 use Rattle.lists.specs.Rows.{cut, row}
@@ -68,14 +69,14 @@ module _ (n count : ℕ) (ws rest : List ℕ) (whole : count * n ≡ length ws) 
 
 -- ---- a grid that is taken: its words are few
 module _ (g : Grid) (fine : checkOf g ≡ Fine) where
-  pub corners-few : cornersOf g < 65536
+  pub corners-few : cornersOf g < manyCorners
   corners-few = omega (arith, words-long g fine, few-corners (g .d) (flatWords g) (words-pass g fine))
 
   -- the number of corners as the code has it
   pub corners-are : (count : ℕ) → count ≡ cellCount g → count * (g .d + 1) ≡ cornersOf g
   corners-are count e = rw (e, add-one (g .d))
 
-  pub count-few : (count : ℕ) → count ≡ cellCount g → count ≤ 4096
+  pub count-few : (count : ℕ) → count ≡ cellCount g → count ≤ mostCells
   count-few count e = rw e (taken-cells g fine)
 
   pub words-many : length (wordsOf g) ≡ cellCount g

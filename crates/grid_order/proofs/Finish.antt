@@ -192,7 +192,7 @@ module _ (g : Grid) (at : ℕ) (keys rows₀ spare counts : List ℕ) (w : Worki
         size-few : m * suc (g .d) < none
         size-few = omega (arith, size-most, corners-few g (w .taken))
 
-        pub size-small : m * (g .d + 1) < 65536
+        pub size-small : m * (g .d + 1) < manyCorners
         size-small = rw (add-one (g .d)) (omega (arith, size-most, corners-few g (w .taken)))
 
         size-code : m * (g .d + 1) ≡ m * suc (g .d)

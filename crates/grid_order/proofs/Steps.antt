@@ -9,6 +9,7 @@ use native.Mathlib.Omega.{arith}
 use lib.ListN.{length, getD, take, drop, length-append, length-drop}
 use lib.Seq.{length-take-le, take-at, drop-at, getD-take, getD-drop}
 use Rattle.refusal.specs.declared.Answer.the-variants.{Fine}
+use Rattle.refusal.specs.Limits.{manyCorners}
 use Rattle.refusal.specs.Table.{tooShort}
 use Rattle.refusal.specs.Lent.{onto}
 use Rattle.lists.specs.Rows.{cut, rows, row}
@@ -59,7 +60,7 @@ module _ (g : Grid) (m : ℕ) (list rows₀ reps table : List ℕ) (w : Laying g
   pub rows-in : (i : ℕ) → i < m → getD reps i 0 * (g .d + 1) + (g .d + 1) ≤ cornersOf g
   rows-in i h = rw (add-one (g .d)) (pos-room (getD reps i 0) (cellCount g) (suc (g .d)) (w .below i h))
 
-  pub size-small : m * (g .d + 1) < 65536
+  pub size-small : m * (g .d + 1) < manyCorners
   size-small = omega (arith, size-fits, corners-few g (w .taken))
 
   pub size-rows : m * (g .d + 1) ≤ length rows₀

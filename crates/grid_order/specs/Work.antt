@@ -5,6 +5,7 @@ use mathlib.Core.Path.{_≡_}
 use Prim.Native.Nat.{ℕ, suc, _+_, _*_, _<_, _≤_}
 use lib.ListN.{length, getD, take, drop}
 use Rattle.refusal.specs.declared.Answer.the-variants.{Fine}
+use Rattle.refusal.specs.Limits.{manyCorners}
 use Rattle.refusal.specs.Table.{tooShort}
 use Rattle.refusal.specs.Lent.{onto}
 use Rattle.sorting.specs.Gather.{rowsOf}
@@ -45,8 +46,8 @@ pub record Decided (d m count : ℕ) (mates list : List ℕ) (r : Bool) : Type 0
 -- the words by cell and the cells behind them are to be handed out
 pub record Handing (size m : ℕ) (list : List ℕ) : Type 0 where
   pub long : size + size ≤ length list
-  pub small : size < 65536
-  pub few : m < 65536
+  pub small : size < manyCorners
+  pub few : m < manyCorners
 
 -- what is handed out
 pub data Out (size m : ℕ) (list : List ℕ) (cells order : ℕ) : Bool → Triangulated → Handed → Type 0 where

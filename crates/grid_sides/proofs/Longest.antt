@@ -11,7 +11,8 @@ use borrow.Author.Tests.{ltb-false, not-false}
 use lib.Ieee.{Float, nan, inf, fin, binary64, up, down, le, lt}
 use lib.Ieee.Positive.{positive, num, den, cross→le, le-trans-positive}
 use Rattle.grid_sides.specs.declared.Sides.{Sides}
-use Rattle.grid_sides.specs.Counts.{sideFits, sideOf, unfit, badFrom, firstBad, largerOf, longestTo, longestOf, nearestWhole, share, axisCount}
+use Rattle.grid_sides.specs.Counts.{sideFits, sideOf, unfit, firstBad, largerOf, longestTo, longestOf, nearestWhole, share, axisCount}
+use Rattle.lists.proofs.Words.{first-full}
 use Rattle.grid_sides.proofs.Share.{fits-positive, share-le, S-positive}
 use Rattle.grid_sides.proofs.Nearest.{Nearest, whole-is}
 
@@ -46,25 +47,10 @@ module _ (a b : Float) (ha : T (sideFits a)) (hb : T (sideFits b)) where
   larger-is : T (sideFits (largerOf a b)) × T (le a (largerOf a b)) × T (le b (largerOf a b))
   larger-is = larger-by (lt a b) refl
 
--- ---- what a search that found nothing says
-none-step : (s : Sides) (n j : ℕ) (b : Bool) → unfit s j ≡ b → suc n + j ≤ cond b j (badFrom s n (suc j)) → (b ≡ false) × (n + suc j ≤ badFrom s n (suc j))
-none-step s n j true e h = absurd (let z : suc n + j ≤ j = h in let w : ⊥ = omega arith in w)
-none-step s n j false e h = (refl, omega arith)
-
-none-found : (s : Sides) (n j : ℕ) → n + j ≤ badFrom s n j → (i : ℕ) → j ≤ i → i < n + j → unfit s i ≡ false
-unfolding badFrom
-none-found s zero j h i l u = absurd (let w : ⊥ = omega arith in w)
-none-found s (suc n) j h i l u =
-    let t = none-step s n j (unfit s j) refl h in
-    ⊎-elim
-    (λ (m : j < i). none-found s n (suc j) (t .1) i m (omega arith))
-    (λ (m : i ≤ j). let q : j ≡ i = omega arith in rw q at (t .0))
-    (lt-or-ge j i)
-
 module _ (s : Sides) (d : ℕ) (ok : d ≤ firstBad s d) where
   pub side-ok : (i : ℕ) → i < d → T (sideFits (sideOf s i))
   side-ok i h =
-      let e : sideFits (sideOf s i) ≡ true = not-false (sideFits (sideOf s i)) (none-found s d 0 (omega arith) i (omega arith) (omega arith)) in
+      let e : sideFits (sideOf s i) ≡ true = not-false (sideFits (sideOf s i)) (first-full (unfit s) d ok i h) in
       subst T (sym e) tt
 
   longest-ok : (k : ℕ) → k < d → T (sideFits (longestTo s k))

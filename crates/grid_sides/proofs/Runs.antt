@@ -1,7 +1,6 @@
--- Laws on the runs over a grid's axes: the search for a side that is refused, the longest side, the sum of squares. Assumes nothing.
+-- Laws on the runs over a grid's axes: the longest side, the sum of squares. Assumes nothing.
 use mathlib.Core.Path.{_≡_, refl, sym, ap, subst, _∙_}
 use mathlib.Core.Bool.{Bool, true, false, cond, not}
-use mathlib.Core.List.{List, [], _∷_}
 use Prim.Native.Nat.{ℕ, zero, suc, _+_, _-_, _≤_, _<_}
 use native.Mathlib.Nat.{not-suc-le-zero}
 use native.Mathlib.Numerals.{add-one}
@@ -9,43 +8,26 @@ use native.Mathlib.Omega.{arith}
 use lib.IntN.{pos}
 use lib.ListN.{List·getD-eq-default}
 use lib.Ieee.{Float, fin, binary64, add}
+use Rattle.refusal.specs.Limits.{mostDimension}
 use Rattle.grid_sides.specs.declared.Sides.{Sides}
 use Rattle.grid_sides.specs.declared.Steps.{Steps}
 use Prim.Native.Nat.{max}
-use Rattle.grid_sides.specs.Counts.{share, nearestWhole, axisCount, sideFits, sideOf, unfit, badFrom, largerOf, longestTo}
-use Rattle.grid_sides.specs.Lengths.{stepOf, squareOf, squaresTo}
+use Rattle.grid_sides.specs.Counts.{share, nearestWhole, axisCount, sideFits, allSides, sideOf, unfit, largerOf, longestTo}
+use Rattle.grid_sides.specs.Lengths.{allSteps, stepOf, squareOf, squaresTo}
 
-pub side-past : (s : Sides) (i : ℕ) → 3 ≤ i → fin false 0 (pos 0) ≡ sideOf s i
+pub side-past : (s : Sides) (i : ℕ) → mostDimension ≤ i → fin false 0 (pos 0) ≡ sideOf s i
 unfolding sideOf
-side-past s i h = sym (List·getD-eq-default (s .first ∷ s .second ∷ s .third ∷ []) (fin false 0 (pos 0)) h)
+side-past s i h = sym (List·getD-eq-default (allSides s) (fin false 0 (pos 0)) h)
 
-pub step-past : (s : Steps) (i : ℕ) → 3 ≤ i → 0 ≡ stepOf s i
+pub step-past : (s : Steps) (i : ℕ) → mostDimension ≤ i → 0 ≡ stepOf s i
 unfolding stepOf
-step-past s i h = sym (List·getD-eq-default (s .first ∷ s .second ∷ s .third ∷ []) 0 h)
+step-past s i h = sym (List·getD-eq-default (allSteps s) 0 h)
 
 pub fits-not-bad : (s : Sides) (i : ℕ) (x : Float) → x ≡ sideOf s i → sideFits x ≡ true → false ≡ unfit s i
 fits-not-bad s i x hx h = let e : sideFits (sideOf s i) ≡ true = rw hx at h in rw e
 
 pub unfit-bad : (s : Sides) (i : ℕ) (x : Float) → x ≡ sideOf s i → sideFits x ≡ false → true ≡ unfit s i
 unfit-bad s i x hx h = let e : sideFits (sideOf s i) ≡ false = rw hx at h in rw e
-
-less-one : (d i : ℕ) → i < d → d - i ≡ suc (d - (i + 1))
-less-one d i h = omega arith
-
-pub bad-here : (s : Sides) (d i : ℕ) → i < d → unfit s i ≡ true → badFrom s (d - i) i ≡ i
-unfolding badFrom
-bad-here s d i h e = rw (less-one d i h, e)
-
-pub bad-next : (s : Sides) (d i : ℕ) → i < d → unfit s i ≡ false → badFrom s (d - i) i ≡ badFrom s (d - (i + 1)) (i + 1)
-unfolding badFrom
-bad-next s d i h e = rw (less-one d i h, e, add-one i)
-
-pub bad-none : (s : Sides) (d i : ℕ) → i ≤ d → d ≤ i → badFrom s (d - i) i ≡ d
-unfolding badFrom
-bad-none s d i h l = let e : d - i ≡ 0 = omega arith in let q : i ≡ d = omega arith in rw e q
-
-pub from-zero : (d : ℕ) → d - 0 ≡ d
-from-zero d = omega arith
 
 pub longest-more : (s : Sides) (i : ℕ) (x y r : Float) → 1 ≤ i → x ≡ longestTo s (i - 1) → y ≡ sideOf s i → r ≡ largerOf x y → r ≡ longestTo s (i + 1 - 1)
 unfolding longestTo

@@ -2,6 +2,7 @@
 use mathlib.Core.List.{List, [], _∷_}
 use mathlib.Core.Bool.{not}
 use lib.ListN.{getD}
+use Rattle.lists.specs.Words.{firstWhere}
 use Rattle.grid_sides.specs.declared.Sides.{Sides}
 use Prim.Native.Nat.{ℕ, zero, suc, _-_, _+_, _*_, _/_, _^_, min, max}
 use mathlib.Core.Bool.{Bool, true, false, cond, _&&_}
@@ -41,9 +42,13 @@ axisCount extent longest n floor = max (max (nearestWhole (share extent longest 
 
 -- ---- the sides of a grid
 
--- the side of axis i, from 0 to 2; past them 0
+-- the sides in their order
+abbrev pub allSides : Sides → List Float
+allSides s = s .first ∷ s .second ∷ s .third ∷ []
+
+-- the side of axis i; past the last 0
 unfoldable pub sideOf : Sides → ℕ → Float
-sideOf s i = getD (s .first ∷ s .second ∷ s .third ∷ []) i (fin false 0 (pos 0))
+sideOf s i = getD (allSides s) i (fin false 0 (pos 0))
 
 -- the side of an axis below d, and 1 past it
 unfoldable pub keptSide : Sides → ℕ → ℕ → Float
@@ -57,14 +62,9 @@ sidesBelow s d = record { first = keptSide s d 0; second = keptSide s d 1; third
 abbrev pub unfit : Sides → ℕ → Bool
 unfit s i = not (sideFits (sideOf s i))
 
--- the first of the n axes from j on whose side is refused; j + n if none is
-unfoldable pub badFrom : Sides → ℕ → ℕ → ℕ
-badFrom s zero j = j
-badFrom s (suc n) j = cond (unfit s j) j (badFrom s n (suc j))
-
 -- the least axis below d whose side is refused; d if none is
 abbrev pub firstBad : Sides → ℕ → ℕ
-firstBad s d = badFrom s d 0
+firstBad s d = firstWhere (unfit s) d
 
 abbrev pub largerOf : Float → Float → Float
 largerOf a b = cond (lt a b) b a

@@ -31,9 +31,13 @@ tolerance = ofBits binary64 0x3d71_9799_812d_ea11
 unfoldable pub agrees : Float → Float → Bool
 agrees known later = le (magnitude (sub binary64 known later)) (mul binary64 tolerance later)
 
--- the step along axis i, from 0 to 2; past them 0
+-- the steps in their order
+abbrev pub allSteps : Steps → List ℕ
+allSteps s = s .first ∷ s .second ∷ s .third ∷ []
+
+-- the step along axis i; past the last 0
 unfoldable pub stepOf : Steps → ℕ → ℕ
-stepOf s i = getD (s .first ∷ s .second ∷ s .third ∷ []) i 0
+stepOf s i = getD (allSteps s) i 0
 
 -- the squares of axes 0 to k, added axis 0 first
 unfoldable pub squaresTo : Sides → Steps → ℕ → Float

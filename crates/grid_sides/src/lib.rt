@@ -6,6 +6,7 @@ ghost use Prim.Native.Nat.{ℕ, suc, _+_, _*_, _<_, _≤_, _^_, min, max};
 ghost use lib.Ieee.{binary64};
 ghost use Rattle.grid_sides.specs.Counts.{sideFits, nearestWhole, share, axisCount, largerOf, sideOf, unfit, firstBad, longestOf, keptSide, sidesBelow};
 ghost use Rattle.grid_sides.specs.Lengths.{spacingOf, squareOf, agrees, stepOf, lengthSq};
+use refusal::MOST_DIMENSION;
 
 // A number for each axis, as its side or its spacing.
 pub struct Sides {
@@ -107,7 +108,7 @@ fn larger(a: f64, b: f64) -> f64
 }
 
 impl Sides {
-    // The side of axis i; past the third 0.
+    // The side of axis i; past the last 0.
     pub fn side(self, i: u32) -> f64
         ensures { λ r. ⌜ r ≡ sideOf self i ⌝ }
     {
@@ -115,7 +116,7 @@ impl Sides {
             self.first
         } else if i < 2 {
             self.second
-        } else if i < 3 {
+        } else if i < MOST_DIMENSION {
             self.third
         } else {
             0.0
@@ -192,7 +193,7 @@ impl Sides {
 }
 
 impl Steps {
-    // The step along axis i, and past the third 0.
+    // The step along axis i; past the last 0.
     pub fn along(self, i: u32) -> u32
         ensures { λ r. ⌜ r ≡ stepOf self i ⌝ }
     {
@@ -200,7 +201,7 @@ impl Steps {
             self.first
         } else if i < 2 {
             self.second
-        } else if i < 3 {
+        } else if i < MOST_DIMENSION {
             self.third
         } else {
             0

@@ -5,4 +5,5 @@ pub mod Flat
 pub mod Listed
 pub mod Good
 pub mod Moved
+pub mod Touched
 pub mod Figures

@@ -52,6 +52,14 @@ module _ (g : Grid) (fine : checkOf g ≡ Fine) where
   order-same : (x y : ℕ) → x % eachBox g ≡ y % eachBox g → orderAt g x ≡ orderAt g y
   order-same x y e = ap (λ (m : ℕ). orderOf (g .d) (eachBox g - 1 - m)) e
 
+  -- ---- a corner of the first box
+  pub corner-first : (x j : ℕ) → x < eachBox g → j ≤ g .d → cornerOf g x j ≡ pointOf g (λ k. timesIn k (take j (orderAt g x)))
+  corner-first x j h l =
+      let t : ℕ → ℕ = λ k. timesIn k (take j (orderAt g x)) in
+      corner-point g fine x j l
+      ∙ number-same (pointsOn g) (λ k. boxAt g (x / eachBox g) k + t k) t (g .d)
+      (λ k m. let z : x / eachBox g ≡ 0 = div-eq-of-lt h in omega (arith, ap (λ (y : ℕ). boxAt g y k) z, box-zero k))
+
   -- ---- a corner of box b
   pub corner-moved : (b x j : ℕ) → x < eachBox g → j ≤ g .d → cornerOf g (b * eachBox g + x) j ≡ pointOf g (boxAt g b) + cornerOf g x j
   corner-moved b x j h l =
@@ -63,11 +71,7 @@ module _ (g : Grid) (fine : checkOf g ≡ Fine) where
       corner-point g fine (b * n + x) j l
       ∙ ap (λ (m : ℕ). pointOf g (λ k. boxAt g m k + timesIn k (take j (orderAt g (b * n + x))))) q
       ∙ ap (λ (os : List ℕ). pointOf g (λ k. boxAt g b k + timesIn k (take j os))) (order-same (b * n + x) x r) in
-      let first : cornerOf g x j ≡ pointOf g t =
-      corner-point g fine x j l
-      ∙ number-same (pointsOn g) (λ k. boxAt g (x / n) k + t k) t (g .d)
-      (λ k m. let z : x / n ≡ 0 = div-eq-of-lt h in omega (arith, ap (λ (y : ℕ). boxAt g y k) z, box-zero k)) in
-      here ∙ number-add (pointsOn g) (boxAt g b) t (g .d) ∙ ap (λ (p : ℕ). pointOf g (boxAt g b) + p) (sym first)
+      here ∙ number-add (pointsOn g) (boxAt g b) t (g .d) ∙ ap (λ (p : ℕ). pointOf g (boxAt g b) + p) (sym (corner-first x j h l))
 
   -- so the steps between two corners are those between the corners of the first box
   pub step-moved : (b x i j k : ℕ) → x < eachBox g → i ≤ g .d → j ≤ g .d → k < g .d

@@ -15,8 +15,9 @@ ghost use Rattle.quotient.specs.Shape.{cellsOn, pointsOn, checkOf, cellCount};
 ghost use Rattle.quotient.specs.Points.{pointsOf, pointOf};
 ghost use Rattle.grid_words.specs.Cells.{boxAt, flatWords};
 ghost use Rattle.grid_words.specs.WorkNumbered.{strideOf, cornerOf};
-ghost use Rattle.grid_words.specs.Work.{vertexTable, reachLong, reachOf, movedBy, Moving, Writing};
+ghost use Rattle.grid_words.specs.Work.{vertexTable, reachLong, reachOf, movedBy, boxCorners, offsetOf, touchesAt, Moving, Writing};
 use multiindex::permutation;
+use quotient::GluedVertex;
 use quotient::Grid;
 use quotient::GridVertex;
 
@@ -24,7 +25,7 @@ use quotient::GridVertex;
 const MOST_REACH: usize = 24;
 
 // How many boxes a grid has that is taken.
-fn boxes(grid: Grid) -> usize
+pub fn boxes(grid: Grid) -> usize
     requires { ⌜ checkOf grid ≡ Fine ⌝ }
     ensures { λ r. ⌜ r ≡ product (cellsOn grid) (grid .d) ⌝ }
 {
@@ -89,6 +90,59 @@ fn origin(grid: Grid, b: usize) -> usize
         k += 1;
     }
     x
+}
+
+// How many corners a box has.
+fn box_corners(grid: Grid) -> usize
+    requires { ⌜ checkOf grid ≡ Fine ⌝ }
+    ensures { λ r. ⌜ r ≡ boxCorners grid ⌝ }
+{
+    let d = grid.d;
+    let mut n = 1usize;
+    let mut k = 0u32;
+    while k < d {
+        n = n + n;
+        k += 1;
+    }
+    n
+}
+
+// How far from its box's origin corner m of a box lies: a step along each axis whose binary digit of m is 1.
+fn offset(grid: Grid, m: usize) -> usize
+    requires { ⌜ checkOf grid ≡ Fine ⌝ }
+    ensures { λ r. ⌜ r ≡ offsetOf grid m ⌝ }
+{
+    let d = grid.d;
+    let mut s = 1usize;
+    let mut x = 0usize;
+    let mut rest = m;
+    let mut k = 0u32;
+    while k < d {
+        x = x + s * (rest % 2);
+        s = s * grid.points_on(k);
+        rest = rest / 2;
+        k += 1;
+    }
+    x
+}
+
+// Whether a corner of box b is vertex v.
+pub fn touches(grid: Grid, b: usize, v: GluedVertex) -> bool
+    requires { ⌜ checkOf grid ≡ Fine ⌝ }
+    ensures { λ r. ⌜ r ≡ touchesAt grid b (v .0) ⌝ }
+{
+    let n = box_corners(grid);
+    let from = origin(grid, b);
+    let mut m = 0usize;
+    while m < n {
+        let c = grid.crossed(GridVertex((from + offset(grid, m)) as u32));
+        let p = c.vertex;
+        if p.0 == v.0 {
+            return true;
+        }
+        m += 1;
+    }
+    false
 }
 
 // The grid point of corner j of cell x.

@@ -1,15 +1,11 @@
 -- With lists of the lengths that are told, a call never says 12. Assumes nothing.
-use mathlib.Core.Bool.{Bool, true, false, not}
 use mathlib.Core.List.{List, [], _∷_}
-use mathlib.Core.Path.{_≡_, refl, sym, ap, _∙_, subst}
-use Prim.Native.Nat.{ℕ, zero, suc, _+_, _*_, _/_, _%_, _<_, _≤_}
-use native.Mathlib.Nat.{mul-le-mul-right}
+use mathlib.Core.Path.{_≡_, refl}
+use Prim.Native.Nat.{ℕ, suc, _*_, _≤_}
 use native.Mathlib.Omega.{arith}
-use lib.Dec.{eqb, leb, ltb}
 use lib.IntN.{ℤ}
 use lib.ListN.{length}
 use Rattle.lists.specs.Rows.{flat}
-use Rattle.lists.specs.Words.{largestOf}
 use Rattle.refusal.specs.declared.Answer.{Answer}
 use Rattle.refusal.specs.declared.Answer.the-variants as Answer
 use Rattle.refusal.specs.declared.Counted.{Counted}
@@ -17,19 +13,14 @@ use Rattle.refusal.specs.declared.Counted.the-variants as Counted
 use Rattle.refusal.specs.declared.Verdict.{Verdict}
 use Rattle.refusal.specs.declared.Verdict.the-variants as Verdict
 use Rattle.refusal.specs.declared.Room.{Room}
-use Rattle.refusal.specs.Limits.{mostDimension, mostCells, mostVertices}
-use Rattle.refusal.specs.Refuse.{refuse}
-use Rattle.refusal.specs.Table.{badDimension, raggedWords, tooManyCells, vertexTwice, tooManyVertices, unusedNumber, tooShort}
+use Rattle.refusal.specs.Table.{tooShort}
 use Rattle.refusal.specs.Lent.{Roomy, lengths}
-use Rattle.refusal.specs.Call.{Call, Comes, refused, cramped, ended}
-use Rattle.refusal.proofs.Chain.{refused-number}
-use Rattle.complex.specs.Check.{firstRepeat, leastUnused, answerOf, Passed}
+use Rattle.complex.specs.Check.{answerOf, Passed}
 use Rattle.complex.specs.Cells.{cellsOf}
 use Rattle.complex.specs.Facets.{Crowded}
 use Rattle.complex.specs.Room.{keyRoom, needOf}
 use Rattle.complex.specs.Skeleton.{edgesOf, facetsOf, borderOf}
 use Rattle.complex.proofs.Fine.{fine-passed}
-use Rattle.complex_cells.proofs.Making.{whole-words}
 use Rattle.complex_facets.specs.Sides.{tableOf}
 use Rattle.skeleton.specs.Parts.{edgeNeed}
 use Rattle.skeleton.specs.Promise as skeleton
@@ -40,48 +31,13 @@ use Rattle.orientation_by.specs.Promise as orientation-by
 use Rattle.ordering.specs.declared.Ordered.{Ordered}
 use Rattle.ordering.specs.declared.Ordered.the-variants as Ordered
 use Rattle.ordering.specs.Promise as ordering
-use Rattle.planner_needs.specs.Needs.{worked, lists, cellsNeed, edgesNeed, facetsNeed, borderNeed, signsNeed, plainNeed, orderedNeed, turnsNeed}
-use Rattle.planner_needs.specs.Enough.{Long, countedNumber, verdictNumber, coherenceNumber, orderedNumber}
-use Rattle.planner_needs.proofs.Laws.{worked-taken}
-use Rattle.planner_needs.proofs.Sizes.{cells-most, corners-most, cells-fit, edges-fit, facets-fit, table-fits, border-fits}
-
--- ---- the check of a word list never says 12
-pub passes-over : (t : Bool) (number place : ℕ) (rest : Answer) → (number ≡ tooShort → ⊥) → ((p : ℕ) → rest ≡ Answer.Refused tooShort p → ⊥) → (p : ℕ) → refuse t number place rest ≡ Answer.Refused tooShort p → ⊥
-passes-over true number place rest other never p e = other (refused-number number place tooShort p e)
-passes-over false number place rest other never p e = never p e
-
-pub fine-never : (p : ℕ) → Answer.Fine ≡ Answer.Refused tooShort p → ⊥
-fine-never p e = let z : _≡_ {A = ℕ} 0 1 = cc in omega arith
-
-pub check-never : (d : ℕ) (ws : List ℕ) (p : ℕ) → answerOf d ws ≡ Answer.Refused tooShort p → ⊥
-unfolding answerOf
-check-never d ws =
-    passes-over (ltb mostDimension d) badDimension 0 _ (λ (e : badDimension ≡ tooShort). omega (arith, e))
-    (passes-over (eqb (length ws) 0) raggedWords 0 _ (λ (e : raggedWords ≡ tooShort). omega (arith, e))
-    (passes-over (not (eqb (length ws % (d + 1)) 0)) raggedWords 0 _ (λ (e : raggedWords ≡ tooShort). omega (arith, e))
-    (passes-over (ltb mostCells (length ws / (d + 1))) tooManyCells 0 _ (λ (e : tooManyCells ≡ tooShort). omega (arith, e))
-    (passes-over (ltb (firstRepeat (d + 1) ws (length ws / (d + 1))) (length ws / (d + 1))) vertexTwice (firstRepeat (d + 1) ws (length ws / (d + 1))) _ (λ (e : vertexTwice ≡ tooShort). omega (arith, e))
-    (passes-over (leb mostVertices (largestOf ws)) tooManyVertices 0 _ (λ (e : tooManyVertices ≡ tooShort). omega (arith, e))
-    (passes-over (ltb (leastUnused ws) (largestOf ws)) unusedNumber (leastUnused ws) _ (λ (e : unusedNumber ≡ tooShort). omega (arith, e))
-    fine-never))))))
-
--- ---- a call: the check, the room and the end never say 12
-module _ {S H : Type 0} (no : ℕ → ℕ → S) (number : S → ℕ) (refusal : (n p : ℕ) → number (no n p) ≡ n) (nothing : H) (checked : Answer) (over : (p : ℕ) → checked ≡ Answer.Refused tooShort p → ⊥) (P : Type 0) (fine : checked ≡ Answer.Fine → P) (need have : Room) (Ends : S → H → Type 0) where
-  pub never : (P → Roomy need have) → (P → (r : S) (h : H) → Ends r h → number r ≡ tooShort → ⊥) → {r : S} {h : H} {u : Room} → Comes no nothing checked need have Ends r h u → number r ≡ tooShort → ⊥
-  never roomy ends (refused {n = n} {p = p} e) t = over p (e ∙ ap (λ (z : ℕ). Answer.Refused z p) (sym (refusal n p) ∙ t))
-  never roomy ends (cramped e less) t = less (roomy (fine e))
-  never roomy ends (ended {r = r} {h = h} e fits end) t = ends (fine e) r h end t
-
--- ---- a checked list is worked on whole
-all-worked : (d : ℕ) (ws : List ℕ) → Passed d ws → worked d (length ws) ≡ length ws
-all-worked d ws p = worked-taken d (length ws) (p .small) (omega (arith, whole-words d ws p, mul-le-mul-right (d + 1) (p .few)))
-
-key-least : (d n : ℕ) → d * n ≤ keyRoom d n
-key-least zero n = omega arith
-key-least (suc d) n = omega arith
-
-pub roomy-of : (need : Room) (a b c e : ℕ) → Long (lists need) (a ∷ b ∷ c ∷ e ∷ []) → Roomy need (record { keys = a; rows = b; spare = c; counts = e })
-roomy-of need a b c e l = record { in-keys = l .0; in-rows = l .1 .0; in-spare = l .1 .1 .0; in-counts = l .1 .1 .1 .0 }
+use Rattle.needs.specs.Needs.{worked}
+use Rattle.needs.specs.Enough.{Long, countedNumber, verdictNumber}
+use Rattle.needs.proofs.Sizes.{cells-most, corners-most, cells-fit}
+use Rattle.needs.proofs.Enough.{check-never, never, roomy-of, key-least, told}
+use Rattle.planner_needs.specs.Needs.{cellsNeed, edgesNeed, facetsNeed, borderNeed, signsNeed, plainNeed, orderedNeed, turnsNeed}
+use Rattle.planner_needs.specs.Enough.{coherenceNumber, orderedNumber}
+use Rattle.planner_needs.proofs.Sizes.{edges-fit, facets-fit, table-fits, border-fits}
 
 -- ---- how the calls end
 listed-end : (d : ℕ) (cs words : List (List ℕ)) (given : ℕ) → length (flat words) ≤ given → (r : Counted) (h : List ℕ) → skeleton.Ends [] d cs (skeleton.Gives words given) r h → countedNumber r ≡ tooShort → ⊥
@@ -119,10 +75,6 @@ wound-end d cs order r h (ordering.crowded x) t = omega (arith, t)
 wound-end d cs order r h (ordering.unordered free non) t = omega (arith, t)
 wound-end d cs order r h (ordering.coherent free o some c) t = omega (arith, t)
 wound-end d cs order r h (ordering.incoherent free o non) t = omega (arith, t)
-
--- the told lengths are those of the words' own corners, once the words are checked
-told : (d : ℕ) (ws : List ℕ) (need : ℕ → List ℕ) (have : List ℕ) → Long (need (worked d (length ws))) have → Passed d ws → Long (need (length ws)) have
-told d ws need have l p = subst (λ (n : ℕ). Long (need n) have) (all-worked d ws p) l
 
 -- ---- the calls: the working lists have the lengths that are told, or more, and so has each result list
 module _ (d : ℕ) (ws keys rows spare counts : List ℕ) {keys′ rows′ spare′ counts′ : List ℕ} where

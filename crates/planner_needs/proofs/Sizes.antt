@@ -5,48 +5,23 @@ use mathlib.Core.Path.{_≡_, refl, sym, ap, _∙_, subst}
 use mathlib.Core.Logic.{inl, inr}
 use Prim.Native.Nat.{ℕ, zero, suc, _+_, _*_, _/_, _<_, _≤_}
 use native.Mathlib.Nat.{mul-le-mul-right, mul-le-mul-left, le-trans, suc-mul, mul-suc, mul-assoc, mul-comm}
-use native.Mathlib.Numerals.{add-one}
 use native.Mathlib.Omega.{arith}
 use lib.Dec.{eqb}
 use lib.ListN.{length, take, drop, length-append, length-take, length-drop}
-use Rattle.lists.specs.Rows.{rows, flat}
+use Rattle.lists.specs.Rows.{flat}
 use Rattle.lists.specs.Tables.{tab}
-use Rattle.lists.proofs.Rows.{cut-length}
 use Rattle.lists.proofs.Tables.{length-tab}
-use Rattle.multiindex.proofs.SortLaws.{sort-length}
 use Rattle.complex.specs.Check.{Passed}
-use Rattle.complex.specs.Room.{keyRoom}
-use Rattle.complex.specs.Cells.{cellsOf, comesBefore, placed, place}
+use Rattle.complex.specs.Cells.{cellsOf}
 use Rattle.complex.specs.Facets.{cellAt, facetAt, slots}
-use Rattle.complex.specs.Skeleton.{inColex, pairsWith, pairsOf, allPairs, edgesOf, facetRowOf, facetsOf, rowsWith, keepIf, keep, borderOf}
+use Rattle.complex.specs.Skeleton.{pairsWith, pairsOf, allPairs, edgesOf, facetRowOf, facetsOf, rowsWith, keepIf, keep, borderOf}
 use Rattle.complex_cells.proofs.Words.{Word, Each, In, each-in, each-of, in-at}
-use Rattle.complex_cells.proofs.Making.{whole-words}
 use Rattle.complex_facets.specs.Sides.{sideOf, sidesOf, eachSides, tableOf}
 use Rattle.complex_mates.proofs.Meeting.{slots-most}
-use Rattle.ordering_words.proofs.Orders.{order-length}
-use Rattle.skeleton.proofs.Laws.{cells-from, edges-from, facets-from}
-use Rattle.planner_needs.proofs.Words.{word-long}
+use Rattle.skeleton.proofs.Laws.{edges-from, facets-from}
+use Rattle.needs.proofs.Sizes.{flat-most, colex-most, corners-most, each-long}
 
--- ---- words one after the other, without duplicates, those that pass a test
-flat-most : (k : ℕ) (ws : List Word) → Each (λ v. length v ≤ k) ws → length (flat ws) ≤ length ws * k
-flat-most k [] a = omega arith
-flat-most k (w ∷ ws) a = omega (arith, length-append w (flat ws), flat-most k ws (a .1), a .0)
-
-place-most : (n : ℕ) (w : Word) (cs : List Word) → length (place n w cs) ≤ suc (length cs)
-unfolding place placed
-place-most n w [] = omega arith
-place-most n w (c ∷ cs) = go (comesBefore n w c) (comesBefore n c w) (place-most n w cs)
-  where
-    go : (a b : Bool) → length (place n w cs) ≤ suc (length cs) → length (placed a b w c cs (place n w cs)) ≤ suc (suc (length cs))
-    go true b r = omega arith
-    go false true r = omega arith
-    go false false r = omega arith
-
-colex-most : (n : ℕ) (ws : List Word) → length (inColex n ws) ≤ length ws
-unfolding inColex
-colex-most n [] = omega arith
-colex-most n (w ∷ ws) = omega (arith, place-most n w (inColex n ws), colex-most n ws)
-
+-- ---- words that pass a test
 keep-most : (p : Word → Bool) (ws : List Word) → length (keep p ws) ≤ length ws
 unfolding keep
 keep-most p [] = omega arith
@@ -117,42 +92,24 @@ sides-long d cs (f ∷ fs) = omega (arith, length-append (sidesOf d cs f) (eachS
 
 -- ---- of a checked word list
 module _ (d : ℕ) (ws : List ℕ) (p : Passed d ws) where
-  -- no more cells than words
-  pub cells-most : length (cellsOf d ws) ≤ length ws / suc d
-  unfolding cellsOf
-  cells-most =
-      let e : length ws / (d + 1) ≡ length ws / suc d = ap (λ (x : ℕ). length ws / x) (add-one d) in
-      omega (arith, order-length (d + 1) (rows (d + 1) ws), cut-length (d + 1) (length ws / (d + 1)) ws)
-
-  pub corners-most : length (cellsOf d ws) * suc d ≤ length ws
-  corners-most =
-      let e : length ws / (d + 1) * (d + 1) ≡ length ws / suc d * suc d = ap (λ (x : ℕ). length ws / x * x) (add-one d) in
-      omega (arith, whole-words d ws p, mul-le-mul-right (suc d) cells-most)
-
-  each-long : Each (λ v. length v ≡ suc d) (cellsOf d ws)
-  each-long = each-of (λ v. length v ≡ suc d) (cellsOf d ws) (λ v m. let r = cells-from d ws v m in omega (arith, ap length (r .2), sort-length (r .0), word-long d ws p (r .0) (r .1)))
-
-  pub cells-fit : length (flat (cellsOf d ws)) ≤ length ws
-  cells-fit = omega (arith, flat-most (suc d) (cellsOf d ws) (each-of (λ v. length v ≤ suc d) (cellsOf d ws) (λ v m. let h = each-in (λ v. length v ≡ suc d) v (cellsOf d ws) each-long m in omega arith)), corners-most)
-
   pub edges-fit : length (flat (edgesOf (cellsOf d ws))) ≤ d * length ws
   edges-fit =
       omega (
         arith,
-        edges-most d (cellsOf d ws) each-long,
+        edges-most d (cellsOf d ws) (each-long d ws p),
         mul-assoc (length (cellsOf d ws)) (suc d) d,
-        mul-le-mul-right d corners-most,
+        mul-le-mul-right d (corners-most d ws p),
         mul-comm d (length ws),
       )
 
   facets-few : length (facetsOf d (cellsOf d ws)) ≤ length ws
-  facets-few = omega (arith, facets-many d (cellsOf d ws), mul-le-mul-left (length (cellsOf d ws)) (slots-most d), corners-most)
+  facets-few = omega (arith, facets-many d (cellsOf d ws), mul-le-mul-left (length (cellsOf d ws)) (slots-most d), corners-most d ws p)
 
   pub facets-fit : length (flat (facetsOf d (cellsOf d ws))) ≤ d * length ws
   facets-fit =
       omega (
         arith,
-        flat-most d (facetsOf d (cellsOf d ws)) (each-of (λ v. length v ≤ d) (facetsOf d (cellsOf d ws)) (facet-long d (cellsOf d ws) each-long)),
+        flat-most d (facetsOf d (cellsOf d ws)) (each-of (λ v. length v ≤ d) (facetsOf d (cellsOf d ws)) (facet-long d (cellsOf d ws) (each-long d ws p))),
         mul-le-mul-right d facets-few,
         mul-comm d (length ws),
       )
@@ -166,7 +123,7 @@ module _ (d : ℕ) (ws : List ℕ) (p : Passed d ws) where
       omega (
         arith,
         flat-most d (borderOf d (cellsOf d ws))
-            (each-of (λ v. length v ≤ d) (borderOf d (cellsOf d ws)) (λ v m. facet-long d (cellsOf d ws) each-long v (keep-in (λ f. eqb (length (rowsWith d (cellsOf d ws) f)) 1) (facetsOf d (cellsOf d ws)) v m))),
+            (each-of (λ v. length v ≤ d) (borderOf d (cellsOf d ws)) (λ v m. facet-long d (cellsOf d ws) (each-long d ws p) v (keep-in (λ f. eqb (length (rowsWith d (cellsOf d ws) f)) 1) (facetsOf d (cellsOf d ws)) v m))),
         mul-le-mul-right d b,
         mul-comm d (length ws),
       )

@@ -1,39 +1,10 @@
 // How long the lists of each C function must be, told before it is called: result lists at most, working lists exactly, in the order of its parameters. With lists of these
 // lengths the call never says 12 (proofs/Enough). The needs are those that the calls test, cited and not written again. The port added it: the Rust has no lent lists.
-pub mod grids;
-
-use refusal::MOST_CELLS;
-use refusal::MOST_DIMENSION;
+use needs::corners;
+use needs::key_room;
 ghost use mathlib.Core.Path.{_≡_};
-ghost use Prim.Native.Nat.{suc, _*_, _≤_};
-ghost use Rattle.refusal.specs.Limits.{mostCells, mostDimension};
-ghost use Rattle.complex.specs.Room.{keyRoom};
-ghost use Rattle.planner_needs.specs.Needs.{Worked, worked, cellsNeed, edgesNeed, facetsNeed, borderNeed, signsNeed, plainNeed, orderedNeed, turnsNeed};
-
-// The corners that a call can come to work on: none where the dimension or the number of cells is refused before the lists are looked at.
-pub(crate) fn corners(d: u32, n: usize) -> usize
-    ensures { λ r. ⌜ Worked d n r ⌝ }
-{
-    if MOST_DIMENSION < d {
-        return 0;
-    }
-    let most = MOST_CELLS * (d as usize + 1);
-    if most < n {
-        return 0;
-    }
-    n
-}
-
-// How many numbers the keys of the facet rows take.
-pub(crate) fn key_room(d: u32, n: usize) -> usize
-    requires { ⌜ d * n ≤ mostDimension * (mostCells * suc mostDimension) ⌝ }
-    ensures { λ r. ⌜ r ≡ keyRoom d n ⌝ }
-{
-    if d == 0 {
-        return n;
-    }
-    d as usize * n
-}
+ghost use Rattle.needs.specs.Needs.{worked};
+ghost use Rattle.planner_needs.specs.Needs.{cellsNeed, edgesNeed, facetsNeed, borderNeed, signsNeed, plainNeed, orderedNeed, turnsNeed};
 
 // planner_cells: cells, keys, rows, spare, counts.
 #[no_mangle]

@@ -1,9 +1,9 @@
 -- A gluing's number from 768 on is refused with 9, as a set is that names an axis outside the grid. Assumes nothing.
 use mathlib.Core.Path.{_≡_, refl, sym, ap, _∙_}
-use mathlib.Core.Bool.{Bool, true, false, cond, false≢true}
+use mathlib.Core.Bool.{true, false≢true}
 use mathlib.Core.Logic.{⊎-elim}
 use mathlib.Core.List.{List}
-use Prim.Native.Nat.{ℕ, zero, suc, _+_, _*_, _≤_, _<_}
+use Prim.Native.Nat.{ℕ, _+_, _*_, _≤_, _<_}
 use native.Mathlib.Omega.{arith}
 use lib.Dec.{ltb}
 use lib.Ieee.{Float}
@@ -15,11 +15,12 @@ use Rattle.refusal.specs.Table.{badReflectionNumber}
 use Rattle.refusal.specs.Limits.{mostDimension}
 use Rattle.lists.specs.Tables.{tab}
 use Rattle.lists.proofs.Tables.{getD-tab}
+use Rattle.lists.proofs.Words.{first-before}
 use Rattle.grid_sides.specs.Counts.{firstBad}
 use Rattle.quotient.specs.declared.Axis.{Axis}
 use Rattle.quotient.specs.declared.Glue.{Glue}
 use Rattle.quotient.specs.declared.Grid.{Grid}
-use Rattle.quotient.specs.Fold.{firstFrom, member}
+use Rattle.quotient.specs.Fold.{member}
 use Rattle.quotient.specs.Shape.{noAxis, axisOf, maskOf, maskAt, badSet, reflectsBadly, badReflection, checkOf, sidesCheckOf}
 use Rattle.quotient.proofs.Laws.{lt-or-ge}
 use Rattle.quotient.proofs.Masks.{bad-own}
@@ -32,21 +33,13 @@ NineBy k a = (place : ℕ) × (place ≤ k) × (a ≡ Refused badReflectionNumbe
 
 -- ---- a grid one of whose axes reflects itself or an axis outside
 
-first-le : (p : ℕ → Bool) (n j i : ℕ) → j ≤ i → i < n + j → p i ≡ true → firstFrom p n j ≤ i
-unfolding firstFrom
-first-le p zero j i h l e = absurd (let w : ⊥ = omega arith in w)
-first-le p (suc n) j i h l e = by-test (p j) refl (λ u. first-le p n (suc j) i (later u) (omega arith) e)
-  where
-    later : p j ≡ false → suc j ≤ i
-    later u = ⊎-elim (λ (m : j < i). m) (λ (m : i ≤ j). let q : i ≡ j = omega arith in absurd (false≢true (sym u ∙ ap p (sym q) ∙ e))) (lt-or-ge j i)
-
-    by-test : (b : Bool) → p j ≡ b → (b ≡ false → firstFrom p n (suc j) ≤ i) → cond b j (firstFrom p n (suc j)) ≤ i
-    by-test true u k = h
-    by-test false u k = k refl
-
 module _ (g : Grid) (k : ℕ) (u : g .d ≤ mostDimension) (h : k < g .d) (bad : reflectsBadly g k ≡ true) where
   low : badReflection g ≤ k
-  low = first-le (reflectsBadly g) (g .d) 0 k (omega arith) (omega arith) bad
+  low =
+      ⊎-elim
+      (λ (l : k < badReflection g). absurd (false≢true (sym (first-before (reflectsBadly g) (g .d) k l) ∙ bad)))
+      (λ (l : badReflection g ≤ k). l)
+      (lt-or-ge k (badReflection g))
 
   reflection-refused : NineBy k (checkOf g)
   unfolding checkOf

@@ -13,35 +13,35 @@ use Rattle.quotient.specs.Fold.{some}
 use Rattle.refusal.specs.declared.Counted.{Counted}
 use Rattle.refusal.specs.declared.Counted.the-variants as Counted
 use Rattle.refusal.specs.Table.{badDimension, tooManyCells, tooManyVertices, shortAxisNumber, badReflectionNumber, badSide}
-use Rattle.refusal.specs.Limits.{mostDimension, mostCells, mostVertices}
+use Rattle.refusal.specs.Limits.{mostDimension}
 use Rattle.grid_sides.specs.Counts.{firstBad}
-use Rattle.quotient.specs.Shape.{reflectsOdd, parityOf, shapeCheck, countedAfter, checkOf, sidesCheckOf, nverticesOf, badReflection, shortAxis, cellCount, verticesOf}
-use Rattle.quotient.specs.Work.{shapeCount}
+use Rattle.quotient.specs.Shape.{reflectsOdd, parityOf, shapeCheck, countedAfter, checkOf, sidesCheckOf, badReflection, shortAxis, cellCount, verticesOf}
+use Rattle.quotient.specs.Work.{shapeCount, countWithin}
 
--- ---- from 9 on
-module _ (g : Grid) (b : ℕ) (eb : b ≡ badReflection g) where
-  pub is-9 : b < g .d → Counted.Refused badReflectionNumber b ≡ shapeCount g
+-- ---- from 9 on, within C cells and N vertices
+module _ (C N : ℕ) (g : Grid) (b : ℕ) (eb : b ≡ badReflection g) where
+  pub is-9 : b < g .d → Counted.Refused badReflectionNumber b ≡ shapeCount C N g
   is-9 h = rw (← eb, lt-ltb _ _ h)
 
   module _ (hb : g .d ≤ b) (s : ℕ) (es : s ≡ shortAxis g) where
-    pub is-8 : s < g .d → Counted.Refused shortAxisNumber s ≡ shapeCount g
+    pub is-8 : s < g .d → Counted.Refused shortAxisNumber s ≡ shapeCount C N g
     is-8 h = rw (← eb, le-ltb _ _ hb, ← es, lt-ltb _ _ h)
 
-    module _ (hs : g .d ≤ s) (n : ℕ) (en : n ≡ min (cellCount g) (mostCells + 1)) where
-      pub is-3 : mostCells < n → Counted.Refused tooManyCells 0 ≡ shapeCount g
-      is-3 h = let m : mostCells < cellCount g = omega arith in rw (← eb, le-ltb _ _ hb, ← es, le-ltb _ _ hs, lt-ltb _ _ m)
+    module _ (hs : g .d ≤ s) (n : ℕ) (en : n ≡ min (cellCount g) (C + 1)) where
+      pub is-3 : C < n → Counted.Refused tooManyCells 0 ≡ shapeCount C N g
+      is-3 h = let m : C < cellCount g = omega arith in rw (← eb, le-ltb _ _ hb, ← es, le-ltb _ _ hs, lt-ltb _ _ m)
 
-      module _ (hn : n ≤ mostCells) (k : ℕ) (ek : k ≡ min (verticesOf g) (mostVertices + 1)) where
-        cells-fine : cellCount g ≤ mostCells
+      module _ (hn : n ≤ C) (k : ℕ) (ek : k ≡ min (verticesOf g) (N + 1)) where
+        cells-fine : cellCount g ≤ C
         cells-fine = omega arith
 
-        pub is-6 : mostVertices < k → Counted.Refused tooManyVertices 0 ≡ shapeCount g
-        is-6 h = let m : mostVertices < verticesOf g = omega arith in rw (← eb, le-ltb _ _ hb, ← es, le-ltb _ _ hs, le-ltb _ _ cells-fine, lt-ltb _ _ m)
+        pub is-6 : N < k → Counted.Refused tooManyVertices 0 ≡ shapeCount C N g
+        is-6 h = let m : N < verticesOf g = omega arith in rw (← eb, le-ltb _ _ hb, ← es, le-ltb _ _ hs, le-ltb _ _ cells-fine, lt-ltb _ _ m)
 
         -- within the limit the count is not capped
-        pub is-count : k ≤ mostVertices → Counted.Count k ≡ shapeCount g
+        pub is-count : k ≤ N → Counted.Count k ≡ shapeCount C N g
         is-count h =
-            let m : verticesOf g ≤ mostVertices = omega arith in
+            let m : verticesOf g ≤ N = omega arith in
             let e : k ≡ verticesOf g = omega arith in
             rw (← eb, le-ltb _ _ hb, ← es, le-ltb _ _ hs, le-ltb _ _ cells-fine, le-ltb _ _ m, e)
 
@@ -55,27 +55,17 @@ check-fine Fine x n e = refl
 check-fine (Refused m q) x n e = absurd (let z : _≡_ {A = ℕ} 0 1 = cc in let w : ⊥ = omega arith in w)
 
 -- ---- before it
-module _ (g : Grid) where
-  pub is-1 : g .d < 1 → Counted.Refused badDimension 0 ≡ nverticesOf g
-  unfolding nverticesOf checkOf
+module _ (D C N : ℕ) (g : Grid) where
+  pub is-1 : g .d < 1 → Counted.Refused badDimension 0 ≡ countWithin D C N g
   is-1 h = rw (lt-ltb _ _ h)
 
-  pub is-1-too : 1 ≤ g .d → mostDimension < g .d → Counted.Refused badDimension 0 ≡ nverticesOf g
-  unfolding nverticesOf checkOf
+  pub is-1-too : 1 ≤ g .d → D < g .d → Counted.Refused badDimension 0 ≡ countWithin D C N g
   is-1-too l h = rw (le-ltb _ _ l, lt-ltb _ _ h)
 
-  pub is-rest : 1 ≤ g .d → g .d ≤ mostDimension → (a : Counted) → a ≡ shapeCount g → a ≡ nverticesOf g
-  unfolding nverticesOf checkOf
+  pub is-rest : 1 ≤ g .d → g .d ≤ D → (a : Counted) → a ≡ shapeCount C N g → a ≡ countWithin D C N g
   is-rest l u a e = rw (le-ltb _ _ l, le-ltb _ _ u) e
 
-  pub count-refused : (n p : ℕ) → Counted.Refused n p ≡ nverticesOf g → Refused n p ≡ checkOf g
-  unfolding nverticesOf
-  count-refused n p e = check-refused (checkOf g) (verticesOf g) n p e
-
-  pub count-fine : (n : ℕ) → Counted.Count n ≡ nverticesOf g → Fine ≡ checkOf g
-  unfolding nverticesOf
-  count-fine n e = check-fine (checkOf g) (verticesOf g) n e
-
+module _ (g : Grid) where
   pub sides-1 : g .d < 1 → Refused badDimension 0 ≡ sidesCheckOf g
   unfolding sidesCheckOf
   sides-1 h = rw (lt-ltb _ _ h)

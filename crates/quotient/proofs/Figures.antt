@@ -5,6 +5,7 @@ use Prim.Native.Nat.{ℕ}
 use mathlib.Core.Bool.{false}
 use lib.IntN.{pos}
 use lib.Ieee.{Float, fin}
+use Rattle.lists.specs.Words.{foundAt, firstWhere}
 use Rattle.quotient.specs.declared.Glue.{Glue}
 use Rattle.quotient.specs.declared.Glue.the-variants.{Open, Periodic, Twisted}
 use Rattle.quotient.specs.declared.Axis.{Axis}
@@ -13,7 +14,7 @@ use Rattle.quotient.specs.declared.Crossing.{Crossing}
 use Rattle.refusal.specs.declared.Answer.{Answer}
 use Rattle.refusal.specs.declared.Answer.the-variants.{Fine, Refused}
 use Rattle.quotient.specs.declared.Parity.the-variants as Parity
-use Rattle.quotient.specs.Fold.{firstFrom, product, some, count, setBelow}
+use Rattle.quotient.specs.Fold.{product, some, count, setBelow}
 use Rattle.quotient.specs.Shape.{axisOf, badSet, checkOf, oddSet, parityOf}
 use Rattle.quotient.specs.Reduce.{restAt, reflectedBy, numberTo, vertexOf, wrappedSet, reversedSet, crossingOf}
 
@@ -70,7 +71,7 @@ unfolding axisOf product restAt reflectedBy numberTo count setBelow wrappedSet r
 tangled-seam = refl
 
 pub band-odd : parityOf (flat 2 (axis 3 (Twisted 2)) (axis 1 Open)) ≡ Parity.Odd
-unfolding parityOf checkOf firstFrom some count badSet oddSet axisOf product
+unfolding parityOf checkOf firstWhere foundAt some count badSet oddSet axisOf product
 band-odd = refl
 
 -- the edges of the limits
@@ -79,5 +80,5 @@ line n g = checkOf (flat 1 (axis n g) (axis 0 Open))
 
 pub limits : (line 2 Periodic ∷ line 3 Periodic ∷ line 0 Open ∷ line 1 Open ∷ line 4095 Open ∷ line 4096 Open ∷ line 4097 Open ∷ line 4 (Twisted 1) ∷ line 4 (Twisted 2) ∷ [])
     ≡ Refused 8 0 ∷ Fine ∷ Refused 8 0 ∷ Fine ∷ Fine ∷ Refused 6 0 ∷ Refused 3 0 ∷ Refused 9 0 ∷ Refused 9 0 ∷ []
-unfolding checkOf firstFrom some badSet axisOf product
+unfolding checkOf firstWhere foundAt some badSet axisOf product
 limits = refl

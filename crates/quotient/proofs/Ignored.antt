@@ -1,18 +1,17 @@
--- Entries past d are not looked at: a grid of dimension 1 is answered by its first axis and side alone, one of dimension 2 by its first two. Assumes nothing.
-use mathlib.Core.Path.{_≡_, refl}
-use Prim.Native.Nat.{ℕ}
-use lib.Ieee.{Float}
-use Rattle.grid_sides.specs.declared.Sides.{Sides}
-use Rattle.grid_sides.specs.Counts.{sideOf, badFrom}
+-- Entries past d are not looked at: two grids that have the same axes and sides below d get the same answers. Assumes nothing.
+use mathlib.Core.Path.{_≡_, ap, _∙_}
+use mathlib.Core.Bool.{not}
+use Prim.Native.Nat.{ℕ, _<_}
+use Rattle.lists.specs.Words.{firstWhere}
+use Rattle.lists.proofs.Words.{first-same}
+use Rattle.grid_sides.specs.Counts.{sideFits, sideOf, unfit, firstBad}
 use Rattle.quotient.specs.declared.Axis.{Axis}
 use Rattle.quotient.specs.declared.Grid.{Grid}
 use Rattle.quotient.specs.declared.GridVertex.{GridVertex}
-use Rattle.quotient.specs.Fold.{firstFrom, product, some, count, setBelow}
-use Rattle.quotient.specs.Shape.{axisOf, checkOf, sidesCheckOf, nverticesOf, parityOf}
-use Rattle.quotient.specs.Reduce.{restAt, reflectedBy, numberTo, wrappedSet, reversedSet, reduceOf}
-
-abbrev box : ℕ → Axis → Axis → Axis → Float → Float → Float → Grid
-box d a b c x y z = record { d = d; first = a; second = b; third = c; sides = record { first = x; second = y; third = z } }
+use Rattle.quotient.specs.Shape.{closedOf, maskOf, checkOf, sidesCheckOf, nverticesOf, parityOf}
+use Rattle.quotient.specs.Reduce.{reduceOf}
+use Rattle.quotient.specs.Chain.{Alike, SameBelow}
+use Rattle.quotient.proofs.Alike.{nine-alike, eight-alike, cells-alike, vertices-alike, check-alike, nvertices-alike, parity-alike, reduce-alike}
 
 -- both grids get the same answers
 pub record Same (g h : Grid) : Type 0 where
@@ -22,10 +21,33 @@ pub record Same (g h : Grid) : Type 0 where
   pub parities : parityOf g ≡ parityOf h
   pub vertices : (v : GridVertex) → reduceOf g v ≡ reduceOf h v
 
-pub one-axis : (a b b′ c c′ : Axis) (x y y′ z z′ : Float) → Same (box 1 a b c x y z) (box 1 a b′ c′ x y′ z′)
-unfolding checkOf sidesCheckOf nverticesOf parityOf reduceOf axisOf sideOf badFrom firstFrom product some count setBelow restAt reflectedBy numberTo wrappedSet reversedSet
-one-axis a b b′ c c′ x y y′ z z′ = record { checks = refl; with-sides = refl; counts = refl; parities = refl; vertices = λ v. refl }
+-- ---- alike, with the same sides below d
+module _ (g h : Grid) (alike : Alike g h) (sides : (i : ℕ) → i < g .d → sideOf (g .sides) i ≡ sideOf (h .sides) i) where
+  -- the same side is refused first
+  bad-side : firstBad (g .sides) (g .d) ≡ firstBad (h .sides) (h .d)
+  bad-side =
+      first-same (unfit (g .sides)) (unfit (h .sides)) (g .d) (λ i l. ap (λ x. not (sideFits x)) (sides i l))
+      ∙ ap (firstWhere (unfit (h .sides))) (alike .dimension)
 
-pub two-axes : (a b c c′ : Axis) (x y z z′ : Float) → Same (box 2 a b c x y z) (box 2 a b c′ x y z′)
-unfolding checkOf sidesCheckOf nverticesOf parityOf reduceOf axisOf sideOf badFrom firstFrom product some count setBelow restAt reflectedBy numberTo wrappedSet reversedSet
-two-axes a b c c′ x y z z′ = record { checks = refl; with-sides = refl; counts = refl; parities = refl; vertices = λ v. refl }
+  pub sides-alike : sidesCheckOf g ≡ sidesCheckOf h
+  unfolding sidesCheckOf
+  sides-alike = rw (bad-side, nine-alike g h alike, eight-alike g h alike, cells-alike g h alike, vertices-alike g h alike, alike .dimension)
+
+-- ---- the same axes and sides below d
+module _ (g h : Grid) (same : SameBelow g h) where
+  pub same-alike : Alike g h
+  same-alike = record {
+    dimension = same .dimension;
+    cells = λ i l. ap (λ (a : Axis). a .count) (same .axes i l);
+    closed = λ i l. ap (λ (a : Axis). closedOf (a .glue)) (same .axes i l);
+    masks = λ i l. ap (λ (a : Axis). maskOf (a .glue)) (same .axes i l);
+  }
+
+  pub unread : Same g h
+  unread = record {
+    checks = check-alike g h same-alike;
+    with-sides = sides-alike g h same-alike (same .sides);
+    counts = nvertices-alike g h same-alike;
+    parities = parity-alike g h same-alike;
+    vertices = reduce-alike g h same-alike;
+  }

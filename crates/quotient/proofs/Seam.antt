@@ -4,7 +4,7 @@ use mathlib.Core.Bool.{Bool, true, false, cond, _&&_, _||_}
 use mathlib.Core.Logic.{_⊎_, inl, inr}
 use Prim.Native.Nat.{ℕ, zero, suc, _+_, _-_, _*_, _/_, _%_, _^_, _≤_, _<_}
 use mathlib.Core.List.{List}
-use native.Mathlib.Nat.{le-trans, add-zero, div-add-mod', not-suc-le-zero, lt-of-lt-of-le, lt-of-le-of-lt, div-le-self}
+use native.Mathlib.Nat.{le-trans, div-add-mod', not-suc-le-zero, lt-of-lt-of-le, lt-of-le-of-lt, div-le-self}
 use native.Mathlib.Numerals.{add-one}
 use native.Mathlib.Omega.{arith}
 use lib.Bits.{bitXor, xor-lt}
@@ -23,7 +23,8 @@ use Rattle.quotient.specs.Shape.{axisOf, maskOf, cellsOn, maskAt, gluedO
 use Rattle.quotient.specs.Reduce.{restAt, coordAt, wrappedAt, flipsAt, reflectedBy, foldedAt, numberTo, noVertex, vertexOf, reversedAt, wrappedSet, reversedSet, crossingOf}
 use Rattle.quotient.specs.Points.{fromDigits, pointsOf}
 use Rattle.quotient.specs.Work.{endsAt, turnedBy, foldedBy, numberBy, Apart}
-use Rattle.quotient.proofs.Laws.{none-found, some-true, lt-or-eq}
+use Rattle.lists.proofs.Words.{first-full}
+use Rattle.quotient.proofs.Laws.{some-true, lt-or-eq}
 use Rattle.quotient.proofs.Points.{coord-le, turn-le, rest-more}
 use Rattle.quotient.proofs.Taken.{taken-high, taken-reflections, within-place, inside, outside}
 use Rattle.quotient.proofs.Radix.{number-same}
@@ -98,7 +99,7 @@ module _ (g : Grid) (fine : checkOf g ≡ Fine) where
   or-right false b t = t
 
   good-set : (a : ℕ) → a < g .d → badSet (g .d) a (maskAt g a) ≡ false
-  good-set a l = none-found (reflectsBadly g) (g .d) 0 (rw (add-zero (g .d)) (taken-reflections g fine)) a (omega arith) (omega arith)
+  good-set a l = first-full (reflectsBadly g) (g .d) (taken-reflections g fine) a l
 
   false-some : (p : ℕ → Bool) (n k : ℕ) → some p n ≡ false → k < n → p k ≡ false
   false-some p n k e l = by-test (p k) refl

@@ -3,7 +3,7 @@ use mathlib.Core.Path.{_≡_, refl, sym, subst, _∙_}
 use mathlib.Core.Bool.{Bool, true, false, cond}
 use mathlib.Core.Logic.{⊎-elim}
 use Prim.Native.Nat.{ℕ, zero, suc, _+_, _*_, _/_, _%_, _≤_, _<_}
-use native.Mathlib.Nat.{mod-lt, div-one, div-div-eq-div-mul, div-eq-of-lt, div-lt-iff-lt-mul, one-mul, mul-le-mul-right, le-trans, add-zero}
+use native.Mathlib.Nat.{mod-lt, div-one, div-div-eq-div-mul, div-eq-of-lt, div-lt-iff-lt-mul, one-mul, mul-le-mul-right, le-trans}
 use native.Mathlib.Omega.{arith}
 use lib.Dec.{ltb, leb}
 use borrow.Author.Tests.{ltb-false, le-leb, lt-leb}
@@ -22,7 +22,8 @@ use Rattle.quotient.specs.declared.Crossing.{Crossing}
 use Rattle.quotient.specs.declared.Reduced.{Reduced}
 use Rattle.quotient.specs.declared.Reduced.the-variants as Reduced
 use Rattle.quotient.specs.Reduce.{restAt, reflectedBy, flipsAt, foldedAt, crossingOf, reduceOf}
-use Rattle.quotient.proofs.Laws.{none-found, product-mono, product-pos, product-more, place, lt-or-ge}
+use Rattle.lists.proofs.Words.{first-full}
+use Rattle.quotient.proofs.Laws.{product-mono, product-pos, product-more, place, lt-or-ge}
 use Rattle.quotient.proofs.Points.{coord-le, turn-le}
 
 pub reflected-le : (g : Grid) (v k a : ℕ) → reflectedBy g v k a ≤ cellsOn g k
@@ -94,7 +95,7 @@ module _ (g : Grid) (fine : checkOf g ≡ Fine) where
 
   -- each axis has enough cells
   pub enough : (i : ℕ) → i < g .d → fallsShort g i ≡ false
-  enough i h = none-found (fallsShort g) (g .d) 0 (rw (add-zero (g .d)) taken-short) i (omega arith) (omega arith)
+  enough i h = first-full (fallsShort g) (g .d) taken-short i h
 
   pub glued-pos : (i : ℕ) → i < g .d → 1 ≤ gluedOn g i
   glued-pos i h = some-point (closedAt g i) (cellsOn g i) (ltb-false _ _ (enough i h))

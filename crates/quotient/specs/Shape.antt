@@ -4,6 +4,7 @@ use mathlib.Core.Bool.{Bool, true, false, cond, _&&_, _||_}
 use lib.Dec.{leb, ltb, eqb}
 use mathlib.Core.List.{List, [], _∷_}
 use lib.ListN.{getD}
+use Rattle.lists.specs.Words.{firstWhere}
 use Rattle.quotient.specs.declared.Glue.{Glue}
 use Rattle.quotient.specs.declared.Glue.the-variants.{Open, Periodic, Twisted}
 use Rattle.quotient.specs.declared.Axis.{Axis}
@@ -18,15 +19,19 @@ use Rattle.refusal.specs.Limits.{mostDimension, mostCells, mostVertices}
 use Rattle.grid_sides.specs.Counts.{firstBad}
 use Rattle.quotient.specs.declared.Parity.{Parity}
 use Rattle.quotient.specs.declared.Parity.the-variants as Parity
-use Rattle.quotient.specs.Fold.{least, product, factorial, member, some, oddCount}
+use Rattle.quotient.specs.Fold.{product, factorial, member, some, oddCount}
 
--- no axis: what stands past the third
+-- no axis: what stands past the last
 abbrev pub noAxis : Axis
 noAxis = record { count = 0; glue = Open }
 
--- axis i of the grid, from 0 to 2
+-- the axes in their order
+abbrev pub allAxes : Grid → List Axis
+allAxes g = g .first ∷ g .second ∷ g .third ∷ []
+
+-- axis i of the grid
 unfoldable pub axisOf : Grid → ℕ → Axis
-axisOf g i = getD (g .first ∷ g .second ∷ g .third ∷ []) i noAxis
+axisOf g i = getD (allAxes g) i noAxis
 
 abbrev pub closedOf : Glue → Bool
 closedOf Open = false
@@ -98,26 +103,33 @@ fallsShort g i = tooFew (axisOf g i)
 
 -- the least axis that refusal 9 names, and that 8 names; d if there is none
 abbrev pub badReflection : Grid → ℕ
-badReflection g = least (reflectsBadly g) (g .d)
+badReflection g = firstWhere (reflectsBadly g) (g .d)
 
 abbrev pub shortAxis : Grid → ℕ
-shortAxis g = least (fallsShort g) (g .d)
+shortAxis g = firstWhere (fallsShort g) (g .d)
 
--- the table's order from 9 on: 9, 8, 3, 6
-abbrev pub shapeCheck : Grid → Answer
-shapeCheck g =
+-- the table's order from 9 on, where so many cells and vertices are taken: 9, 8, 3, 6
+abbrev pub shapeWithin : ℕ → ℕ → Grid → Answer
+shapeWithin cells vertices g =
     refuse (ltb (badReflection g) (g .d)) badReflectionNumber (badReflection g)
     (refuse (ltb (shortAxis g) (g .d)) shortAxisNumber (shortAxis g)
-    (refuse (ltb mostCells (cellCount g)) tooManyCells 0
-    (refuse (ltb mostVertices (verticesOf g)) tooManyVertices 0
+    (refuse (ltb cells (cellCount g)) tooManyCells 0
+    (refuse (ltb vertices (verticesOf g)) tooManyVertices 0
     Fine)))
 
--- the table's order for an entry without sides: 1, 9, 8, 3, 6
-unfoldable pub checkOf : Grid → Answer
-checkOf g =
+-- the table's order for an entry without sides, where so many dimensions, cells and vertices are taken: 1, 9, 8, 3, 6
+abbrev pub checkWithin : ℕ → ℕ → ℕ → Grid → Answer
+checkWithin dimension cells vertices g =
     refuse (ltb (g .d) 1) badDimension 0
-    (refuse (ltb mostDimension (g .d)) badDimension 0
-    (shapeCheck g))
+    (refuse (ltb dimension (g .d)) badDimension 0
+    (shapeWithin cells vertices g))
+
+-- both within document 01's limits
+abbrev pub shapeCheck : Grid → Answer
+shapeCheck g = shapeWithin mostCells mostVertices g
+
+unfoldable pub checkOf : Grid → Answer
+checkOf g = checkWithin mostDimension mostCells mostVertices g
 
 -- and for one with sides: 1, 10, 9, 8, 3, 6
 unfoldable pub sidesCheckOf : Grid → Answer

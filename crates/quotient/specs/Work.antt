@@ -8,18 +8,26 @@ use lib.ListN.{getD}
 use Rattle.quotient.specs.declared.Axis.{Axis}
 use Rattle.quotient.specs.declared.Grid.{Grid}
 use Rattle.quotient.specs.declared.Spread.{Spread}
+use Rattle.refusal.specs.Limits.{manyCorners}
 use Rattle.refusal.specs.declared.Counted.{Counted}
 use Rattle.refusal.specs.declared.Counted.the-variants.{Count}
 use Rattle.quotient.specs.Fold.{member}
-use Rattle.quotient.specs.Shape.{closedOf, cellsOn, closedAt, gluedOn, shapeCheck, countedAfter, verticesOf}
+use Rattle.quotient.specs.Shape.{closedOf, cellsOn, closedAt, gluedOn, shapeWithin, checkWithin, countedAfter, verticesOf}
 use Rattle.quotient.specs.Reduce.{restAt, coordAt, wrappedSet, reversedSet}
 use Rattle.quotient.specs.Points.{fromDigits}
 
 -- ---- the check
 
--- how many vertices, where nothing from 9 on refuses the grid
-abbrev pub shapeCount : Grid → Counted
-shapeCount g = countedAfter (shapeCheck g) (Count (verticesOf g))
+-- how many vertices, where nothing from 9 on refuses the grid within so many cells and vertices; and where nothing at all does
+abbrev pub shapeCount : ℕ → ℕ → Grid → Counted
+shapeCount cells vertices g = countedAfter (shapeWithin cells vertices g) (Count (verticesOf g))
+
+abbrev pub countWithin : ℕ → ℕ → ℕ → Grid → Counted
+countWithin dimension cells vertices g = countedAfter (checkWithin dimension cells vertices g) (Count (verticesOf g))
+
+-- limits so small that no product of one and a count passes 64 bits
+abbrev pub FewWithin : ℕ → ℕ → Type 0
+FewWithin cells vertices = (cells < manyCorners) × (vertices < manyCorners)
 
 -- ---- a point taken apart, and the number that its parts make once a set of axes is turned
 

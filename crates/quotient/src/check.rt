@@ -1,9 +1,8 @@
 // Whether a grid is taken: document 01's numbers for a grid, in their order, and how many vertices it has.
 ghost use mathlib.Core.Path.{_≡_};
 ghost use Prim.Native.Nat.{_+_, _*_, _≤_, _<_, _^_, min};
-ghost use Rattle.refusal.specs.Limits.{mostCells, mostVertices};
-ghost use Rattle.quotient.specs.Shape.{reflectsBadly, fallsShort, cellCount, verticesOf, badReflection, shortAxis, checkOf, sidesCheckOf, nverticesOf};
-ghost use Rattle.quotient.specs.Work.{shapeCount};
+ghost use Rattle.quotient.specs.Shape.{reflectsBadly, fallsShort, cellCount, verticesOf, badReflection, shortAxis, checkWithin, checkOf, sidesCheckOf, nverticesOf};
+ghost use Rattle.quotient.specs.Work.{shapeCount, countWithin, FewWithin};
 use crate::Grid;
 use crate::Sizes;
 use crate::mask;
@@ -69,26 +68,31 @@ impl Grid {
     }
 
     // The numbers of cells and of vertices after gluing, each at most one more than its limit.
-    fn sizes(self) -> Sizes
-        ensures { λ r. ⌜ (r .cells ≡ min (cellCount self) (mostCells + 1)) × (r .vertices ≡ min (verticesOf self) (mostVertices + 1)) ⌝ }
+    fn sizes(self, cells: usize, vertices: usize) -> Sizes
+        requires { ⌜ FewWithin cells vertices ⌝ }
+        ensures { λ r. ⌜ (r .cells ≡ min (cellCount self) (cells + 1)) × (r .vertices ≡ min (verticesOf self) (vertices + 1)) ⌝ }
     {
         let d = self.d;
-        let mut cells = 1usize;
-        let mut vertices = 1usize;
+        let mut n = 1usize;
+        let mut m = 1usize;
         let mut i = 0u32;
         while i < d {
             let a = self.axis(i);
-            let q = capped(cells, a.count as usize, refusal::MOST_CELLS + 1);
-            vertices = capped(vertices, self.glued_on(i), refusal::MOST_VERTICES + 1);
+            let q = capped(n, a.count as usize, cells + 1);
+            m = capped(m, self.glued_on(i), vertices + 1);
             i += 1;
-            cells = capped(q, i as usize, refusal::MOST_CELLS + 1);
+            n = capped(q, i as usize, cells + 1);
         }
-        Sizes { cells, vertices }
+        Sizes {
+            cells: n,
+            vertices: m,
+        }
     }
 
-    // How many vertices the grid has after gluing, in a dimension that is taken; 9, 8, 3 and 6 are refused, in this order.
-    fn shape(self) -> Counted
-        ensures { λ r. ⌜ r ≡ shapeCount self ⌝ }
+    // How many vertices the grid has after gluing, in a dimension that is taken; 9, 8, 3 and 6 are refused, in this order, 3 and 6 beyond these limits.
+    fn shape(self, cells: usize, vertices: usize) -> Counted
+        requires { ⌜ FewWithin cells vertices ⌝ }
+        ensures { λ r. ⌜ r ≡ shapeCount cells vertices self ⌝ }
     {
         let d = self.d;
         let b = self.bad_reflection();
@@ -99,39 +103,63 @@ impl Grid {
         if s < d {
             return Counted::Refused(refusal::SHORT_AXIS, s);
         }
-        let n = self.sizes();
-        if refusal::MOST_CELLS < n.cells {
+        let n = self.sizes(cells, vertices);
+        if cells < n.cells {
             return Counted::Refused(refusal::TOO_MANY_CELLS, 0);
         }
-        if refusal::MOST_VERTICES < n.vertices {
+        if vertices < n.vertices {
             return Counted::Refused(refusal::TOO_MANY_VERTICES, 0);
         }
         Counted::Count(n.vertices as u32)
+    }
+
+    // How many vertices the grid has after gluing; 1, 9, 8, 3 and 6 are refused, in this order, 1, 3 and 6 beyond these limits.
+    fn count_within(self, dimension: u32, cells: usize, vertices: usize) -> Counted
+        requires { ⌜ FewWithin cells vertices ⌝ }
+        ensures { λ r. ⌜ r ≡ countWithin dimension cells vertices self ⌝ }
+    {
+        let d = self.d;
+        if d < 1 {
+            return Counted::Refused(refusal::BAD_DIMENSION, 0);
+        }
+        if dimension < d {
+            return Counted::Refused(refusal::BAD_DIMENSION, 0);
+        }
+        self.shape(cells, vertices)
     }
 
     // How many vertices the grid has after gluing; 1, 9, 8, 3 and 6 are refused, in this order.
     pub fn nvertices(self) -> Counted
         ensures { λ r. ⌜ r ≡ nverticesOf self ⌝ }
     {
-        let d = self.d;
-        if d < 1 {
-            return Counted::Refused(refusal::BAD_DIMENSION, 0);
+        self.count_within(
+            refusal::MOST_DIMENSION,
+            refusal::MOST_CELLS,
+            refusal::MOST_VERTICES,
+        )
+    }
+
+    // Whether the grid is taken within limits of a caller's own: 1, 9, 8, 3 and 6, in this order. For the crates above.
+    pub fn check_within(self, dimension: u32, cells: usize, vertices: usize) -> Answer
+        requires { ⌜ FewWithin cells vertices ⌝ }
+        ensures { λ r. ⌜ r ≡ checkWithin dimension cells vertices self ⌝ }
+    {
+        let c = self.count_within(dimension, cells, vertices);
+        match c {
+            Counted::Refused(n, p) => Answer::Refused(n, p),
+            Counted::Count(_) => Answer::Fine,
         }
-        if refusal::MOST_DIMENSION < d {
-            return Counted::Refused(refusal::BAD_DIMENSION, 0);
-        }
-        self.shape()
     }
 
     // Whether the grid is taken where its sides are not asked for: 1, 9, 8, 3 and 6, in this order.
     pub fn check(self) -> Answer
         ensures { λ r. ⌜ r ≡ checkOf self ⌝ }
     {
-        let c = self.nvertices();
-        match c {
-            Counted::Refused(n, p) => Answer::Refused(n, p),
-            Counted::Count(_) => Answer::Fine,
-        }
+        self.check_within(
+            refusal::MOST_DIMENSION,
+            refusal::MOST_CELLS,
+            refusal::MOST_VERTICES,
+        )
     }
 
     // Whether the grid is taken with its sides: 1, 10, 9, 8, 3 and 6, in this order.
@@ -150,7 +178,7 @@ impl Grid {
         if b < d {
             return Answer::Refused(refusal::BAD_SIDE, b);
         }
-        let c = self.shape();
+        let c = self.shape(refusal::MOST_CELLS, refusal::MOST_VERTICES);
         match c {
             Counted::Refused(n, p) => Answer::Refused(n, p),
             Counted::Count(_) => Answer::Fine,

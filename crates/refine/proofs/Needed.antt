@@ -6,7 +6,7 @@ use native.Mathlib.Numerals.{add-one}
 use native.Mathlib.Omega.{arith}
 use native.Mathlib.Decide.{decLt}
 use borrow.Author.Tests.{lt-ltb, le-ltb}
-use Rattle.refusal.specs.Limits.{mostCells, mostVertices, mostRefinement, mostDimension}
+use Rattle.refusal.specs.Limits.{mostCells, mostRefinement, mostDimension, rowMost, mostCorners, manyCorners}
 use Rattle.refine.specs.declared.Space.{Space}
 use Rattle.refine.specs.Space.{counted, childrenRoom, spaceFor}
 
@@ -23,9 +23,10 @@ counted-in r p h = rw (lt-ltb 0 r p, lt-ltb r (suc mostRefinement) (omega arith)
 pub counted-most : (r : ℕ) → counted r ≤ mostRefinement
 counted-most r = elim (decLt 0 r) [ no h ↦ omega (arith, counted-none r (omega arith)) | yes p ↦ elim (decLt mostRefinement r) [ yes h ↦ omega (arith, counted-over r h) | no h ↦ omega (arith, counted-in r p (omega arith)) ] ]
 
--- a power of a number up to 64
-pub power-small : (d k : ℕ) → d ≤ mostDimension → k ≤ mostRefinement → k ^ d ≤ 262144
-power-small d k h l = le-trans (pow-le-pow-left l d) (pow-le-pow-right {n = 64} (omega arith) {i = d} {j = 3} h)
+-- a power of a refinement number
+pub power-small : (d k : ℕ) → d ≤ mostDimension → k ≤ mostRefinement → k ^ d ≤ manyCorners
+power-small d k h l =
+    le-trans (pow-le-pow-left l d) (le-trans (pow-le-pow-right {n = mostRefinement} (omega arith) {i = d} {j = mostDimension} h) (omega arith))
 
 -- ---- how many children there is room for
 pub children-over : (d m r : ℕ) → mostCells < m * counted r ^ d → mostCells ≡ childrenRoom d m r
@@ -49,13 +50,13 @@ pub need-is : (d n c k : ℕ) → k ≡ c → _≡_ {A = Space} (record {
   cells = n;
   along = n;
   pattern = k * (d + 1) * (d + 1);
-  keys = 4 * n + 8 * (k * (d + 1));
+  keys = 4 * n + 2 * rowMost * (k * (d + 1));
   rows = n + k * (d + 1);
   spare = n + k * (d + 1);
-  counts = n + k * (d + 1) + 65;
+  counts = n + k * (d + 1) + suc mostRefinement;
   sorted = k * (d + 1);
   firsts = k;
-  buckets = mostVertices;
+  buckets = n + k * (d + 1);
 }) (spaceFor d n c)
 need-is d n c k e = rw (e, add-one d) refl
 
@@ -63,8 +64,8 @@ pub room-by : (d n r k : ℕ) → k ≡ childrenRoom d (n / (d + 1)) r → k ≡
 room-by d n r k e = subst (λ (x : ℕ). k ≡ childrenRoom d (n / x) r) (add-one d) e
 
 -- the corners of the children, and so the need, are few
-pub corners-few : (d k : ℕ) → d ≤ mostDimension → k ≤ mostCells → k * (d + 1) ≤ 16384
+pub corners-few : (d k : ℕ) → d ≤ mostDimension → k ≤ mostCells → k * (d + 1) ≤ mostCorners
 corners-few d k h l = omega (arith, mul-le-mul-right (d + 1) l)
 
-pub pattern-few : (d k : ℕ) → d ≤ mostDimension → k ≤ mostCells → k * (d + 1) * (d + 1) ≤ 65536
+pub pattern-few : (d k : ℕ) → d ≤ mostDimension → k ≤ mostCells → k * (d + 1) * (d + 1) ≤ mostCorners * rowMost
 pattern-few d k h l = omega (arith, mul-le-mul-right (d + 1) (corners-few d k h l))

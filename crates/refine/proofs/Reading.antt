@@ -8,6 +8,7 @@ use native.Mathlib.Numerals.{add-one}
 use native.Mathlib.Omega.{arith}
 use lib.ListN.{length, take, drop, length-append}
 use lib.Seq.{length-take-le, take-at}
+use Rattle.refusal.specs.Limits.{manyCorners}
 use Rattle.refusal.specs.declared.Counted.{Counted}
 use Rattle.refusal.specs.declared.Counted.the-variants.{Count, Refused}
 use Rattle.refusal.specs.Table.{crowdedFacet, badOrder}
@@ -106,7 +107,7 @@ module _ (d m : ℕ) (ws cells along keys spare counts : List ℕ) (w : Naming d
   pub words-fit : m * (d + 1) ≤ length ws
   words-fit = omega (arith, size d m, w .made .most)
 
-  pub words-few : m * (d + 1) < 65536
+  pub words-few : m * (d + 1) < manyCorners
   words-few = omega (arith, words-fit, w .made .corners)
 
   pub fits-cells : m * (d + 1) ≤ length cells

@@ -12,7 +12,7 @@ use lib.Ieee.{Float}
 use lib.ListN.{length}
 use Rattle.refusal.specs.declared.Counted.{Counted}
 use Rattle.refusal.specs.declared.Counted.the-variants as Counted
-use Rattle.refusal.specs.Limits.{mostCells}
+use Rattle.refusal.specs.Limits.{mostDimension, mostCells, rowMost}
 use Rattle.lists.specs.Rows.{cut}
 use Rattle.lists.proofs.Rows.{cut-length}
 use Rattle.complex.specs.Check.{Passed}
@@ -52,10 +52,10 @@ order-some n (w ∷ ws) h = place-some n _ (inOrder n ws)
 power-once : (m k : ℕ) → 0 < m → k ≤ m * k
 power-once m k h = omega (arith, mul-le-mul-right k h)
 
-within : (d : ℕ) → d ≤ 3 → suc d + suc d ≤ 8
+within : (d : ℕ) → d ≤ mostDimension → suc d + suc d ≤ 2 * rowMost
 within d h = omega arith
 
-double : (d x : ℕ) → d ≤ 3 → x * (suc d + suc d) ≤ 8 * x
+double : (d x : ℕ) → d ≤ mostDimension → x * (suc d + suc d) ≤ 2 * rowMost * x
 double d x h = omega (arith, mul-le-mul-left x (within d h))
 
 module _ (d : ℕ) (ws : List ℕ) (p : Passed d ws) where
@@ -108,7 +108,8 @@ module _ (d : ℕ) (ws : List ℕ) (p : Passed d ws) where
             weights-long = omega (arith, w .counts-long, vertices-few, i .most);
             sorted-long = omega (arith, w .sorted-long);
             firsts-long = omega (arith, w .firsts-long);
-            buckets-long = omega (arith, w .buckets-long);
+            buckets-long = omega (arith, w .buckets-long, vertices-few);
+            kinds-long = omega (arith, w .buckets-long);
           }
 
       ready : (cells′ along′ : List ℕ) → Along d (coarse ws) m along′ cells′ → Ready d R (coarse ws) m cells′ along′ pattern keys′ rows′ spare′ counts′ sorted firsts buckets

@@ -5,7 +5,7 @@ use mathlib.Core.Path.{_≡_}
 use Prim.Native.Nat.{ℕ, suc, _+_, _*_, _/_, _^_, _≤_}
 use lib.Dec.{ltb}
 use lib.ListN.{length}
-use Rattle.refusal.specs.Limits.{mostCells, mostVertices, mostRefinement}
+use Rattle.refusal.specs.Limits.{mostCells, mostRefinement, rowMost}
 use Rattle.refusal.specs.Lent.{zeroed}
 use Rattle.refine_lattice.specs.Children.{pick}
 use Rattle.refine.specs.declared.Space.{Space}
@@ -25,13 +25,13 @@ spaceFor d n c =
       cells = n;
       along = n;
       pattern = c * suc d * suc d;
-      keys = 4 * n + 8 * (c * suc d);
+      keys = 4 * n + 2 * rowMost * (c * suc d);
       rows = n + c * suc d;
       spare = n + c * suc d;
-      counts = n + c * suc d + 65;
+      counts = n + c * suc d + suc mostRefinement;
       sorted = c * suc d;
       firsts = c;
-      buckets = mostVertices;
+      buckets = n + c * suc d;
     }
 
 -- what a refinement by R of words with n corners needs

@@ -2,14 +2,19 @@
 use super::Space;
 use refusal::MOST_CELLS;
 use refusal::MOST_REFINEMENT;
-use refusal::MOST_VERTICES;
+use refusal::ROW_MOST;
 ghost use mathlib.Core.Path.{_≡_};
 ghost use Prim.Native.Nat.{suc, _/_, _≤_, _<_};
-ghost use Rattle.refusal.specs.Limits.{mostCells, mostDimension};
+ghost use Rattle.refusal.specs.Limits.{mostCells, mostDimension, manyCorners};
 ghost use Rattle.refine.specs.Space as space;
 ghost use Rattle.refine.specs.Work.{AllTen};
 
-// The refinement number as the need counts it: 1 where it is outside 1 to 64.
+// The most numbers in the row of a visit: a word's vertices and their weights.
+const KEY: usize = 2 * ROW_MOST;
+// How many weights there are at most, 0 with them.
+const WEIGHTS: usize = MOST_REFINEMENT as usize + 1;
+
+// The refinement number as the need counts it: 1 where it is outside 1 to `MOST_REFINEMENT`.
 fn counted(r: u32) -> usize
     ensures { λ k. ⌜ k ≡ space.counted r ⌝ }
 {
@@ -36,7 +41,7 @@ fn children(d: usize, m: usize, r: u32) -> usize
 
 // What a refinement by r of words with `len` corners needs of its working lists.
 pub(crate) fn need(d: usize, len: usize, r: u32) -> Space
-    requires { ⌜ (d ≤ mostDimension) × (len / suc d ≤ mostCells) × (len < 65536) ⌝ }
+    requires { ⌜ (d ≤ mostDimension) × (len / suc d ≤ mostCells) × (len < manyCorners) ⌝ }
     ensures { λ k. ⌜ k ≡ space.spaceOf d len r ⌝ }
 {
     let most = children(d, len / (d + 1), r);
@@ -45,13 +50,13 @@ pub(crate) fn need(d: usize, len: usize, r: u32) -> Space
         cells: len,
         along: len,
         pattern: corners * (d + 1),
-        keys: 4 * len + 8 * corners,
+        keys: 4 * len + KEY * corners,
         rows: len + corners,
         spare: len + corners,
-        counts: len + corners + 65,
+        counts: len + corners + WEIGHTS,
         sorted: corners,
         firsts: most,
-        buckets: MOST_VERTICES,
+        buckets: len + corners,
     }
 }
 

@@ -2,18 +2,14 @@
 // Follows the last part of `Complex::refine_with`, which brings the children into colex order (crates/simplicial/src/topology/refine.rs).
 //
 // The children's words stand in visiting order, parent after parent, `size` of them for each parent. The functions here are for the crate above, which checks before it calls them.
+use refusal::SQUARE_MOST;
 ghost use mathlib.Core.Path.{_≡_};
 ghost use Prim.Native.Nat.{ℕ, suc, _*_, _/_, _≤_, _<_};
 ghost use lib.ListN.{length, getD};
+ghost use Rattle.refusal.specs.Limits.{squareMost};
 ghost use Rattle.lists.specs.Tables.{tab};
 ghost use Rattle.refine_children.specs.WorkColex.{Arranging, Arranged};
 ghost use Rattle.refine_children.specs.WorkFamily.{joined, wholeAt, floatAt, Family, Families};
-
-fn wide(x: u32) -> usize
-    ensures { λ r. ⌜ r ≡ x ⌝ }
-{
-    x as usize
-}
 
 // Sorts each of the count words of n numbers below b into `sorted`, and writes the first word of each cell, in the cells' colex order, to `firsts`; says how many cells there are.
 pub fn colex(
@@ -42,7 +38,7 @@ pub fn parents(size: usize, firsts: &[u32], to: &mut [u32])
 {
     let mut i = 0;
     while i < to.len() {
-        to[i] = (wide(firsts[i]) / size) as u32;
+        to[i] = (lists::wide(firsts[i]) / size) as u32;
         i += 1;
     }
 }
@@ -61,7 +57,7 @@ fn child(
     whole: &mut [i32],
     float: &mut [f64],
 )
-    requires { ⌜ (length (now whole) ≡ 9) × (length (now float) ≡ 9) × Family d size (now pattern) (now words) (now sorted) (now along) (now cells) x ⌝ }
+    requires { ⌜ (length (now whole) ≡ squareMost) × (length (now float) ≡ squareMost) × Family d size (now pattern) (now words) (now sorted) (now along) (now cells) x ⌝ }
     ensures whole { λ _. ⌜ now (whole .exit) ≡ wholeAt d size (now (pattern .entry)) (now (words .entry)) (now (sorted .entry)) (now (along .entry)) (now (cells .entry)) x ⌝ }
     ensures float { λ _. ⌜ now (float .exit) ≡ floatAt d r size (now (pattern .entry)) (now (words .entry)) (now (sorted .entry)) (now (along .entry)) (now (cells .entry)) x ⌝ }
 {
@@ -79,11 +75,10 @@ fn child(
     let cell = &sorted[c..e];
     let word = &along[f..g];
     let home = &cells[f..g];
-    refine_jacobian::whole(d, corners, names, word, home, cell, whole);
-    refine_jacobian::float(d, r, corners, names, word, home, cell, float);
+    refine_jacobian::both(d, r, corners, names, word, home, cell, whole, float);
 }
 
-// Writes the Jacobian of each child that the first m of `firsts` name, nine numbers each.
+// Writes the Jacobian of each child that the first m of `firsts` name, `SQUARE_MOST` numbers each.
 pub fn jacobians(
     d: usize,
     r: u32,
@@ -98,15 +93,15 @@ pub fn jacobians(
     wholes: &mut [i32],
     floats: &mut [f64],
 )
-    requires { ⌜ (length (now wholes) ≡ m * 9) × (length (now floats) ≡ m * 9) × Families d size m (now firsts) (now pattern) (now words) (now sorted) (now along) (now cells) ⌝ }
+    requires { ⌜ (length (now wholes) ≡ m * squareMost) × (length (now floats) ≡ m * squareMost) × Families d size m (now firsts) (now pattern) (now words) (now sorted) (now along) (now cells) ⌝ }
     ensures wholes { λ _. ⌜ now (wholes .exit) ≡ joined m (λ i. wholeAt d size (now (pattern .entry)) (now (words .entry)) (now (sorted .entry)) (now (along .entry)) (now (cells .entry)) (getD (now (firsts .entry)) i 0)) ⌝ }
     ensures floats { λ _. ⌜ now (floats .exit) ≡ joined m (λ i. floatAt d r size (now (pattern .entry)) (now (words .entry)) (now (sorted .entry)) (now (along .entry)) (now (cells .entry)) (getD (now (firsts .entry)) i 0)) ⌝ }
 {
     let mut i = 0;
     while i < m {
-        let x = wide(firsts[i]);
-        let at = i * 9;
-        let end = at + 9;
+        let x = lists::wide(firsts[i]);
+        let at = i * SQUARE_MOST;
+        let end = at + SQUARE_MOST;
         child(
             d,
             r,

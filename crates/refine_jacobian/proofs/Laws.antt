@@ -3,7 +3,8 @@ use mathlib.Core.Bool.{Bool, true, false, cond}
 use mathlib.Core.List.{List, [], _∷_, _++_, map}
 use mathlib.Core.Path.{_≡_, refl, sym, ap, _∙_, subst}
 use Prim.Native.Nat.{ℕ, zero, suc, _+_, _-_, _*_, _/_, _%_, _≤_, _<_}
-use native.Mathlib.Nat.{suc-mul, zero-mul, mul-le-mul-right, mul-le-mul-left, add-zero, mod-lt, div-lt-iff-lt-mul}
+use native.Mathlib.Nat.{suc-mul, mul-le-mul, mul-le-mul-right, mod-lt, div-lt-iff-lt-mul}
+use native.Mathlib.Decide.{decLt}
 use native.Mathlib.Numerals.{add-one}
 use native.Mathlib.Omega.{arith}
 use lib.Dec.{eqb, ltb}
@@ -13,12 +14,13 @@ use mir.Syntax.{w32}
 use mir.Val.{SFits, toZ, ofZ}
 use mir.Facts.{toZ-pos, toZ-ofZ}
 use lib.ListN.{length, getD, take, drop, set, drop-of-length-le}
-use lib.Seq.{drop-cons, set-at, append-snoc}
+use lib.Seq.{drop-cons, set-at, append-snoc, getD-set-same, getD-set-other}
 use borrow.Author.Tests.{eq-eqb, ne-eqb, le-ltb, lt-ltb}
+use Rattle.refusal.specs.Limits.{mostDimension, rowMost}
 use Rattle.lists.specs.Words.{foundAt}
 use Rattle.lists.specs.Tables.{tab}
 use Rattle.lists.proofs.Tables.{length-tab}
-use Rattle.refine_jacobian.specs.WorkWeights.{placeOf, weightOf, Seated}
+use Rattle.refine_jacobian.specs.WorkWeights.{placeOf, weightOf, entryAt, Placed, Seated}
 
 module _ {A : Type 0} where
   snoc-tab : (n : ℕ) (f : ℕ → A) → tab (suc n) f ≡ tab n f ++ (f n ∷ [])
@@ -80,14 +82,59 @@ column-in d e h = div-lt-iff-lt-mul (some-column d e h) .1 h
 pub row-in : (d e : ℕ) → e < d * d → e % d < d
 row-in d e h = mod-lt e (some-column d e h)
 
-module _ (d : ℕ) (corners names word parent cell : List ℕ) (s : Seated d corners names word parent cell) where
-  pub corners-square : length corners ≡ length names * length word
-  corners-square = s .corners-long ∙ ap (λ (n : ℕ). n * suc d) (sym (s .names-long)) ∙ ap (λ (n : ℕ). length names * n) (sym (s .word-long))
+-- ---- places found once
+pub placed-more : (f : ℕ → ℕ) (to : List ℕ) (j v : ℕ) → j < length to → v ≡ f j → ((k : ℕ) → k < j → getD to k 0 ≡ f k) → (k : ℕ) → k < j + 1 → getD (set to j v) k 0 ≡ f k
+placed-more f to j v l e h k b =
+    elim (decLt k j) [
+      | yes i ↦ getD-set-other to j k v 0 (λ q. omega (arith, q)) ∙ h k i
+      | no i ↦
+          let q : k ≡ j = omega arith in
+          ap (λ (x : ℕ). getD (set to j v) x 0) q ∙ getD-set-same to j v 0 l ∙ e ∙ ap f (sym q)
+    ]
 
-  pub weight-small : (j l : ℕ) → j ≤ d → l ≤ d → weightOf corners names word (getD cell j 0) (getD parent l 0) < 2147483648
-  weight-small j l h k =
-      s .small (placeOf names (getD cell j 0) * length word + placeOf word (getD parent l 0))
-      (omega (arith, corners-square, corner-in (placeOf names (getD cell j 0)) (placeOf word (getD parent l 0)) (length names) (length word) (omega (arith, s .named j h, s .names-long)) (omega (arith, s .worded l k, s .word-long))))
+module _ (d : ℕ) (corners seats slots : List ℕ) (p : Placed d corners seats slots) where
+  -- the place of a weight, as the code writes it
+  pub place-in : (j l : ℕ) → j ≤ d → l ≤ d → getD seats j 0 * (d + 1) + getD slots l 0 < length corners
+  place-in j l h k =
+      omega (
+        arith,
+        corner-in (getD seats j 0) (getD slots l 0) (d + 1) (d + 1) (omega (arith, p .seat j h)) (omega (arith, p .slot l k)),
+        ap (λ (x : ℕ). x * x) (add-one d),
+        p .corners-long,
+      )
+
+  pub place-low : (j l : ℕ) → j ≤ d → l ≤ d → getD seats j 0 * (d + 1) + getD slots l 0 < rowMost * rowMost
+  place-low j l h k =
+      let a : getD seats j 0 ≤ mostDimension = omega (arith, p .seat j h, p .dim) in
+      let b : d + 1 ≤ rowMost = omega (arith, p .dim) in
+      omega (arith, mul-le-mul a b, p .slot l k, p .dim)
+
+  pub place-small : (j l : ℕ) → j ≤ d → l ≤ d → getD corners (getD seats j 0 * (d + 1) + getD slots l 0) 0 < 2147483648
+  place-small j l h k = p .small (getD seats j 0 * (d + 1) + getD slots l 0) (place-in j l h k)
+
+pub place-is : (d : ℕ) (corners seats slots : List ℕ) (j j′ l : ℕ) → j ≡ j′ → getD corners (getD seats j 0 * (d + 1) + getD slots (l + 1) 0) 0 ≡ entryAt d corners seats slots j′ (suc l)
+place-is d corners seats slots j j′ l e =
+    ap (λ (x : ℕ). getD corners (getD seats x 0 * (d + 1) + getD slots (l + 1) 0) 0) e
+    ∙ ap (λ (n : ℕ). getD corners (getD seats j′ 0 * n + getD slots (l + 1) 0) 0) (add-one d)
+    ∙ ap (λ (x : ℕ). getD corners (getD seats j′ 0 * suc d + getD slots x 0) 0) (add-one l)
+
+module _ (d : ℕ) (corners names word parent cell seats slots : List ℕ) (s : Seated d corners names word parent cell)
+    (at-names : (j : ℕ) → j < length cell → getD seats j 0 ≡ placeOf names (getD cell j 0))
+    (at-word : (l : ℕ) → l < length parent → getD slots l 0 ≡ placeOf word (getD parent l 0)) where
+  pub seats-placed : Placed d corners seats slots
+  seats-placed = record {
+    dim = s .dim;
+    corners-long = s .corners-long;
+    small = s .small;
+    seat = λ j h. omega (arith, at-names j (omega (arith, s .cell-long)), s .named j h);
+    slot = λ l h. omega (arith, at-word l (omega (arith, s .parent-long)), s .worded l h);
+  }
+
+  pub entry-weight : (j l : ℕ) → j ≤ d → l ≤ d → entryAt d corners seats slots j l ≡ weightOf corners names word (getD cell j 0) (getD parent l 0)
+  entry-weight j l h k =
+      ap (λ (x : ℕ). getD corners (x * suc d + getD slots l 0) 0) (at-names j (omega (arith, s .cell-long)))
+      ∙ ap (λ (y : ℕ). getD corners (placeOf names (getD cell j 0) * suc d + y) 0) (at-word l (omega (arith, s .parent-long)))
+      ∙ ap (λ (n : ℕ). getD corners (placeOf names (getD cell j 0) * n + placeOf word (getD parent l 0)) 0) (sym (s .word-long))
 
 -- an entry of the nine: within the d·d, and past them
 pub entry-in : {A : Type 0} (d e : ℕ) (x z : A) → e < d * d → x ≡ cond (ltb e (d * d)) x z

@@ -28,3 +28,15 @@ pub record Seated (d : ℕ) (corners names word parent cell : List ℕ) : Type 0
   pub cell-long : length cell ≡ suc d
   pub named : (j : ℕ) → j ≤ d → placeOf names (getD cell j 0) ≤ d
   pub worded : (l : ℕ) → l ≤ d → placeOf word (getD parent l 0) ≤ d
+
+-- a corner's weight, found by the places of the two vertices: seats and slots have them for the child's and for the parent's sorted vertices
+abbrev pub entryAt : ℕ → List ℕ → List ℕ → List ℕ → ℕ → ℕ → ℕ
+entryAt d corners seats slots j l = getD corners (getD seats j 0 * suc d + getD slots l 0) 0
+
+-- the weights of d + 1 corners, and places within them
+pub record Placed (d : ℕ) (corners seats slots : List ℕ) : Type 0 where
+  pub dim : d ≤ mostDimension
+  pub corners-long : length corners ≡ suc d * suc d
+  pub small : (i : ℕ) → i < length corners → getD corners i 0 < 2147483648
+  pub seat : (j : ℕ) → j ≤ d → getD seats j 0 ≤ d
+  pub slot : (l : ℕ) → l ≤ d → getD slots l 0 ≤ d

@@ -5,10 +5,13 @@
 // corner j + 1 minus its corner 0, row l the share of the parent's vertex l + 1. The functions here are for the crates above, which check before they call them.
 ghost use mathlib.Core.Path.{_≡_};
 ghost use mathlib.Core.List.{map};
-ghost use Prim.Native.Nat.{suc, _*_, _/_, _%_, _<_, _≤_};
+ghost use Prim.Native.Nat.{ℕ, suc, _*_, _/_, _%_, _<_, _≤_};
 ghost use lib.ListN.{length, getD};
 ghost use Rattle.refine_jacobian.specs.Entries.{shareOf, wholeOf, floatOf};
-ghost use Rattle.refine_jacobian.specs.WorkWeights.{placeOf, weightOf, Seated};
+ghost use Rattle.refusal.specs.Limits.{rowMost, squareMost};
+ghost use Rattle.refine_jacobian.specs.WorkWeights.{placeOf, weightOf, entryAt, Placed, Seated};
+use refusal::ROW_MOST;
+use refusal::SQUARE_MOST;
 
 // Weight w over R as a float.
 fn share(r: u32, w: u32) -> f64
@@ -43,15 +46,18 @@ fn place(word: &[u32], v: u32) -> usize
     i
 }
 
-// The weight of the parent's vertex v in the child's vertex x.
-fn weight(corners: &[u32], names: &[u32], word: &[u32], x: u32, v: u32) -> u32
-    requires { ⌜ (length (now corners) ≡ length (now names) * length (now word)) × (placeOf (now names) x < length (now names)) × (placeOf (now word) v < length (now word)) ⌝ }
-    ensures { λ r. ⌜ r ≡ weightOf (now (corners .entry)) (now (names .entry)) (now (word .entry)) x v ⌝ }
+// Where each number of a list stands in the word.
+fn places(word: &[u32], list: &[u32]) -> [usize; ROW_MOST]
+    requires { ⌜ length (now list) ≤ rowMost ⌝ }
+    ensures { λ r. ⌜ ((j : ℕ) → j < length (now (list .entry)) → getD r j 0 ≡ placeOf (now (word .entry)) (getD (now (list .entry)) j 0)) ⌝ }
 {
-    let n = word.len();
-    let corner = place(names, x);
-    let slot = place(word, v);
-    corners[corner * n + slot]
+    let mut to = [0; ROW_MOST];
+    let mut j = 0;
+    while j < list.len() {
+        to[j] = place(word, list[j]);
+        j += 1;
+    }
+    to
 }
 
 // The weights between which an entry of the Jacobian steps.
@@ -60,57 +66,31 @@ struct Between {
     from: u32,
 }
 
-// Entry e of the d·d: column e / d, row e % d.
+// Entry e of the d·d, column e / d and row e % d, where `seats` and `slots` tell which of the child's corners and of their weights belongs to a sorted vertex.
 fn step(
     d: usize,
     e: usize,
     corners: &[u32],
-    names: &[u32],
-    word: &[u32],
-    parent: &[u32],
-    cell: &[u32],
+    seats: [usize; ROW_MOST],
+    slots: [usize; ROW_MOST],
 ) -> Between
-    requires { ⌜ (e < d * d) × Seated d (now corners) (now names) (now word) (now parent) (now cell) ⌝ }
-    ensures to { λ s. ⌜ s .to ≡ weightOf (now (corners .entry)) (now (names .entry)) (now (word .entry)) (getD (now (cell .entry)) (suc (e / d)) 0) (getD (now (parent .entry)) (suc (e % d)) 0) ⌝ }
-    ensures from { λ s. ⌜ s .from ≡ weightOf (now (corners .entry)) (now (names .entry)) (now (word .entry)) (getD (now (cell .entry)) 0 0) (getD (now (parent .entry)) (suc (e % d)) 0) ⌝ }
+    requires { ⌜ (e < d * d) × Placed d (now corners) seats slots ⌝ }
+    ensures to { λ s. ⌜ s .to ≡ entryAt d (now (corners .entry)) seats slots (suc (e / d)) (suc (e % d)) ⌝ }
+    ensures from { λ s. ⌜ s .from ≡ entryAt d (now (corners .entry)) seats slots 0 (suc (e % d)) ⌝ }
     ensures small { λ s. ⌜ (s .to < 2147483648) × (s .from < 2147483648) ⌝ }
 {
-    let v = parent[e % d + 1];
-    let x = cell[e / d + 1];
-    let to = weight(corners, names, word, x, v);
-    let from = weight(corners, names, word, cell[0], v);
-    Between { to: to, from: from }
-}
-
-// Writes the Jacobian in whole numbers over R: d·d by column, then zeros.
-pub fn whole(
-    d: usize,
-    corners: &[u32],
-    names: &[u32],
-    word: &[u32],
-    parent: &[u32],
-    cell: &[u32],
-    to: &mut [i32],
-)
-    requires { ⌜ (length (now to) ≡ 9) × Seated d (now corners) (now names) (now word) (now parent) (now cell) ⌝ }
-    ensures { λ _. ⌜ now (to .exit) ≡ wholeOf d (weightOf (now (corners .entry)) (now (names .entry)) (now (word .entry))) (now (parent .entry)) (now (cell .entry)) ⌝ }
-{
-    let size = d * d;
-    let mut e = 0;
-    while e < 9 {
-        if size <= e {
-            to[e] = 0;
-            e += 1;
-            continue;
-        }
-        let s = step(d, e, corners, names, word, parent, cell);
-        to[e] = s.to as i32 - s.from as i32;
-        e += 1;
+    let n = d + 1;
+    let slot = slots[e % d + 1];
+    let seat = seats[e / d + 1];
+    let first = seats[0];
+    Between {
+        to: corners[seat * n + slot],
+        from: corners[first * n + slot],
     }
 }
 
-// Writes the Jacobian in floats: d·d by column, then zeros.
-pub fn float(
+// Writes the Jacobian in whole numbers over R and in floats: d·d by column, then zeros.
+pub fn both(
     d: usize,
     r: u32,
     corners: &[u32],
@@ -118,21 +98,27 @@ pub fn float(
     word: &[u32],
     parent: &[u32],
     cell: &[u32],
-    to: &mut [f64],
+    whole: &mut [i32],
+    float: &mut [f64],
 )
-    requires { ⌜ (length (now to) ≡ 9) × Seated d (now corners) (now names) (now word) (now parent) (now cell) ⌝ }
-    ensures { λ _. ⌜ now (to .exit) ≡ floatOf d r (weightOf (now (corners .entry)) (now (names .entry)) (now (word .entry))) (now (parent .entry)) (now (cell .entry)) ⌝ }
+    requires { ⌜ (length (now whole) ≡ squareMost) × (length (now float) ≡ squareMost) × Seated d (now corners) (now names) (now word) (now parent) (now cell) ⌝ }
+    ensures whole { λ _. ⌜ now (whole .exit) ≡ wholeOf d (weightOf (now (corners .entry)) (now (names .entry)) (now (word .entry))) (now (parent .entry)) (now (cell .entry)) ⌝ }
+    ensures float { λ _. ⌜ now (float .exit) ≡ floatOf d r (weightOf (now (corners .entry)) (now (names .entry)) (now (word .entry))) (now (parent .entry)) (now (cell .entry)) ⌝ }
 {
+    let seats = places(names, cell);
+    let slots = places(word, parent);
     let size = d * d;
     let mut e = 0;
-    while e < 9 {
+    while e < SQUARE_MOST {
         if size <= e {
-            to[e] = 0.0;
+            whole[e] = 0;
+            float[e] = 0.0;
             e += 1;
             continue;
         }
-        let s = step(d, e, corners, names, word, parent, cell);
-        to[e] = share(r, s.to) - share(r, s.from);
+        let s = step(d, e, corners, seats, slots);
+        whole[e] = s.to as i32 - s.from as i32;
+        float[e] = share(r, s.to) - share(r, s.from);
         e += 1;
     }
 }

@@ -7,7 +7,7 @@ use native.Mathlib.Numerals.{add-one}
 use native.Mathlib.Omega.{arith}
 use lib.ListN.{length, getD, take, drop}
 use lib.Seq.{take-at, take-take, length-take-le}
-use Rattle.refusal.specs.Limits.{mostDimension, mostCells, mostVertices}
+use Rattle.refusal.specs.Limits.{mostDimension, mostCells, mostVertices, rowMost}
 use Rattle.refusal.specs.Lent.{onto}
 use Rattle.lists.specs.Rows.{cut, flat, row}
 use Rattle.lists.proofs.Rows.{cut-length, cut-at}
@@ -43,7 +43,7 @@ module _ (d R n m : ℕ) (along pattern keys rows spare counts : List ℕ) (q : 
   pub corners-fit : (s : ℕ) → s ≡ R ^ d → (k : ℕ) → k ≡ suc d → s * k < 2 ^ 64
   corners-fit s e k g =
       subst (λ (x : ℕ). x * k < 2 ^ 64) (sym e)
-      (subst (λ (x : ℕ). R ^ d * x < 2 ^ 64) (sym g) (omega (arith, mul-le-mul-left {m = suc d} {n = 4} (R ^ d) (omega (arith, q .ready .dim)), power-most d R (q .ready .dim) (omega (arith, w .most)))))
+      (subst (λ (x : ℕ). R ^ d * x < 2 ^ 64) (sym g) (omega (arith, mul-le-mul-left {m = suc d} {n = rowMost} (R ^ d) (omega (arith, q .ready .dim)), power-most d R (q .ready .dim) (omega (arith, w .most)))))
 
   module _ (pattern′ : List ℕ) (e : pattern′ ≡ onto (flat (patternOf d R)) pattern) where
     pub pattern-reads : take (R ^ d * (suc d * suc d)) pattern′ ≡ flat (patternOf d R)
@@ -60,7 +60,7 @@ module _ (d R n m : ℕ) (along pattern keys rows spare counts : List ℕ) (q : 
         below = q .ready .words-of .below;
         corners = g;
         reads = ap (λ (x : ℕ). take x pattern′) (ap (λ (x : ℕ). x * suc d) g ∙ mul-assoc (R ^ d) (suc d) (suc d)) ∙ pattern-reads;
-        few = omega (arith, all-corners, mul-le-mul-right (suc d) f, mul-le-mul-left {m = suc d} {n = 4} mostCells (omega (arith, q .ready .dim)), q .ready .low, w .most);
+        few = omega (arith, all-corners, mul-le-mul-right (suc d) f, mul-le-mul-left {m = suc d} {n = rowMost} mostCells (omega (arith, q .ready .dim)), q .ready .low, w .most);
         keys-long = subst (λ (x : ℕ). x * (suc d + suc d) ≤ length keys) (sym all-corners) (space .keys-long);
         rows-long = omega (arith, all-corners, space .rows-long);
         spare-long = omega (arith, all-corners, space .spare-long);
@@ -70,7 +70,7 @@ module _ (d R n m : ℕ) (along pattern keys rows spare counts : List ℕ) (q : 
 
       module _ (born : ℕ) (keys′ fresh corners : List ℕ) (r : Resolved d R n m p (cut (suc d) m along) born keys′ fresh corners) where
         pub born-few : born < 2 ^ 32
-        born-few = omega (arith, r .most, all-corners, mul-le-mul-right (suc d) f, mul-le-mul-left {m = suc d} {n = 4} mostCells (omega (arith, q .ready .dim)))
+        born-few = omega (arith, r .most, all-corners, mul-le-mul-right (suc d) f, mul-le-mul-left {m = suc d} {n = rowMost} mostCells (omega (arith, q .ready .dim)))
 
         pub sought-many : (s : ℕ) → s ≡ n → mostVertices < s + born → Sought d R n m along pattern′ keys′ fresh corners (Refused 6 0)
         sought-many s i h = many-vertices w f (omega (arith, vertices-many d R n m p (cut (suc d) m along) born keys′ fresh corners r))
@@ -107,7 +107,7 @@ module _ (d R n m : ℕ) (cells along pattern keys rows spare counts sorted firs
   len-is = ap (λ (x : ℕ). x * (d + 1)) (ec ∙ told .0) ∙ ap (λ (x : ℕ). m * R ^ d * x) (add-one d)
 
   pub len-fits : count * (d + 1) < 2 ^ 64
-  len-fits = omega (arith, len-is, mul-le-mul-right (suc d) (f .few-cells), mul-le-mul-left {m = suc d} {n = 4} mostCells (omega (arith, q .dim)))
+  len-fits = omega (arith, len-is, mul-le-mul-right (suc d) (f .few-cells), mul-le-mul-left {m = suc d} {n = rowMost} mostCells (omega (arith, q .dim)))
 
   pub names-long : count * (d + 1) ≤ length corners
   names-long = omega (arith, len-is, wide .counts-long)
@@ -145,7 +145,7 @@ module _ (d R n m : ℕ) (cells along pattern keys rows spare counts sorted firs
   }
 
   -- every number of a word is below the number of vertices
-  low : (i : ℕ) → i < length (take (count * (d + 1)) corners) → getD (take (count * (d + 1)) corners) i 0 < mostVertices
+  low : (i : ℕ) → i < length (take (count * (d + 1)) corners) → getD (take (count * (d + 1)) corners) i 0 < n + born
   low i l =
       let one : 0 < suc d = omega arith in
       let a : i / suc d < m * R ^ d = div-lt-iff-lt-mul one .1 (omega (arith, length-names)) in
@@ -187,5 +187,6 @@ module _ (d R n m : ℕ) (cells along pattern keys rows spare counts sorted firs
     sorted-long = length-take-le (count * (d + 1)) sorted sorted-long ∙ len-is ∙ length-names;
     rows-long = omega (arith, lr, wide .rows-long, mul-le-mul-left {m = 1} {n = suc d} (m * R ^ d) (omega arith), mul-one (m * R ^ d));
     firsts-long = wide .firsts-long;
-    buckets-long = wide .buckets-long;
+    buckets-long = omega (arith, wide .buckets-long, f .resolved .most, all);
+    classes-long = omega (arith, wide .buckets-long, mul-le-mul-left {m = 1} {n = suc d} (m * R ^ d) (omega arith), mul-one (m * R ^ d));
   }

@@ -63,10 +63,10 @@ arranged d m R k s names sorted firsts kinds ek es a =
     subst (λ (x : ℕ). Arranged (suc d) (m * x) names kinds sorted firsts) es (subst (λ (x : ℕ). Arranged x (m * s) names kinds sorted firsts) ek a)
 
 module _ (d R n m born : ℕ) (cells along pattern keys rows fresh names sorted₀ firsts₀ buckets : List ℕ) (q : Finishing d R n m born cells along pattern keys rows fresh names sorted₀ firsts₀ buckets) where
-  pub arranging : (k : ℕ) → k ≡ suc d → (s : ℕ) → s ≡ R ^ d → Arranging k (m * s) mostVertices names sorted₀ rows firsts₀ buckets
+  pub arranging : (k : ℕ) → k ≡ suc d → (s : ℕ) → s ≡ R ^ d → Arranging k (m * s) (n + born) names sorted₀ rows firsts₀ buckets
   arranging k ek s es =
-      subst (λ (x : ℕ). Arranging x (m * s) mostVertices names sorted₀ rows firsts₀ buckets) (sym ek)
-      (subst (λ (x : ℕ). Arranging (suc d) (m * x) mostVertices names sorted₀ rows firsts₀ buckets) (sym es)
+      subst (λ (x : ℕ). Arranging x (m * s) (n + born) names sorted₀ rows firsts₀ buckets) (sym ek)
+      (subst (λ (x : ℕ). Arranging (suc d) (m * x) (n + born) names sorted₀ rows firsts₀ buckets) (sym es)
       (record {
         some = omega arith;
         whole = q .named;
@@ -76,7 +76,7 @@ module _ (d R n m born : ℕ) (cells along pattern keys rows fresh names sorted�
         order-long = q .rows-long;
         firsts-long = q .firsts-long;
         buckets-long = q .buckets-long;
-        classes-long = omega (arith, q .few-cells, q .buckets-long);
+        classes-long = q .classes-long;
       }))
 
   refines : Refines d R n (cut (suc d) m along)

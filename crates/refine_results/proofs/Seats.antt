@@ -13,7 +13,7 @@ use lib.Ieee.{Float}
 use lib.ListN.{length, getD, take, drop, length-take, length-append, List·getD-append, length-map}
 use lib.Seq.{getD-take, getD-drop, getD-append-add}
 use borrow.Author.Tests.{eqb-true, eqb-false}
-use Rattle.refusal.specs.Limits.{mostRefinement}
+use Rattle.refusal.specs.Limits.{mostRefinement, squareMost}
 use Rattle.lists.specs.Rows.{cut, flat, row}
 use Rattle.lists.proofs.Laws.{map-at}
 use Rattle.lists.specs.Words.{foundAt}
@@ -36,7 +36,7 @@ use Rattle.refine_lattice.proofs.Seats.{weigh-at}
 use Rattle.refine_lattice.proofs.Weights.{length-weights}
 use Rattle.refine_lattice.specs.Jacobian.{jacobian}
 use Rattle.lists.proofs.Tables.{tab-ext}
-use Rattle.refine_jacobian.specs.Entries.{nineOf, wholeOf, floatOf, floatStep, nought}
+use Rattle.refine_jacobian.specs.Entries.{squareOf, wholeOf, floatOf, floatStep, nought}
 use Rattle.refine_jacobian.proofs.Laws.{column-in, row-in, entry-past}
 use Rattle.refine_jacobian.specs.WorkWeights.{placeOf, weightOf, Seated}
 use Rattle.refine_children.specs.WorkFamily.{weightsAt, wholeAt, floatAt, Family}
@@ -99,9 +99,9 @@ front-long : (n : ℕ) (l : List ℕ) → length (take n l) ≡ n → n ≤ leng
 front-long n l e = omega (arith, length-take n l)
 
 -- nine numbers agree where their d·d entries do
-nine-ext : {A : Type 0} (d : ℕ) (none : A) (f g : ℕ → ℕ → A) → ((j l : ℕ) → j < d → l < d → f j l ≡ g j l) → nineOf d none f ≡ nineOf d none g
+nine-ext : {A : Type 0} (d : ℕ) (none : A) (f g : ℕ → ℕ → A) → ((j l : ℕ) → j < d → l < d → f j l ≡ g j l) → squareOf d none f ≡ squareOf d none g
 nine-ext {A} d none f g h =
-    tab-ext 9 (λ e. cond (ltb e (d * d)) (f (e / d) (e % d)) none) (λ e. cond (ltb e (d * d)) (g (e / d) (e % d)) none)
+    tab-ext squareMost (λ e. cond (ltb e (d * d)) (f (e / d) (e % d)) none) (λ e. cond (ltb e (d * d)) (g (e / d) (e % d)) none)
     (λ e l.
     elim (decLt e (d * d)) [
       | yes b ↦ ap (λ (x : A). cond (ltb e (d * d)) x none) (h (e / d) (e % d) (column-in d e b) (row-in d e b))

@@ -8,6 +8,7 @@ use lib.IntN.{ℤ}
 use lib.Ieee.{Float}
 use lib.ListN.{length, getD, take, drop, length-append, length-map}
 use lib.Seq.{length-take-le, take-at}
+use Rattle.refusal.specs.Limits.{squareMost}
 use Rattle.refusal.specs.Lent.{onto}
 use Rattle.lists.specs.Rows.{flat}
 use Rattle.sorting.specs.Gather.{rowsOf}
@@ -54,11 +55,11 @@ module _ (d size m : ℕ) (firsts pattern names sorted along coarse : List ℕ) 
   pub parents-size : length (tab m (λ i. getD firsts i 0 / size)) ≡ m
   parents-size = length-tab m (λ i. getD firsts i 0 / size)
 
-  pub jacobians-size : (R : ℕ) → length (joined m (λ i. floatAt d R size pattern names sorted along coarse (getD firsts i 0))) ≡ m * 9
-  jacobians-size R = joined-length 9 m (λ i. floatAt d R size pattern names sorted along coarse (getD firsts i 0)) (λ i h. refl)
+  pub jacobians-size : (R : ℕ) → length (joined m (λ i. floatAt d R size pattern names sorted along coarse (getD firsts i 0))) ≡ m * squareMost
+  jacobians-size R = joined-length squareMost m (λ i. floatAt d R size pattern names sorted along coarse (getD firsts i 0)) (λ i h. refl)
 
-  pub wholes-size : length (joined m (λ i. wholeAt d size pattern names sorted along coarse (getD firsts i 0))) ≡ m * 9
-  wholes-size = joined-length 9 m (λ i. wholeAt d size pattern names sorted along coarse (getD firsts i 0)) (λ i h. refl)
+  pub wholes-size : length (joined m (λ i. wholeAt d size pattern names sorted along coarse (getD firsts i 0))) ≡ m * squareMost
+  wholes-size = joined-length squareMost m (λ i. wholeAt d size pattern names sorted along coarse (getD firsts i 0)) (λ i h. refl)
 
 module _ (d R size m : ℕ) (firsts pattern names sorted along coarse cells words parents : List ℕ) (jacobians : List Float) (wholes : List ℤ)
     (q : Writing d size m firsts pattern names sorted along coarse cells words parents jacobians wholes) (n : ℕ) (e : n ≡ suc d) where
@@ -70,7 +71,7 @@ module _ (d R size m : ℕ) (firsts pattern names sorted along coarse cells word
       → parents′ ≡ tab (length (take m parents)) (λ i. getD firsts i 0 / size)
       → jacobians′ ≡ joined m (λ i. floatAt d R size pattern names sorted along coarse (getD firsts i 0))
       → wholes′ ≡ joined m (λ i. wholeAt d size pattern names sorted along coarse (getD firsts i 0))
-      → Wrote d R size m firsts pattern names sorted along coarse cells cells′ words words′ parents (parents′ ++ drop m parents) jacobians (jacobians′ ++ drop (m * 9) jacobians) wholes (wholes′ ++ drop (m * 9) wholes)
+      → Wrote d R size m firsts pattern names sorted along coarse cells cells′ words words′ parents (parents′ ++ drop m parents) jacobians (jacobians′ ++ drop (m * squareMost) jacobians) wholes (wholes′ ++ drop (m * squareMost) wholes)
   wrote cells′ words′ parents′ jacobians′ wholes′ ec ew ep ej eh =
       let l : m ≤ length firsts = q .families .long in
       let f : Families d size m firsts pattern names sorted along coarse = q .families in
@@ -78,8 +79,8 @@ module _ (d R size m : ℕ) (firsts pattern names sorted along coarse cells word
         in-cells = ec ∙ ap (λ (k : ℕ). rowsOf sorted k (take m firsts) ++ drop (m * k) cells) e ∙ stored (rowsOf sorted (suc d) (take m firsts)) cells (rowsOf sorted (suc d) (take m firsts)) (m * suc d) refl (cells-size d size m firsts pattern names sorted along coarse l f);
         in-words = ew ∙ ap (λ (k : ℕ). rowsOf names k (take m firsts) ++ drop (m * k) words) e ∙ stored (rowsOf names (suc d) (take m firsts)) words (rowsOf names (suc d) (take m firsts)) (m * suc d) refl (words-size d size m firsts pattern names sorted along coarse l f);
         in-parents = stored (tab m (λ i. getD firsts i 0 / size)) parents parents′ m (ep ∙ ap (λ (k : ℕ). tab k (λ i. getD firsts i 0 / size)) (length-take-le m parents (q .in-parents))) (parents-size d size m firsts pattern names sorted along coarse l f);
-        in-jacobians = stored (joined m (λ i. floatAt d R size pattern names sorted along coarse (getD firsts i 0))) jacobians jacobians′ (m * 9) ej (jacobians-size d size m firsts pattern names sorted along coarse l f R);
-        in-wholes = stored (joined m (λ i. wholeAt d size pattern names sorted along coarse (getD firsts i 0))) wholes wholes′ (m * 9) eh (wholes-size d size m firsts pattern names sorted along coarse l f);
+        in-jacobians = stored (joined m (λ i. floatAt d R size pattern names sorted along coarse (getD firsts i 0))) jacobians jacobians′ (m * squareMost) ej (jacobians-size d size m firsts pattern names sorted along coarse l f R);
+        in-wholes = stored (joined m (λ i. wholeAt d size pattern names sorted along coarse (getD firsts i 0))) wholes wholes′ (m * squareMost) eh (wholes-size d size m firsts pattern names sorted along coarse l f);
       }
 
 -- ---- the births

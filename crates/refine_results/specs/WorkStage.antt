@@ -20,7 +20,8 @@ pub record Spacious (d R n c : ℕ) (pattern keys rows spare counts sorted first
   pub weights-long : n + R + 1 ≤ length counts
   pub sorted-long : c * suc d ≤ length sorted
   pub firsts-long : c ≤ length firsts
-  pub buckets-long : mostVertices ≤ length buckets
+  pub buckets-long : n + c * suc d ≤ length buckets
+  pub kinds-long : R ^ d * suc d ≤ length buckets
 
 -- m cells stand in `cells` and their words in `along`, and there is room where the limits let the children through
 pub record Ready (d R n m : ℕ) (cells along pattern keys rows spare counts sorted firsts buckets : List ℕ) : Type 0 where

@@ -6,7 +6,7 @@ use Prim.Native.Nat.{ℕ, suc, _+_, _*_, _/_, _^_, _≤_, _<_}
 use lib.IntN.{ℤ}
 use lib.Ieee.{Float}
 use lib.ListN.{length, getD, take}
-use Rattle.refusal.specs.Limits.{mostDimension, mostCells, mostVertices}
+use Rattle.refusal.specs.Limits.{mostDimension, mostCells, mostVertices, squareMost}
 use Rattle.refusal.specs.Table.{tooManyCells, tooManyVertices, badRefinement}
 use Rattle.refusal.specs.Lent.{onto}
 use Rattle.lists.specs.Rows.{cut, flat}
@@ -60,8 +60,8 @@ pub record Sized (d m b : ℕ) (h : Results) : Type 0 where
   pub cells-size : length (h .cells-out) ≡ m * suc d
   pub words-size : length (h .words-out) ≡ m * suc d
   pub parents-size : length (h .parents-out) ≡ m
-  pub jacobians-size : length (h .jacobians-out) ≡ m * 9
-  pub wholes-size : length (h .wholes-out) ≡ m * 9
+  pub jacobians-size : length (h .jacobians-out) ≡ m * squareMost
+  pub wholes-size : length (h .wholes-out) ≡ m * squareMost
   pub vertices-size : length (h .birth-vertices) ≡ b * suc d
   pub weights-size : length (h .birth-weights) ≡ b * suc d
   pub shares-size : length (h .birth-shares) ≡ b * suc d
@@ -95,8 +95,8 @@ pub record Writing (d size m : ℕ) (firsts pattern names sorted along coarse ce
   pub in-cells : m * suc d ≤ length cells
   pub in-words : m * suc d ≤ length words
   pub in-parents : m ≤ length parents
-  pub in-jacobians : m * 9 ≤ length jacobians
-  pub in-wholes : m * 9 ≤ length wholes
+  pub in-jacobians : m * squareMost ≤ length jacobians
+  pub in-wholes : m * squareMost ≤ length wholes
 
 -- of each of them its sorted word, its word, its parent and its Jacobian are written
 pub record Wrote (d R size m : ℕ) (firsts pattern names sorted along coarse cells cells′ words words′ parents parents′ : List ℕ) (jacobians jacobians′ : List Float) (wholes wholes′ : List ℤ) : Type 0 where
@@ -128,11 +128,12 @@ pub record Finishing (d R n m born : ℕ) (cells along pattern keys rows fresh n
   pub few-cells : m * R ^ d ≤ mostCells
   pub few-vertices : n + born ≤ mostVertices
   pub named : m * R ^ d * suc d ≡ length names
-  pub below : (i : ℕ) → i < length names → getD names i 0 < mostVertices
+  pub below : (i : ℕ) → i < length names → getD names i 0 < n + born
   pub fresh-long : born ≤ length fresh
   pub inside : (b : ℕ) → b < born → getD fresh b 0 * (suc d + suc d) + (suc d + suc d) ≤ length keys
   pub supports : Supports (suc d) n born (births d R n (cut (suc d) m along)) keys fresh
   pub sorted-long : length sorted ≡ length names
   pub rows-long : m * R ^ d ≤ length rows
   pub firsts-long : m * R ^ d ≤ length firsts
-  pub buckets-long : mostVertices ≤ length buckets
+  pub buckets-long : n + born ≤ length buckets
+  pub classes-long : m * R ^ d ≤ length buckets

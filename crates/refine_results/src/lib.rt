@@ -20,14 +20,16 @@ use refusal::BAD_REFINEMENT;
 use refusal::MOST_CELLS;
 use refusal::MOST_REFINEMENT;
 use refusal::MOST_VERTICES;
+use refusal::SQUARE_MOST;
 use refusal::TOO_MANY_CELLS;
 use refusal::TOO_MANY_VERTICES;
 use refusal::TOO_SHORT;
 ghost use mathlib.Core.Path.{_≡_};
 ghost use mathlib.Core.List.{List};
-ghost use Prim.Native.Nat.{ℕ, suc, _≤_};
+ghost use Prim.Native.Nat.{ℕ, suc, _+_, _≤_};
 ghost use lib.ListN.{length};
 ghost use Rattle.refusal.specs.Limits.{mostDimension, mostCells, mostVertices};
+ghost use Rattle.refine_children.specs.WorkColex.{Arranging, Arranged};
 ghost use Rattle.refine_births.specs.Promise.{Supports};
 ghost use Rattle.refine_results.specs.WorkStage.{Ready, Handed};
 ghost use Rattle.refine_results.specs.WorkSteps.{Tested, Seeking, Sought, lent, Fits, Writing, Wrote, Bears, Bore, Finishing};
@@ -129,10 +131,10 @@ fn fits(
     if parents < m {
         return false;
     }
-    if jacobians < m * 9 {
+    if jacobians < m * SQUARE_MOST {
         return false;
     }
-    if wholes < m * 9 {
+    if wholes < m * SQUARE_MOST {
         return false;
     }
     if vertices < ends {
@@ -172,7 +174,7 @@ fn write_children(
     sorting::gather(sorted, n, firsts, m, cells);
     sorting::gather(names, n, firsts, m, words);
     refine_children::parents(size, firsts, &mut parents[..m]);
-    let len = m * 9;
+    let len = m * SQUARE_MOST;
     refine_children::jacobians(
         d,
         r,
@@ -219,6 +221,34 @@ fn write_births(
     refine_jacobian::shares(r, &weights[..len], &mut shares[..len]);
 }
 
+// Sorts each of the count words of `size` vertices below n + born into `sorted`, and writes the first word of each cell, in the cells' colex order, to `firsts`; says how many
+// cells there are.
+fn ordered(
+    size: usize,
+    count: usize,
+    n: u32,
+    born: u32,
+    names: &[u32],
+    sorted: &mut [u32],
+    rows: &mut [u32],
+    firsts: &mut [u32],
+    buckets: &mut [u32],
+) -> usize
+    requires { ⌜ (n + born ≤ mostVertices) × Arranging size count (n + born) (now names) (now sorted) (now rows) (now firsts) (now buckets) ⌝ }
+    ensures { λ m. ⌜ Arranged size count (now (names .entry)) m (now (sorted .exit)) (now (firsts .exit)) ⌝ }
+{
+    refine_children::colex(
+        size,
+        count,
+        wide(n) + wide(born),
+        names,
+        sorted,
+        rows,
+        firsts,
+        buckets,
+    )
+}
+
 // Brings the refined cells into colex order and hands out the results, or 12 where a result list is too short.
 fn finish(
     d: usize,
@@ -252,10 +282,11 @@ fn finish(
         (now («birth_vertices» .entry)) (now («birth_vertices» .exit)) (now («birth_weights» .entry)) (now («birth_weights» .exit)) (now («birth_shares» .entry)) (now («birth_shares» .exit)) ⌝ }
 {
     let size = cartesian::count(d, wide(r));
-    let kinds = refine_children::colex(
+    let kinds = ordered(
         d + 1,
         m * size,
-        MOST_VERTICES,
+        n,
+        born,
         names,
         sorted,
         rows,

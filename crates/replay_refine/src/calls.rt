@@ -20,7 +20,7 @@ pub(crate) fn by_numbers(d: u32, given: &[u32], r: u32) {
     let mut counts = [0u32; 16513];
     let mut sorted = [0u32; 16384];
     let mut firsts = [0u32; 4096];
-    let mut buckets = [0u32; 4096];
+    let mut buckets = [0u32; 16448];
     let said = refine::refine(
         d,
         given,
@@ -68,7 +68,7 @@ pub(crate) fn by_order(d: u32, given: &[u32], order: &[u32], r: u32) {
     let mut counts = [0u32; 16513];
     let mut sorted = [0u32; 16384];
     let mut firsts = [0u32; 4096];
-    let mut buckets = [0u32; 4096];
+    let mut buckets = [0u32; 16448];
     let said = refine::refine_with(
         d,
         given,

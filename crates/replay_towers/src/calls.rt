@@ -63,7 +63,7 @@ fn by_numbers(
     let mut counts = [0u32; 32833];
     let mut sorted = [0u32; 16384];
     let mut firsts = [0u32; 4096];
-    let mut buckets = [0u32; 4096];
+    let mut buckets = [0u32; 32768];
     told(refine::refine(
         d,
         given,
@@ -115,7 +115,7 @@ fn by_order(
     let mut counts = [0u32; 32833];
     let mut sorted = [0u32; 16384];
     let mut firsts = [0u32; 4096];
-    let mut buckets = [0u32; 4096];
+    let mut buckets = [0u32; 32768];
     told(refine::refine_with(
         d,
         given,

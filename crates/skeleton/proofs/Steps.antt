@@ -18,6 +18,7 @@ use Rattle.lists.proofs.Flat.{flat-cut}
 use Rattle.lists.proofs.Rows.{cut-length}
 use Rattle.sorting.specs.Gather.{rowsOf}
 use Rattle.sorting.proofs.Rows.{rowsOf-pos}
+use Rattle.refusal.specs.Limits.{mostDimension, manyCorners}
 use Rattle.complex.specs.Check.{Passed}
 use Rattle.complex.specs.Room.{keyRoom, needOf}
 use Rattle.complex.specs.Cells.{cellsOf}
@@ -188,7 +189,7 @@ pub width-most : (beside : Beside) → widthOf beside ≤ 5
 width-most Places = omega arith
 width-most Signs = omega arith
 
-room-narrow : (d m n : ℕ) → d ≤ 3 → n < 65536 → m * suc d ≤ n → m * slots d * d < 4294967296
+room-narrow : (d m n : ℕ) → d ≤ mostDimension → n < manyCorners → m * suc d ≤ n → m * slots d * d < 4294967296
 room-narrow d m n h c k = omega (arith, room-rows d m n k, room-most d n h)
 
 module _ (d : ℕ) (ws keys rows spare counts : List ℕ) (w : Working (needOf d (length ws)) d ws keys rows spare counts) (m : ℕ) (keys′ rows′ spare′ counts′ : List ℕ) (lk : length keys′ ≡ length keys) (lr : length rows′ ≡ length rows) (ls : length spare′ ≡ length spare) (lc : length counts′ ≡ length counts) (a : Made d ws m rows′) where

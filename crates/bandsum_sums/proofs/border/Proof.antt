@@ -1,7 +1,7 @@
 -- `bandsum_sums::border` meets its contract: the lists are long enough for every grid. Assumes nothing.
 use mathlib.Core.Path.{_∙_}
 use Rattle.bandsum_sums.proofs.Ends.{zeros, border-counted}
-use Rattle.bandsum_sums.specs.Work.{mostCorners, mostListed}
+use Rattle.bandsum_sums.specs.Work.{bandCorners, bandListed}
 use borrow.Author.Needs.{needs}
 use Rattle.bandsum_sums.proofs.border.Statement.{statement}
 use Rattle.bandsum_sums.proofs.border.Tie as tie
@@ -28,7 +28,7 @@ number-requires : tie.Need-number-requires
 number-requires c κs = search needs
 
 returns : tie.Need-returns
-returns c = c .number .ensures ∙ border-counted (c .before .before .before .before .before .before .before .before .before .before .before .before .before .args .grid) (c .before .before .before .before .before .before .before .before .before .before .before .before .before .args .words .now) (c .before .before .before .before .before .before .before .before .before .before .before .before .before .pre) (c .before .before .before .before .before .before .border2 .result) _ _ _ _ _ _ _ _ _ _ (zeros mostListed) (zeros mostListed) (zeros mostCorners) (zeros mostCorners) (zeros mostCorners) (c .before .before .before .before .before .before .border2 .ensures)
+returns c = c .number .ensures ∙ border-counted (c .before .before .before .before .before .before .before .before .before .before .before .before .before .args .grid) (c .before .before .before .before .before .before .before .before .before .before .before .before .before .args .words .now) (c .before .before .before .before .before .before .before .before .before .before .before .before .before .pre) (c .before .before .before .before .before .before .border2 .result) _ _ _ _ _ _ _ _ _ _ (zeros bandListed) (zeros bandListed) (zeros bandCorners) (zeros bandCorners) (zeros bandCorners) (c .before .before .before .before .before .before .border2 .ensures)
 
 pub border-spec : {M : Type 1} → statement M
 border-spec =

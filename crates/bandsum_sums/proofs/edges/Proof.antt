@@ -1,7 +1,7 @@
 -- `bandsum_sums::edges` meets its contract: the lists are long enough for every grid. Assumes nothing.
 use mathlib.Core.Path.{_∙_}
 use Rattle.bandsum_sums.proofs.Ends.{zeros, edges-counted}
-use Rattle.bandsum_sums.specs.Work.{mostListed}
+use Rattle.bandsum_sums.specs.Work.{bandListed}
 use borrow.Author.Needs.{needs}
 use Rattle.bandsum_sums.proofs.edges.Statement.{statement}
 use Rattle.bandsum_sums.proofs.edges.Tie as tie
@@ -28,7 +28,7 @@ number-requires : tie.Need-number-requires
 number-requires c κs = search needs
 
 returns : tie.Need-returns
-returns c = c .number .ensures ∙ edges-counted (c .before .before .before .before .before .before .before .before .before .before .before .before .before .args .grid) (c .before .before .before .before .before .before .before .before .before .before .before .before .before .args .words .now) (c .before .before .before .before .before .before .before .before .before .before .before .before .before .pre) (c .before .before .before .before .before .before .edges2 .result) _ _ _ _ _ _ _ _ _ _ (zeros mostListed) (zeros 98304) (zeros mostListed) (zeros mostListed) (zeros mostListed) (c .before .before .before .before .before .before .edges2 .ensures)
+returns c = c .number .ensures ∙ edges-counted (c .before .before .before .before .before .before .before .before .before .before .before .before .before .args .grid) (c .before .before .before .before .before .before .before .before .before .before .before .before .before .args .words .now) (c .before .before .before .before .before .before .before .before .before .before .before .before .before .pre) (c .before .before .before .before .before .before .edges2 .result) _ _ _ _ _ _ _ _ _ _ (zeros bandListed) (zeros 98304) (zeros bandListed) (zeros bandListed) (zeros bandListed) (c .before .before .before .before .before .before .edges2 .ensures)
 
 pub edges-spec : {M : Type 1} → statement M
 edges-spec =

@@ -1,6 +1,6 @@
 -- `bandsum_sums::triangulated` meets its contract: the lists are long enough for every grid. Assumes nothing.
 use Rattle.bandsum_sums.proofs.Ends.{zeros, triangulates}
-use Rattle.bandsum_sums.specs.Work.{mostCorners}
+use Rattle.bandsum_sums.specs.Work.{bandCorners}
 use borrow.Author.Needs.{needs}
 use Rattle.bandsum_sums.proofs.triangulated.Statement.{statement}
 use Rattle.bandsum_sums.proofs.triangulated.Tie as tie
@@ -27,7 +27,7 @@ triangulate-ordered-requires : tie.Need-triangulate-ordered-requires
 triangulate-ordered-requires c κs = search needs
 
 returns : tie.Need-returns
-returns c = triangulates (c .before .before .before .before .before .before .before .before .before .before .before .before .before .args .grid) _ _ _ _ _ _ (zeros mostCorners) (zeros mostCorners) (zeros 81920) (zeros mostCorners) (zeros mostCorners) (zeros mostCorners) (c .before .before .before .before .before .before .triangulate-ordered .result) _ _ _ _ _ _ (c .before .before .before .before .before .before .triangulate-ordered .ensures)
+returns c = triangulates (c .before .before .before .before .before .before .before .before .before .before .before .before .before .args .grid) _ _ _ _ _ _ (zeros bandCorners) (zeros bandCorners) (zeros 81920) (zeros bandCorners) (zeros bandCorners) (zeros bandCorners) (c .before .before .before .before .before .before .triangulate-ordered .result) _ _ _ _ _ _ (c .before .before .before .before .before .before .triangulate-ordered .ensures)
 
 pub triangulated-spec : {M : Type 1} → statement M
 triangulated-spec =

@@ -1,7 +1,7 @@
 -- `bandsum_sums::vertices` meets its contract. Assumes nothing.
 use mathlib.Core.Path.{ap, _∙_}
 use Rattle.bandsum_sums.proofs.Ends.{taken-counted}
-use Rattle.bandsum_sums.specs.Work.{countOf}
+use Rattle.refusal.specs.Told.{countOf}
 use borrow.Author.Needs.{needs}
 use Rattle.bandsum_sums.proofs.vertices.Statement.{statement}
 use Rattle.bandsum_sums.proofs.vertices.Tie as tie

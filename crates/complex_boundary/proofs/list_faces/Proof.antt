@@ -7,7 +7,7 @@ use Rattle.complex_boundary.proofs.list_faces.Statement.{statement}
 use Rattle.complex_boundary.proofs.list_faces.Tie as tie
 use Rattle.complex_boundary.proofs.list_faces.Reads as reads
 use Rattle.complex_boundary.proofs.list_faces.Lts as lts
-use Rattle.complex_boundary.proofs.hand_out.Reads as hand-out-reads
+use Rattle.skeleton.proofs.hand_out.Reads as hand-out-reads
 use Rattle.complex_boundary.proofs.reach.Reads as reach-reads
 
 reach-requires : tie.Need-reach-requires

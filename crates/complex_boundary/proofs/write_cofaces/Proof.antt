@@ -8,21 +8,20 @@ use borrow.Author.Needs.{needs}
 use lib.ListN.{length, getD, drop, set, length-set}
 use lib.IntN.{ℤ, pos}
 use Rattle.multiindex.specs.Sign.{induced, signNumber}
-use Rattle.complex_boundary.specs.Work.{each}
-use Rattle.complex_boundary.proofs.Entries.{each-more}
+use Rattle.lists.specs.Tables.{tab}
+use Rattle.complex_boundary.proofs.Entries.{tab-put}
 use Rattle.complex_boundary.proofs.write_cofaces.Statement.{statement}
 use Rattle.complex_boundary.proofs.write_cofaces.Tie as tie
 use Rattle.complex_boundary.proofs.write_cofaces.Reads as reads
 use Rattle.complex_boundary.proofs.write_cofaces.Lts as lts
 
 abbrev Inv-loop : tie.InvT-loop
-Inv-loop n total cofaces₀ x₀ cofaces x = (x ≤ total) × (cofaces ≡ each x (λ y. y / n) ++ drop x cofaces₀) × (length cofaces ≡ length cofaces₀)
+Inv-loop n total cofaces₀ x₀ cofaces x = (x ≤ total) × (cofaces ≡ tab x (λ y. y / n) ++ drop x cofaces₀) × (length cofaces ≡ length cofaces₀)
 
 abbrev μ-loop : tie.MeasureT-loop
 μ-loop n total cofaces₀ x₀ cofaces x = total - x
 
 loop-holds : tie.Need-loop-holds Inv-loop μ-loop
-unfolding each
 loop-holds c = (search needs, refl, refl)
 
 div-cofaces : tie.Need-div-cofaces Inv-loop μ-loop
@@ -47,7 +46,7 @@ loop-again : tie.Need-loop-again Inv-loop μ-loop
 loop-again c =
     let s = c .before .before in
     let l = c .before .loop in
-    (omega arith, ap (λ (z : List ℕ). set z (l .x) (l .x / s .args .n)) (l .inv .1) ∙ each-more 0 (λ y. y / s .args .n) (s .args .cofaces .now) (l .x) (l .x / s .args .n) refl (omega (arith, s .pre .2)), simp length-set (l .inv .2))
+    (omega arith, ap (λ (z : List ℕ). set z (l .x) (l .x / s .args .n)) (l .inv .1) ∙ tab-put 0 (λ y. y / s .args .n) (s .args .cofaces .now) (l .x) (l .x / s .args .n) refl (omega (arith, s .pre .2)), simp length-set (l .inv .2))
 
 same-length : tie.Need-same-length Inv-loop μ-loop
 same-length c = search needs

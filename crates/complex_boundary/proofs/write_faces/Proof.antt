@@ -7,15 +7,15 @@ use borrow.Author.Needs.{needs}
 use lib.ListN.{length, getD, drop, set, length-set}
 use lib.IntN.{ℤ, pos}
 use Rattle.multiindex.specs.Sign.{induced, signNumber}
-use Rattle.complex_boundary.specs.Work.{each}
-use Rattle.complex_boundary.proofs.Entries.{each-more, place-fits}
+use Rattle.lists.specs.Tables.{tab}
+use Rattle.complex_boundary.proofs.Entries.{tab-put, place-fits}
 use Rattle.complex_boundary.proofs.write_faces.Statement.{statement}
 use Rattle.complex_boundary.proofs.write_faces.Tie as tie
 use Rattle.complex_boundary.proofs.write_faces.Reads as reads
 use Rattle.complex_boundary.proofs.write_faces.Lts as lts
 
 abbrev Inv-loop : tie.InvT-loop
-Inv-loop k m ids faces₀ n total x₀ faces x = (x ≤ total) × (faces ≡ each x (λ y. getD ids (y / (k + 1) * (k + 1) + (k - y % (k + 1))) 0) ++ drop x faces₀) × (length faces ≡ length faces₀)
+Inv-loop k m ids faces₀ n total x₀ faces x = (x ≤ total) × (faces ≡ tab x (λ y. getD ids (y / (k + 1) * (k + 1) + (k - y % (k + 1))) 0) ++ drop x faces₀) × (length faces ≡ length faces₀)
 
 abbrev μ-loop : tie.MeasureT-loop
 μ-loop k m ids faces₀ n total x₀ faces x = total - x
@@ -27,7 +27,6 @@ mul-total : tie.Need-mul-total Inv-loop μ-loop
 mul-total c = search needs
 
 loop-holds : tie.Need-loop-holds Inv-loop μ-loop
-unfolding each
 loop-holds c = (search needs, refl, refl)
 
 div-at : tie.Need-div-at Inv-loop μ-loop
@@ -68,7 +67,7 @@ loop-again c =
     let s = c .before .before .before in
     let l = c .before .before .loop in
     let f : ℕ → ℕ = λ y. getD (s .args .ids .now) (y / (s .args .k + 1) * (s .args .k + 1) + (s .args .k - y % (s .args .k + 1))) 0 in
-    (omega arith, ap (λ (z : List ℕ). set z (l .x) (f (l .x))) (l .inv .1) ∙ each-more 0 f (s .args .faces .now) (l .x) (f (l .x)) refl (omega (arith, c .before .loop-test .taken, s .pre .3)), simp length-set (l .inv .2))
+    (omega arith, ap (λ (z : List ℕ). set z (l .x) (f (l .x))) (l .inv .1) ∙ tab-put 0 f (s .args .faces .now) (l .x) (f (l .x)) refl (omega (arith, c .before .loop-test .taken, s .pre .3)), simp length-set (l .inv .2))
 
 same-length : tie.Need-same-length Inv-loop μ-loop
 same-length c = search needs

@@ -9,8 +9,8 @@ use lib.IntN.{ℤ, pos}
 use mir.Val.{toZ, ofZ}
 use mir.Syntax.{w32}
 use Rattle.multiindex.specs.Sign.{Sign, plus, minus, induced, signNumber}
-use Rattle.complex_boundary.specs.Work.{each}
-use Rattle.complex_boundary.proofs.Entries.{each-more}
+use Rattle.lists.specs.Tables.{tab}
+use Rattle.complex_boundary.proofs.Entries.{tab-put}
 use Rattle.complex_boundary.proofs.write_signs.Statement.{statement}
 use Rattle.complex_boundary.proofs.write_signs.Tie as tie
 use Rattle.complex_boundary.proofs.write_signs.Reads as reads
@@ -18,13 +18,12 @@ use Rattle.complex_boundary.proofs.write_signs.Lts as lts
 use Rattle.complex_boundary.proofs.sign_of.Reads as sign-of-reads
 
 abbrev Inv-loop : tie.InvT-loop
-Inv-loop n total signs₀ x₀ signs x = (x ≤ total) × (signs ≡ each x (λ y. signNumber (induced (y % n))) ++ drop x signs₀) × (length signs ≡ length signs₀)
+Inv-loop n total signs₀ x₀ signs x = (x ≤ total) × (signs ≡ tab x (λ y. signNumber (induced (y % n))) ++ drop x signs₀) × (length signs ≡ length signs₀)
 
 abbrev μ-loop : tie.MeasureT-loop
 μ-loop n total signs₀ x₀ signs x = total - x
 
 loop-holds : tie.Need-loop-holds Inv-loop μ-loop
-unfolding each
 loop-holds c = (search needs, refl, refl)
 
 rem-sign-of : tie.Need-rem-sign-of Inv-loop μ-loop
@@ -54,7 +53,7 @@ loop-again : tie.Need-loop-again Inv-loop μ-loop
 loop-again c =
     let s = c .before .before .before in
     let l = c .before .before .loop in
-    (omega arith, ap (λ (z : List ℤ). set z (l .x) (toZ w32 (ofZ w32 (c .sign-of .result)))) (l .inv .1) ∙ each-more (pos 0) (λ y. signNumber (induced (y % s .args .n))) (s .args .signs .now) (l .x) (toZ w32 (ofZ w32 (c .sign-of .result))) (ap (λ (z : ℤ). toZ w32 (ofZ w32 z)) (c .sign-of .ensures) ∙ stored (induced (l .x % s .args .n))) (omega (arith, s .pre .1)), simp length-set (l .inv .2))
+    (omega arith, ap (λ (z : List ℤ). set z (l .x) (toZ w32 (ofZ w32 (c .sign-of .result)))) (l .inv .1) ∙ tab-put (pos 0) (λ y. signNumber (induced (y % s .args .n))) (s .args .signs .now) (l .x) (toZ w32 (ofZ w32 (c .sign-of .result))) (ap (λ (z : ℤ). toZ w32 (ofZ w32 z)) (c .sign-of .ensures) ∙ stored (induced (l .x % s .args .n))) (omega (arith, s .pre .1)), simp length-set (l .inv .2))
 
 same-length : tie.Need-same-length Inv-loop μ-loop
 same-length c = search needs

@@ -8,7 +8,7 @@ use Rattle.complex_incidence.proofs.cell_of.Statement.{statement}
 use Rattle.complex_incidence.proofs.cell_of.Tie as tie
 use Rattle.complex_incidence.proofs.cell_of.Reads as reads
 use Rattle.complex_incidence.proofs.cell_of.Lts as lts
-use Rattle.complex_incidence.proofs.wide.Reads as wide-reads
+use Rattle.lists.proofs.wide.Reads as wide-reads
 
 wide-requires : tie.Need-wide-requires
 wide-requires c κs = search needs

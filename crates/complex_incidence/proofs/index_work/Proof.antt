@@ -13,7 +13,7 @@ use Rattle.complex_incidence.proofs.index_work.Tie as tie
 use Rattle.complex_incidence.proofs.index_work.Reads as reads
 use Rattle.complex_incidence.proofs.index_work.Lts as lts
 use Rattle.complex_incidence.proofs.list_index.Reads as list-index-reads
-use Rattle.complex_incidence.proofs.sound.Reads as sound-reads
+use Rattle.skeleton.proofs.sound.Reads as sound-reads
 
 sound-requires : tie.Need-sound-requires
 sound-requires c κs = search needs

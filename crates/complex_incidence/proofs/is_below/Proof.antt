@@ -9,7 +9,7 @@ use Rattle.complex_incidence.proofs.is_below.Statement.{statement}
 use Rattle.complex_incidence.proofs.is_below.Tie as tie
 use Rattle.complex_incidence.proofs.is_below.Reads as reads
 use Rattle.complex_incidence.proofs.is_below.Lts as lts
-use Rattle.complex_incidence.proofs.wide.Reads as wide-reads
+use Rattle.lists.proofs.wide.Reads as wide-reads
 
 returns : tie.Need-returns
 returns c = record { yes = λ e. let z : _≡_ {A = ℕ} 0 1 = cc in absurd (omega arith); no = λ e h. absurd (omega (arith, c .if1 .taken)) }

@@ -16,8 +16,8 @@ use Rattle.complex_incidence.proofs.list_index.Lts as lts
 use Rattle.complex_cells.proofs.cells.Reads as cells-reads
 use Rattle.complex_incidence.proofs.by_vertex.Reads as by-vertex-reads
 use Rattle.complex_incidence.proofs.hand_index.Reads as hand-index-reads
-use Rattle.complex_incidence.proofs.largest.Reads as largest-reads
-use Rattle.complex_incidence.proofs.wide.Reads as wide-reads
+use Rattle.lists.proofs.largest.Reads as largest-reads
+use Rattle.lists.proofs.wide.Reads as wide-reads
 
 cells-requires : tie.Need-cells-requires
 cells-requires c κs = let s = c .before .before .before .before .before .before .before .before .before .before .before in making (s .args .d) (s .args .words .now) (s .args .keys .now) (s .args .rows .now) (s .args .spare .now) (s .args .counts .now) (s .pre)

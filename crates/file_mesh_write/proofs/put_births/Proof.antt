@@ -1,4 +1,5 @@
 -- `file_mesh_write::put_births` meets its contract. The invariant: the records of the births before b, whose pairs end at p, are written. Assumes nothing.
+use Rattle.refusal.specs.Limits.{mostRefinement}
 use Rattle.file_mesh_write.proofs.Loops.{BirthsAt, births-begin, births-same, births-count, births-done, three-left, few, pairs-in, own-long, birth-room, birth-tail, birth-more}
 use Rattle.file_mesh_write.proofs.Fit.{upto}
 use lib.ListN.{length, take, drop, getD}
@@ -36,7 +37,7 @@ module _ (l : tie.At-loop Inv-loop μ-loop) where
     left : l .loop .b + 3 ≤ length (l .before .before .before .before .args .births .now)
     left = three-left (l .before .before .before .before .args .births .now) (l .before .before .before .before .args .pairs .now) (l .before .before .before .before .args .to .now) (l .loop .to) (l .loop .at) (l .loop .p) (l .loop .b) (l .before .before .before .before .pre .1) (l .loop .inv) h
 
-    low : c3 ≤ 64
+    low : c3 ≤ mostRefinement
     low = few (l .before .before .before .before .args .births .now) (l .before .before .before .before .args .pairs .now) (l .before .before .before .before .args .to .now) (l .loop .to) (l .loop .at) (l .loop .p) (l .loop .b) (l .before .before .before .before .pre .1) (l .loop .inv) h
 
     inside : l .loop .p + c3 + c3 ≤ length (l .before .before .before .before .args .pairs .now)

@@ -5,13 +5,15 @@ use native.Mathlib.Nat.{mul-le-mul, div-add-mod'}
 use Prim.Native.Nat.{ℕ, _+_, _*_, _/_, _≤_}
 use native.Mathlib.Omega.{arith}
 use borrow.Author.Needs.{needs}
+use Rattle.refusal.specs.Limits.{mostDimension, manyCorners}
 use Rattle.file_mesh_write.proofs.size.Statement.{statement}
 use Rattle.file_mesh_write.proofs.size.Tie as tie
 use Rattle.file_mesh_write.proofs.size.Reads as reads
 use Rattle.file_mesh_write.proofs.size.Lts as lts
 
-cells-few : (words d : ℕ) → words < 65536 → d ≤ 3 → words / (d + 1) * (10 + 4 * d) ≤ 65536 * 22
-cells-few words d h k = mul-le-mul {n₁ = words / (d + 1)} {m₁ = 10 + 4 * d} {n₂ = 65536} {m₂ = 22} (omega (arith, div-le-self words (d + 1))) (omega arith)
+cells-few : (words d : ℕ) → words < manyCorners → d ≤ mostDimension → words / (d + 1) * (10 + 4 * d) ≤ manyCorners * (10 + 4 * mostDimension)
+cells-few words d h k =
+    mul-le-mul {n₁ = words / (d + 1)} {m₁ = 10 + 4 * d} {n₂ = manyCorners} {m₂ = 10 + 4 * mostDimension} (omega (arith, div-le-self words (d + 1))) (omega arith)
 
 add-cells : tie.Need-add-cells
 add-cells c = search needs

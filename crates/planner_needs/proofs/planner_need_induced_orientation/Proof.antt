@@ -1,7 +1,8 @@
 -- `planner_needs::planner_need_induced_orientation` meets its contract: the lengths are written down one by one. Assumes nothing.
 use borrow.Author.Needs.{needs}
 use native.Mathlib.Omega.{arith}
-use Rattle.planner_needs.proofs.Laws.{key-most, induced-orientation-made}
+use Rattle.needs.proofs.Laws.{key-most}
+use Rattle.planner_needs.proofs.Laws.{induced-orientation-made}
 use Rattle.planner_needs.proofs.planner_need_induced_orientation.Statement.{statement}
 use Rattle.planner_needs.proofs.planner_need_induced_orientation.Tie as tie
 

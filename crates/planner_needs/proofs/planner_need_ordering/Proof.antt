@@ -1,7 +1,8 @@
 -- `planner_needs::planner_need_ordering` meets its contract: the lengths are written down one by one. Assumes nothing.
 use borrow.Author.Needs.{needs}
 use native.Mathlib.Omega.{arith}
-use Rattle.planner_needs.proofs.Laws.{key-most, ordering-made}
+use Rattle.needs.proofs.Laws.{key-most}
+use Rattle.planner_needs.proofs.Laws.{ordering-made}
 use Rattle.planner_needs.proofs.planner_need_ordering.Statement.{statement}
 use Rattle.planner_needs.proofs.planner_need_ordering.Tie as tie
 

@@ -8,7 +8,8 @@ use lib.ListN.{length}
 use lib.Seq.{length-take-le, length-front}
 use borrow.Author.Needs.{needs}
 use borrow.Author.Tests.{not-true, not-false}
-use Rattle.refusal.specs.Limits.{mostDimension, mostCells}
+use native.Mathlib.Omega.{arith}
+use Rattle.refusal.specs.Limits.{mostDimension, mostCells, manyCorners}
 use Rattle.refusal.specs.declared.Answer.the-variants as Answer
 use Rattle.complex.specs.Check.{answerOf}
 use Rattle.complex.proofs.Fine.{fine-passed}
@@ -24,10 +25,10 @@ use Rattle.refine.proofs.room.need.Reads as need-reads
 use Rattle.refine.proofs.room.enough.Reads as enough-reads
 use Rattle.refine.proofs.cleared.Reads as cleared-reads
 
-asks : (d : ℕ) (ws : List ℕ) → answerOf d ws ≡ Answer.Fine → (d ≤ mostDimension) × (length ws / suc d ≤ mostCells) × (length ws < 65536)
+asks : (d : ℕ) (ws : List ℕ) → answerOf d ws ≡ Answer.Fine → (d ≤ mostDimension) × (length ws / suc d ≤ mostCells) × (length ws < manyCorners)
 asks d ws e =
     let p = fine-passed d ws e in
-    (p .small, subst (λ (x : ℕ). length ws / x ≤ mostCells) (add-one d) (p .few), few-corners d ws p)
+    (p .small, subst (λ (x : ℕ). length ws / x ≤ mostCells) (add-one d) (p .few), omega (arith, few-corners d ws p))
 
 check-cells-requires : tie.Need-check-cells-requires
 check-cells-requires c κs = search needs

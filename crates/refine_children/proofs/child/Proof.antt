@@ -14,8 +14,6 @@ use Rattle.refine_children.proofs.child.Statement.{statement}
 use Rattle.refine_children.proofs.child.Tie as tie
 use Rattle.refine_children.proofs.child.Reads as reads
 use Rattle.refine_children.proofs.child.Lts as lts
-use Rattle.refine_jacobian.proofs.float.Reads as float-reads
-use Rattle.refine_jacobian.proofs.whole.Reads as whole-reads
 
 add-n : tie.Need-add-n
 add-n c = search needs
@@ -107,11 +105,10 @@ part-home-start c = search needs
 part-home-end : tie.Need-part-home-end
 part-home-end c = search needs
 
-whole-requires : tie.Need-whole-requires
-whole-requires c κs = (c .before .before .before .before .before .before .before .before .before .before .before .before .pre .0, parts-seated (c .before .before .before .before .before .before .before .before .before .before .before .before .args .d) (c .before .before .before .before .before .before .before .before .before .before .before .before .args .size) (c .before .before .before .before .before .before .before .before .before .before .before .before .args .x) (c .before .before .before .before .before .before .before .before .before .before .before .before .args .pattern .now) (c .before .before .before .before .before .before .before .before .before .before .before .before .args .words .now) (c .before .before .before .before .before .before .before .before .before .before .before .before .args .sorted .now) (c .before .before .before .before .before .before .before .before .before .before .before .before .args .along .now) (c .before .before .before .before .before .before .before .before .before .before .before .before .args .cells .now) (c .before .before .before .before .before .before .before .before .before .before .before .before .pre .2))
-
-float-requires : tie.Need-float-requires
-float-requires c κs = (c .before .before .before .before .before .before .before .before .before .before .before .before .before .before .before .pre .1, parts-seated (c .before .before .before .before .before .before .before .before .before .before .before .before .before .before .before .args .d) (c .before .before .before .before .before .before .before .before .before .before .before .before .before .before .before .args .size) (c .before .before .before .before .before .before .before .before .before .before .before .before .before .before .before .args .x) (c .before .before .before .before .before .before .before .before .before .before .before .before .before .before .before .args .pattern .now) (c .before .before .before .before .before .before .before .before .before .before .before .before .before .before .before .args .words .now) (c .before .before .before .before .before .before .before .before .before .before .before .before .before .before .before .args .sorted .now) (c .before .before .before .before .before .before .before .before .before .before .before .before .before .before .before .args .along .now) (c .before .before .before .before .before .before .before .before .before .before .before .before .before .before .before .args .cells .now) (c .before .before .before .before .before .before .before .before .before .before .before .before .before .before .before .pre .2))
+both-requires : tie.Need-both-requires
+both-requires c κs =
+    let s = c .before .before .before .before .before .before .before .before .before .before .before .before .before in
+    (s .pre .0, s .pre .1, parts-seated (s .args .d) (s .args .size) (s .args .x) (s .args .pattern .now) (s .args .words .now) (s .args .sorted .now) (s .args .along .now) (s .args .cells .now) (s .pre .2))
 
 same-length : tie.Need-same-length
 same-length c = search needs
@@ -121,12 +118,12 @@ same-length-2 c = search needs
 
 returns : tie.Need-returns
 returns c =
-    let s = c .before .before .before .before .before .before .before .before .before .before .before .before .before .before .before .before .before .before in
+    let s = c .before .before .before .before .before .before .before .before .before .before .before .before .before .before .before .before .before in
     let d = s .args .d in
     let w : (List ℕ → List ℕ → List ℕ → List ℕ → List ℕ → List ℤ) = λ p n k h v. wholeOf d (weightOf p n k) h v in
     let f : (List ℕ → List ℕ → List ℕ → List ℕ → List ℕ → List Float) = λ p n k h v. floatOf d (s .args .r) (weightOf p n k) h v in (
-      c .before .before .before .before .before .whole .ensures ∙ at-parts d (s .args .size) (s .args .x) (s .args .pattern .now) (s .args .words .now) (s .args .sorted .now) (s .args .along .now) (s .args .cells .now) w,
-      c .before .before .float .ensures ∙ at-parts d (s .args .size) (s .args .x) (s .args .pattern .now) (s .args .words .now) (s .args .sorted .now) (s .args .along .now) (s .args .cells .now) f,
+      c .before .before .before .both .ensures .0 ∙ at-parts d (s .args .size) (s .args .x) (s .args .pattern .now) (s .args .words .now) (s .args .sorted .now) (s .args .along .now) (s .args .cells .now) w,
+      c .before .before .before .both .ensures .1 ∙ at-parts d (s .args .size) (s .args .x) (s .args .pattern .now) (s .args .words .now) (s .args .sorted .now) (s .args .along .now) (s .args .cells .now) f,
     )
 
 pub child-spec : {M : Type 1} → statement M
@@ -163,8 +160,7 @@ child-spec =
     sub-home
     part-home-start
     part-home-end
-    whole-requires
-    float-requires
+    both-requires
     same-length
     same-length-2
     returns)

@@ -7,6 +7,7 @@ use lib.ListN.{length, getD, take, drop, set, length-set}
 use borrow.Author.Needs.{needs}
 use lib.IntN.{ℤ}
 use lib.Ieee.{Float}
+use Rattle.refusal.specs.Limits.{squareMost}
 use Rattle.lists.proofs.Rows.{part-size}
 use Rattle.refine_children.specs.WorkFamily.{joined, wholeAt, floatAt, Family}
 use Rattle.refine_children.proofs.Laws.{joined-more, joined-kept, joined-full}
@@ -15,12 +16,11 @@ use Rattle.refine_children.proofs.jacobians.Tie as tie
 use Rattle.refine_children.proofs.jacobians.Reads as reads
 use Rattle.refine_children.proofs.jacobians.Lts as lts
 use Rattle.refine_children.proofs.child.Reads as child-reads
-use Rattle.refine_children.proofs.wide.Reads as wide-reads
 
 abbrev Inv-loop : tie.InvT-loop
 Inv-loop d r size m firsts pattern words sorted along cells wholes₀ floats₀ i₀ wholes floats i =
-    (i ≤ m) × (wholes ≡ joined i (λ k. wholeAt d size pattern words sorted along cells (getD firsts k 0)) ++ drop (i * 9) wholes₀)
-    × (floats ≡ joined i (λ k. floatAt d r size pattern words sorted along cells (getD firsts k 0)) ++ drop (i * 9) floats₀)
+    (i ≤ m) × (wholes ≡ joined i (λ k. wholeAt d size pattern words sorted along cells (getD firsts k 0)) ++ drop (i * squareMost) wholes₀)
+    × (floats ≡ joined i (λ k. floatAt d r size pattern words sorted along cells (getD firsts k 0)) ++ drop (i * squareMost) floats₀)
     × (length wholes ≡ length wholes₀) × (length floats ≡ length floats₀)
 
 abbrev μ-loop : tie.MeasureT-loop
@@ -74,10 +74,10 @@ child-requires c κs =
     let s = c .before .before .before .before .before .before .before .before .before .before .before .before .before in
     let i = l .loop .i in
     let h : i < s .args .m = omega (arith, c .before .before .before .before .loop-test .taken) in
-    let a : i * 9 + 9 ≤ length (l .loop .wholes) = omega (arith, s .pre .0) in
-    let b : i * 9 + 9 ≤ length (l .loop .floats) = omega (arith, s .pre .1) in (
-      part-size (l .loop .wholes) (i * 9) 9 a,
-      part-size (l .loop .floats) (i * 9) 9 b,
+    let a : i * squareMost + squareMost ≤ length (l .loop .wholes) = omega (arith, s .pre .0) in
+    let b : i * squareMost + squareMost ≤ length (l .loop .floats) = omega (arith, s .pre .1) in (
+      part-size (l .loop .wholes) (i * squareMost) squareMost a,
+      part-size (l .loop .floats) (i * squareMost) squareMost b,
       subst (λ (x : ℕ). Family (s .args .d) (s .args .size) (s .args .pattern .now) (s .args .words .now) (s .args .sorted .now) (s .args .along .now) (s .args .cells .now) x) (sym (c .before .before .wide .ensures)) (s .pre .2 .each i h),
     )
 
@@ -95,16 +95,16 @@ loop-again c =
     let e = c .before .before .before .before .before .before .wide .ensures in
     let f : ℕ → List ℤ = λ k. wholeAt (s .args .d) (s .args .size) (s .args .pattern .now) (s .args .words .now) (s .args .sorted .now) (s .args .along .now) (s .args .cells .now) (getD (s .args .firsts .now) k 0) in
     let g : ℕ → List Float = λ k. floatAt (s .args .d) (s .args .r) (s .args .size) (s .args .pattern .now) (s .args .words .now) (s .args .sorted .now) (s .args .along .now) (s .args .cells .now) (getD (s .args .firsts .now) k 0) in
-    let a = joined-more 9 f (λ k. refl) (s .args .wholes .now) i (l .loop .wholes) (c .before .before .before .child .last .1 .1 .1 .1 .1 .1 .1 .1 .1 .0) (l .loop .inv .1)
+    let a = joined-more squareMost f (λ k. refl) (s .args .wholes .now) i (l .loop .wholes) (c .before .before .before .child .last .1 .1 .1 .1 .1 .1 .1 .1 .1 .0) (l .loop .inv .1)
     (c .before .before .before .child .ensures .0 ∙ ap (λ (x : ℕ). wholeAt (s .args .d) (s .args .size) (s .args .pattern .now) (s .args .words .now) (s .args .sorted .now) (s .args .along .now) (s .args .cells .now) x) e) in
-    let b = joined-more 9 g (λ k. refl) (s .args .floats .now) i (l .loop .floats) (c .before .before .before .child .last .1 .1 .1 .1 .1 .1 .1 .1 .1 .1 .0) (l .loop .inv .2)
+    let b = joined-more squareMost g (λ k. refl) (s .args .floats .now) i (l .loop .floats) (c .before .before .before .child .last .1 .1 .1 .1 .1 .1 .1 .1 .1 .1 .0) (l .loop .inv .2)
     (c .before .before .before .child .ensures .1 ∙ ap (λ (x : ℕ). floatAt (s .args .d) (s .args .r) (s .args .size) (s .args .pattern .now) (s .args .words .now) (s .args .sorted .now) (s .args .along .now) (s .args .cells .now) x) e) in
     let h : i + 1 ≤ s .args .m = omega (arith, c .before .before .before .before .before .before .before .before .loop-test .taken) in (
       h,
       a,
       b,
-      joined-kept 9 f (λ k. refl) (s .args .wholes .now) (i + 1) _ a (omega (arith, s .pre .0)),
-      joined-kept 9 g (λ k. refl) (s .args .floats .now) (i + 1) _ b (omega (arith, s .pre .1)),
+      joined-kept squareMost f (λ k. refl) (s .args .wholes .now) (i + 1) _ a (omega (arith, s .pre .0)),
+      joined-kept squareMost g (λ k. refl) (s .args .floats .now) (i + 1) _ b (omega (arith, s .pre .1)),
     )
 
 same-length : tie.Need-same-length Inv-loop μ-loop
@@ -119,8 +119,8 @@ returns c =
     let s = c .before .before .before .before .before .before .before .before .before in
     let f : ℕ → List ℤ = λ k. wholeAt (s .args .d) (s .args .size) (s .args .pattern .now) (s .args .words .now) (s .args .sorted .now) (s .args .along .now) (s .args .cells .now) (getD (s .args .firsts .now) k 0) in
     let g : ℕ → List Float = λ k. floatAt (s .args .d) (s .args .r) (s .args .size) (s .args .pattern .now) (s .args .words .now) (s .args .sorted .now) (s .args .along .now) (s .args .cells .now) (getD (s .args .firsts .now) k 0) in (
-      joined-full 9 f (λ k. refl) (s .args .wholes .now) (s .args .m) (l .loop .i) (l .loop .wholes) (l .loop .inv .1) (omega arith) (s .pre .0),
-      joined-full 9 g (λ k. refl) (s .args .floats .now) (s .args .m) (l .loop .i) (l .loop .floats) (l .loop .inv .2) (omega arith) (s .pre .1),
+      joined-full squareMost f (λ k. refl) (s .args .wholes .now) (s .args .m) (l .loop .i) (l .loop .wholes) (l .loop .inv .1) (omega arith) (s .pre .0),
+      joined-full squareMost g (λ k. refl) (s .args .floats .now) (s .args .m) (l .loop .i) (l .loop .floats) (l .loop .inv .2) (omega arith) (s .pre .1),
     )
 
 pub jacobians-spec : {M : Type 1} → statement M

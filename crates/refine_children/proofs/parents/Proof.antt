@@ -12,7 +12,6 @@ use Rattle.refine_children.proofs.parents.Statement.{statement}
 use Rattle.refine_children.proofs.parents.Tie as tie
 use Rattle.refine_children.proofs.parents.Reads as reads
 use Rattle.refine_children.proofs.parents.Lts as lts
-use Rattle.refine_children.proofs.wide.Reads as wide-reads
 
 abbrev Inv-loop : tie.InvT-loop
 Inv-loop size firsts to₀ i₀ to i = (i ≤ length to₀) × (to ≡ tab i (λ k. getD firsts k 0 / size) ++ drop i to₀) × (length to ≡ length to₀)

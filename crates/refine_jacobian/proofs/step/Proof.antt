@@ -1,101 +1,102 @@
--- `refine_jacobian::step` meets its contract: column and row are below d.
-use mathlib.Core.Path.{_≡_, refl, sym, ap, _∙_}
-use mathlib.Core.List.{List, [], _∷_, _++_, map}
-use Prim.Native.Nat.{ℕ, zero, suc, _+_, _*_, _-_, _/_, _%_, _≤_, _<_}
+-- `refine_jacobian::step` meets its contract: column and row are below d, and so the places are among the corners' weights.
+use mathlib.Core.Path.{refl}
+use Prim.Native.Nat.{ℕ, suc, _+_, _/_, _%_}
 use native.Mathlib.Omega.{arith}
-use lib.ListN.{length, getD, take, drop, set, length-set}
 use native.Mathlib.Numerals.{add-one}
-use Rattle.refine_jacobian.specs.WorkWeights.{placeOf, weightOf}
-use Rattle.refine_jacobian.proofs.Laws.{some-column, column-in, row-in, corners-square, weight-small}
+use Rattle.refine_jacobian.proofs.Laws.{some-column, column-in, row-in, place-in, place-low, place-small, place-is}
 use borrow.Author.Needs.{needs}
 use Rattle.refine_jacobian.proofs.step.Statement.{statement}
 use Rattle.refine_jacobian.proofs.step.Tie as tie
-use Rattle.refine_jacobian.proofs.step.Reads as reads
-use Rattle.refine_jacobian.proofs.step.Lts as lts
-use Rattle.refine_jacobian.proofs.weight.Reads as weight-reads
 
-rem-v : tie.Need-rem-v
-rem-v c = let s = c .before .before .before .before .before in some-column (s .args .d) (s .args .e) (s .pre .0)
+add-n : tie.Need-add-n
+add-n c = search needs
 
-add-v : tie.Need-add-v
-add-v c = let s = c .before .before .before .before .before in let h = row-in (s .args .d) (s .args .e) (s .pre .0) in omega (arith, s .pre .1 .dim)
+rem-slot : tie.Need-rem-slot
+rem-slot c = some-column (c .args .d) (c .args .e) (c .pre .0)
 
-mul-v : tie.Need-mul-v
-mul-v c = let s = c .before .before .before .before .before in let h = row-in (s .args .d) (s .args .e) (s .pre .0) in omega (arith, s .pre .1 .dim)
+add-slot : tie.Need-add-slot
+add-slot c = let s = c in let h = row-in (s .args .d) (s .args .e) (s .pre .0) in omega (arith, s .pre .1 .dim)
 
-shared-slice-read-v : tie.Need-shared-slice-read-v
-shared-slice-read-v c = let s = c .before .before .before .before .before .before in let h = row-in (s .args .d) (s .args .e) (s .pre .0) in omega (arith, s .pre .1 .parent-long)
+mul-slot : tie.Need-mul-slot
+mul-slot c = let s = c in let h = row-in (s .args .d) (s .args .e) (s .pre .0) in omega (arith, s .pre .1 .dim)
 
-div-x : tie.Need-div-x
-div-x c = let s = c .before .before .before .before .before .before in some-column (s .args .d) (s .args .e) (s .pre .0)
+array-read-slot : tie.Need-array-read-slot
+array-read-slot c = let s = c in let h = row-in (s .args .d) (s .args .e) (s .pre .0) in omega (arith, s .pre .1 .dim)
 
-add-x : tie.Need-add-x
-add-x c = let s = c .before .before .before .before .before .before in let h = column-in (s .args .d) (s .args .e) (s .pre .0) in omega (arith, s .pre .1 .dim)
+div-seat : tie.Need-div-seat
+div-seat c = some-column (c .args .d) (c .args .e) (c .pre .0)
 
-mul-x : tie.Need-mul-x
-mul-x c = let s = c .before .before .before .before .before .before in let h = column-in (s .args .d) (s .args .e) (s .pre .0) in omega (arith, s .pre .1 .dim)
+add-seat : tie.Need-add-seat
+add-seat c = let s = c in let h = column-in (s .args .d) (s .args .e) (s .pre .0) in omega (arith, s .pre .1 .dim)
 
-shared-slice-read-x : tie.Need-shared-slice-read-x
-shared-slice-read-x c = let s = c .before .before .before .before .before .before .before in let h = column-in (s .args .d) (s .args .e) (s .pre .0) in omega (arith, s .pre .1 .cell-long)
+mul-seat : tie.Need-mul-seat
+mul-seat c = let s = c in let h = column-in (s .args .d) (s .args .e) (s .pre .0) in omega (arith, s .pre .1 .dim)
 
-weight-requires : tie.Need-weight-requires
-weight-requires c κs =
-    let s = c .before .before .before .before .before .before .before in
-    let p = s .pre .1 in
-    let d = s .args .d in
-    let e = s .args .e in
-    let hc = column-in d e (s .pre .0) in
-    let hr = row-in d e (s .pre .0) in (
-      corners-square d (s .args .corners .now) (s .args .names .now) (s .args .word .now) (s .args .parent .now) (s .args .cell .now) p,
-      omega (arith, p .named (e / d + 1) (omega arith), p .names-long),
-      omega (arith, p .worded (e % d + 1) (omega arith), p .word-long),
-    )
+array-read-seat : tie.Need-array-read-seat
+array-read-seat c = let s = c in let h = column-in (s .args .d) (s .args .e) (s .pre .0) in omega (arith, s .pre .1 .dim)
 
-shared-slice-read-weight : tie.Need-shared-slice-read-weight
-shared-slice-read-weight c = search needs
+array-read-first : tie.Need-array-read-first
+array-read-first c = search needs
 
-weight-requires-2 : tie.Need-weight-requires-2
-weight-requires-2 c κs =
-    let s = c .before .before .before .before .before .before .before .before .before in
-    let p = s .pre .1 in
-    let d = s .args .d in
-    let e = s .args .e in
-    let hc = column-in d e (s .pre .0) in
-    let hr = row-in d e (s .pre .0) in (
-      corners-square d (s .args .corners .now) (s .args .names .now) (s .args .word .now) (s .args .parent .now) (s .args .cell .now) p,
-      omega (arith, p .named 0 (omega arith), p .names-long),
-      omega (arith, p .worded (e % d + 1) (omega arith), p .word-long),
-    )
+mul-t13 : tie.Need-mul-t13
+mul-t13 c = let s = c in let hr = row-in (s .args .d) (s .args .e) (s .pre .0) in let hc = column-in (s .args .d) (s .args .e) (s .pre .0) in omega (arith, place-low (s .args .d) (s .args .corners .now) (s .args .t4) (s .args .t5) (s .pre .1) (s .args .e / s .args .d + 1) (s .args .e % s .args .d + 1) (omega (arith, hc)) (omega (arith, hr)))
+
+add-t12 : tie.Need-add-t12
+add-t12 c = let s = c in let hr = row-in (s .args .d) (s .args .e) (s .pre .0) in let hc = column-in (s .args .d) (s .args .e) (s .pre .0) in omega (arith, place-low (s .args .d) (s .args .corners .now) (s .args .t4) (s .args .t5) (s .pre .1) (s .args .e / s .args .d + 1) (s .args .e % s .args .d + 1) (omega (arith, hc)) (omega (arith, hr)))
+
+mul-t14 : tie.Need-mul-t14
+mul-t14 c = let s = c in let hr = row-in (s .args .d) (s .args .e) (s .pre .0) in let hc = column-in (s .args .d) (s .args .e) (s .pre .0) in omega (arith, place-low (s .args .d) (s .args .corners .now) (s .args .t4) (s .args .t5) (s .pre .1) (s .args .e / s .args .d + 1) (s .args .e % s .args .d + 1) (omega (arith, hc)) (omega (arith, hr)))
+
+shared-slice-read-t23 : tie.Need-shared-slice-read-t23
+shared-slice-read-t23 c = let s = c .before in let hr = row-in (s .args .d) (s .args .e) (s .pre .0) in let hc = column-in (s .args .d) (s .args .e) (s .pre .0) in place-in (s .args .d) (s .args .corners .now) (s .args .t4) (s .args .t5) (s .pre .1) (s .args .e / s .args .d + 1) (s .args .e % s .args .d + 1) (omega (arith, hc)) (omega (arith, hr))
+
+mul-t17 : tie.Need-mul-t17
+mul-t17 c = let s = c .before in let hr = row-in (s .args .d) (s .args .e) (s .pre .0) in let hc = column-in (s .args .d) (s .args .e) (s .pre .0) in omega (arith, place-low (s .args .d) (s .args .corners .now) (s .args .t4) (s .args .t5) (s .pre .1) 0 (s .args .e % s .args .d + 1) (omega arith) (omega (arith, hr)))
+
+add-t24 : tie.Need-add-t24
+add-t24 c = let s = c .before in let hr = row-in (s .args .d) (s .args .e) (s .pre .0) in let hc = column-in (s .args .d) (s .args .e) (s .pre .0) in omega (arith, place-low (s .args .d) (s .args .corners .now) (s .args .t4) (s .args .t5) (s .pre .1) 0 (s .args .e % s .args .d + 1) (omega arith) (omega (arith, hr)))
+
+mul-t25 : tie.Need-mul-t25
+mul-t25 c = let s = c .before in let hr = row-in (s .args .d) (s .args .e) (s .pre .0) in let hc = column-in (s .args .d) (s .args .e) (s .pre .0) in omega (arith, place-low (s .args .d) (s .args .corners .now) (s .args .t4) (s .args .t5) (s .pre .1) 0 (s .args .e % s .args .d + 1) (omega arith) (omega (arith, hr)))
+
+shared-slice-read-t27 : tie.Need-shared-slice-read-t27
+shared-slice-read-t27 c = let s = c .before .before in let hr = row-in (s .args .d) (s .args .e) (s .pre .0) in let hc = column-in (s .args .d) (s .args .e) (s .pre .0) in place-in (s .args .d) (s .args .corners .now) (s .args .t4) (s .args .t5) (s .pre .1) 0 (s .args .e % s .args .d + 1) (omega arith) (omega (arith, hr))
 
 returns : tie.Need-returns
 returns c =
-    let s = c .before .before .before .before .before .before .before .before .before .before in
-    let p = s .pre .1 in
-    let d = s .args .d in
-    let e = s .args .e in
-    let hc = column-in d e (s .pre .0) in
-    let hr = row-in d e (s .pre .0) in
-    let W : ℕ → ℕ → ℕ = weightOf (s .args .corners .now) (s .args .names .now) (s .args .word .now) in
-    let small = weight-small d (s .args .corners .now) (s .args .names .now) (s .args .word .now) (s .args .parent .now) (s .args .cell .now) p in
-    let here : c .before .before .weight .result ≡ W (getD (s .args .cell .now) (suc (e / d)) 0) (getD (s .args .parent .now) (suc (e % d)) 0) =
-    c .before .before .weight .ensures ∙ ap (λ (j : ℕ). W (getD (s .args .cell .now) j 0) (getD (s .args .parent .now) (e % d + 1) 0)) (add-one (e / d)) ∙ ap (λ (l : ℕ). W (getD (s .args .cell .now) (suc (e / d)) 0) (getD (s .args .parent .now) l 0)) (add-one (e % d)) in
-    let start : c .weight2 .result ≡ W (getD (s .args .cell .now) 0 0) (getD (s .args .parent .now) (suc (e % d)) 0) =
-    c .weight2 .ensures ∙ ap (λ (l : ℕ). W (getD (s .args .cell .now) 0 0) (getD (s .args .parent .now) l 0)) (add-one (e % d)) in
-    (here, (start, (omega (arith, here, small (suc (e / d)) (suc (e % d)) (omega arith) (omega arith)), omega (arith, start, small 0 (suc (e % d)) (omega arith) (omega arith)))))
+    let s = c .before .before in
+    let hr = row-in (s .args .d) (s .args .e) (s .pre .0) in
+    let hc = column-in (s .args .d) (s .args .e) (s .pre .0) in (
+      place-is (s .args .d) (s .args .corners .now) (s .args .t4) (s .args .t5) (s .args .e / s .args .d + 1) (suc (s .args .e / s .args .d)) (s .args .e % s .args .d) (add-one (s .args .e / s .args .d)),
+      (
+        place-is (s .args .d) (s .args .corners .now) (s .args .t4) (s .args .t5) 0 0 (s .args .e % s .args .d) refl,
+        (
+          place-small (s .args .d) (s .args .corners .now) (s .args .t4) (s .args .t5) (s .pre .1) (s .args .e / s .args .d + 1) (s .args .e % s .args .d + 1) (omega (arith, hc)) (omega (arith, hr)),
+          place-small (s .args .d) (s .args .corners .now) (s .args .t4) (s .args .t5) (s .pre .1) 0 (s .args .e % s .args .d + 1) (omega arith) (omega (arith, hr)),
+        ),
+      ),
+    )
 
 pub step-spec : {M : Type 1} → statement M
 step-spec =
     tie.close
     (tie.spec
-    rem-v
-    add-v
-    mul-v
-    shared-slice-read-v
-    div-x
-    add-x
-    mul-x
-    shared-slice-read-x
-    weight-requires
-    shared-slice-read-weight
-    weight-requires-2
+    add-n
+    rem-slot
+    add-slot
+    mul-slot
+    array-read-slot
+    div-seat
+    add-seat
+    mul-seat
+    array-read-seat
+    array-read-first
+    mul-t13
+    add-t12
+    mul-t14
+    shared-slice-read-t23
+    mul-t17
+    add-t24
+    mul-t25
+    shared-slice-read-t27
     returns)

@@ -13,7 +13,6 @@ use Rattle.refine_results.proofs.finish.Statement.{statement}
 use Rattle.refine_results.proofs.finish.Tie as tie
 use Rattle.refine_results.proofs.finish.Reads as reads
 use Rattle.refine_results.proofs.finish.Lts as lts
-use Rattle.refine_children.proofs.colex.Reads as colex-reads
 use Rattle.multiindex.proofs.cartesian.count.Reads as count-reads
 use Rattle.refine_results.proofs.fits.Reads as fits-reads
 use Rattle.refine_results.proofs.wide.Reads as wide-reads
@@ -26,20 +25,20 @@ wide-requires c κs = search needs
 count-requires : tie.Need-count-requires
 count-requires c κs = let s = c .before .before .before .before .before .before .before .before .before .before .before .before .before .before .before .before .before .before in (s .pre .refining .dim, omega (arith, c .wide .ensures, s .pre .refining .most))
 
-add-colex : tie.Need-add-colex
-add-colex c = search needs
+add-ordered : tie.Need-add-ordered
+add-ordered c = search needs
 
-mul-colex : tie.Need-mul-colex
-mul-colex c =
+mul-ordered : tie.Need-mul-ordered
+mul-ordered c =
     let s = c .before .before .before .before .before .before .before .before .before .before .before .before .before .before .before .before .before .before .before in
     let sz : c .count .result ≡ s .args .r ^ s .args .d = c .count .ensures ∙ ap (λ (x : ℕ). x ^ s .args .d) (c .before .wide .ensures) in
     record { fits = omega (arith, s .pre .few-cells, ap (λ (x : ℕ). s .args .m * x) sz) }
 
-colex-requires : tie.Need-colex-requires
-colex-requires c κs =
+ordered-requires : tie.Need-ordered-requires
+ordered-requires c κs =
     let s = c .before .before .before .before .before .before .before .before .before .before .before .before .before .before .before .before .before .before .before .before .before .before .before in
     let sz : c .before .before .before .before .count .result ≡ s .args .r ^ s .args .d = c .before .before .before .before .count .ensures ∙ ap (λ (x : ℕ). x ^ s .args .d) (c .before .before .before .before .before .wide .ensures) in
-    arranging (s .args .d) (s .args .r) (s .args .n) (s .args .m) (s .args .born) (s .args .coarse .now) (s .args .along .now) (s .args .pattern .now) (s .args .keys .now) (s .args .rows .now) (s .args .spare .now) (s .args .names .now) (s .args .sorted .now) (s .args .firsts .now) (s .args .buckets .now) (s .pre) (s .args .d + 1) (add-one (s .args .d)) (c .before .before .before .before .count .result) sz
+    (s .pre .few-vertices, arranging (s .args .d) (s .args .r) (s .args .n) (s .args .m) (s .args .born) (s .args .coarse .now) (s .args .along .now) (s .args .pattern .now) (s .args .keys .now) (s .args .rows .now) (s .args .spare .now) (s .args .names .now) (s .args .sorted .now) (s .args .firsts .now) (s .args .buckets .now) (s .pre) (s .args .d + 1) (add-one (s .args .d)) (c .before .before .before .before .count .result) sz)
 
 wide-requires-2 : tie.Need-wide-requires-2
 wide-requires-2 c κs = search needs
@@ -48,8 +47,8 @@ fits-requires : tie.Need-fits-requires
 fits-requires c κs =
     let s = c .before .before .before .before .before .before .before .before .before .before .before .before .before .before .before .before .before .before .before .before .before .before .before .before .before .before .before .before .before .before .before .before .before in
     let sz : c .before .before .before .before .before .before .before .before .before .before .before .before .before .before .count .result ≡ s .args .r ^ s .args .d = c .before .before .before .before .before .before .before .before .before .before .before .before .before .before .count .ensures ∙ ap (λ (x : ℕ). x ^ s .args .d) (c .before .before .before .before .before .before .before .before .before .before .before .before .before .before .before .wide .ensures) in
-    let a = arranged (s .args .d) (s .args .m) (s .args .r) (s .args .d + 1) (c .before .before .before .before .before .before .before .before .before .before .before .before .before .before .count .result) (s .args .names .now) (c .before .before .before .before .before .before .before .before .before .colex .last .1 .1 .1 .1 .0) (c .before .before .before .before .before .before .before .before .before .colex .last .1 .1 .1 .1 .1 .1 .0) (c .before .before .before .before .before .before .before .before .before .colex .result) (add-one (s .args .d)) sz (c .before .before .before .before .before .before .before .before .before .colex .ensures) in
-    (s .pre .refining .dim, omega (arith, few (s .args .d) (s .args .r) (s .args .n) (s .args .m) (s .args .born) (s .args .coarse .now) (s .args .along .now) (s .args .pattern .now) (s .args .keys .now) (s .args .rows .now) (s .args .spare .now) (s .args .names .now) (s .args .sorted .now) (s .args .firsts .now) (s .args .buckets .now) (s .pre) (c .before .before .before .before .before .before .before .before .before .colex .result) (c .before .before .before .before .before .before .before .before .before .colex .last .1 .1 .1 .1 .0) (c .before .before .before .before .before .before .before .before .before .colex .last .1 .1 .1 .1 .1 .1 .0) a (c .before .before .before .before .before .before .before .before .before .colex .kept .1 .1 .1 .1 .1 .1 .0), s .pre .few-cells), omega (arith, c .wide2 .ensures, s .pre .few-vertices))
+    let a = arranged (s .args .d) (s .args .m) (s .args .r) (s .args .d + 1) (c .before .before .before .before .before .before .before .before .before .before .before .before .before .before .count .result) (s .args .names .now) (c .before .before .before .before .before .before .before .before .before .ordered .last .1 .1 .1 .1 .1 .0) (c .before .before .before .before .before .before .before .before .before .ordered .last .1 .1 .1 .1 .1 .1 .1 .0) (c .before .before .before .before .before .before .before .before .before .ordered .result) (add-one (s .args .d)) sz (c .before .before .before .before .before .before .before .before .before .ordered .ensures) in
+    (s .pre .refining .dim, omega (arith, few (s .args .d) (s .args .r) (s .args .n) (s .args .m) (s .args .born) (s .args .coarse .now) (s .args .along .now) (s .args .pattern .now) (s .args .keys .now) (s .args .rows .now) (s .args .spare .now) (s .args .names .now) (s .args .sorted .now) (s .args .firsts .now) (s .args .buckets .now) (s .pre) (c .before .before .before .before .before .before .before .before .before .ordered .result) (c .before .before .before .before .before .before .before .before .before .ordered .last .1 .1 .1 .1 .1 .0) (c .before .before .before .before .before .before .before .before .before .ordered .last .1 .1 .1 .1 .1 .1 .1 .0) a (c .before .before .before .before .before .before .before .before .before .ordered .kept .1 .1 .1 .1 .1 .1 .1 .0), s .pre .few-cells), omega (arith, c .wide2 .ensures, s .pre .few-vertices))
 
 same-length : tie.Need-same-length
 same-length c = search needs
@@ -67,32 +66,32 @@ returns : tie.Need-returns
 returns c =
     let s = c .before .before .before .before .before .before .before .before .before .before .before .before .before .before .before .before .before .before .before .before .before .before .before .before .before .before .before .before .before .before .before .before .before .before .before in
     let sz : c .before .before .before .before .before .before .before .before .before .before .before .before .before .before .before .before .count .result ≡ s .args .r ^ s .args .d = c .before .before .before .before .before .before .before .before .before .before .before .before .before .before .before .before .count .ensures ∙ ap (λ (x : ℕ). x ^ s .args .d) (c .before .before .before .before .before .before .before .before .before .before .before .before .before .before .before .before .before .wide .ensures) in
-    let a = arranged (s .args .d) (s .args .m) (s .args .r) (s .args .d + 1) (c .before .before .before .before .before .before .before .before .before .before .before .before .before .before .before .before .count .result) (s .args .names .now) (c .before .before .before .before .before .before .before .before .before .before .before .colex .last .1 .1 .1 .1 .0) (c .before .before .before .before .before .before .before .before .before .before .before .colex .last .1 .1 .1 .1 .1 .1 .0) (c .before .before .before .before .before .before .before .before .before .before .before .colex .result) (add-one (s .args .d)) sz (c .before .before .before .before .before .before .before .before .before .before .before .colex .ensures) in
-    let t = subst (λ (x : ℕ). Fits (s .args .d) (c .before .before .before .before .before .before .before .before .before .before .before .colex .result) x (lengthsOf (s .args .out-cells .now) (s .args .out-words .now) (s .args .parents .now) (s .args .jacobians .now) (s .args .wholes .now) (s .args .birth-vertices .now) (s .args .birth-weights .now) (s .args .birth-shares .now)) (c .before .fits2 .result)) (c .before .before .wide2 .ensures) (c .before .fits2 .ensures) in
-    handed-short (s .args .d) (s .args .r) (s .args .n) (s .args .m) (s .args .born) (s .args .coarse .now) (s .args .along .now) (s .args .pattern .now) (s .args .keys .now) (s .args .rows .now) (s .args .spare .now) (s .args .names .now) (s .args .sorted .now) (s .args .firsts .now) (s .args .buckets .now) (s .pre) (c .before .before .before .before .before .before .before .before .before .before .before .colex .result) (c .before .before .before .before .before .before .before .before .before .before .before .colex .last .1 .1 .1 .1 .0) (c .before .before .before .before .before .before .before .before .before .before .before .colex .last .1 .1 .1 .1 .1 .1 .0) a (c .before .before .before .before .before .before .before .before .before .before .before .colex .kept .1 .1 .1 .1 .1 .1 .0) (s .args .out-cells .now) (s .args .out-words .now) (s .args .parents .now) (s .args .jacobians .now) (s .args .wholes .now) (s .args .birth-vertices .now) (s .args .birth-weights .now) (s .args .birth-shares .now) (c .before .fits2 .result) (not-true _ (c .if1 .taken)) t
+    let a = arranged (s .args .d) (s .args .m) (s .args .r) (s .args .d + 1) (c .before .before .before .before .before .before .before .before .before .before .before .before .before .before .before .before .count .result) (s .args .names .now) (c .before .before .before .before .before .before .before .before .before .before .before .ordered .last .1 .1 .1 .1 .1 .0) (c .before .before .before .before .before .before .before .before .before .before .before .ordered .last .1 .1 .1 .1 .1 .1 .1 .0) (c .before .before .before .before .before .before .before .before .before .before .before .ordered .result) (add-one (s .args .d)) sz (c .before .before .before .before .before .before .before .before .before .before .before .ordered .ensures) in
+    let t = subst (λ (x : ℕ). Fits (s .args .d) (c .before .before .before .before .before .before .before .before .before .before .before .ordered .result) x (lengthsOf (s .args .out-cells .now) (s .args .out-words .now) (s .args .parents .now) (s .args .jacobians .now) (s .args .wholes .now) (s .args .birth-vertices .now) (s .args .birth-weights .now) (s .args .birth-shares .now)) (c .before .fits2 .result)) (c .before .before .wide2 .ensures) (c .before .fits2 .ensures) in
+    handed-short (s .args .d) (s .args .r) (s .args .n) (s .args .m) (s .args .born) (s .args .coarse .now) (s .args .along .now) (s .args .pattern .now) (s .args .keys .now) (s .args .rows .now) (s .args .spare .now) (s .args .names .now) (s .args .sorted .now) (s .args .firsts .now) (s .args .buckets .now) (s .pre) (c .before .before .before .before .before .before .before .before .before .before .before .ordered .result) (c .before .before .before .before .before .before .before .before .before .before .before .ordered .last .1 .1 .1 .1 .1 .0) (c .before .before .before .before .before .before .before .before .before .before .before .ordered .last .1 .1 .1 .1 .1 .1 .1 .0) a (c .before .before .before .before .before .before .before .before .before .before .before .ordered .kept .1 .1 .1 .1 .1 .1 .1 .0) (s .args .out-cells .now) (s .args .out-words .now) (s .args .parents .now) (s .args .jacobians .now) (s .args .wholes .now) (s .args .birth-vertices .now) (s .args .birth-weights .now) (s .args .birth-shares .now) (c .before .fits2 .result) (not-true _ (c .if1 .taken)) t
 
 write-children-requires : tie.Need-write-children-requires
 write-children-requires c κs =
     let s = c .before .before .before .before .before .before .before .before .before .before .before .before .before .before .before .before .before .before .before .before .before .before .before .before .before .before .before .before .before .before .before .before .before .before .before .before .before .before .before .before .before .before in
     let sz : c .before .before .before .before .before .before .before .before .before .before .before .before .before .before .before .before .before .before .before .before .before .before .before .count .result ≡ s .args .r ^ s .args .d = c .before .before .before .before .before .before .before .before .before .before .before .before .before .before .before .before .before .before .before .before .before .before .before .count .ensures ∙ ap (λ (x : ℕ). x ^ s .args .d) (c .before .before .before .before .before .before .before .before .before .before .before .before .before .before .before .before .before .before .before .before .before .before .before .before .wide .ensures) in
-    let a = arranged (s .args .d) (s .args .m) (s .args .r) (s .args .d + 1) (c .before .before .before .before .before .before .before .before .before .before .before .before .before .before .before .before .before .before .before .before .before .before .before .count .result) (s .args .names .now) (c .before .before .before .before .before .before .before .before .before .before .before .before .before .before .before .before .before .before .colex .last .1 .1 .1 .1 .0) (c .before .before .before .before .before .before .before .before .before .before .before .before .before .before .before .before .before .before .colex .last .1 .1 .1 .1 .1 .1 .0) (c .before .before .before .before .before .before .before .before .before .before .before .before .before .before .before .before .before .before .colex .result) (add-one (s .args .d)) sz (c .before .before .before .before .before .before .before .before .before .before .before .before .before .before .before .before .before .before .colex .ensures) in
-    let t = subst (λ (x : ℕ). Fits (s .args .d) (c .before .before .before .before .before .before .before .before .before .before .before .before .before .before .before .before .before .before .colex .result) x (lengthsOf (s .args .out-cells .now) (s .args .out-words .now) (s .args .parents .now) (s .args .jacobians .now) (s .args .wholes .now) (s .args .birth-vertices .now) (s .args .birth-weights .now) (s .args .birth-shares .now)) (c .before .before .before .before .before .before .before .before .fits2 .result)) (c .before .before .before .before .before .before .before .before .before .wide2 .ensures) (c .before .before .before .before .before .before .before .before .fits2 .ensures) in
-    to-children (s .args .d) (s .args .r) (s .args .n) (s .args .m) (s .args .born) (s .args .coarse .now) (s .args .along .now) (s .args .pattern .now) (s .args .keys .now) (s .args .rows .now) (s .args .spare .now) (s .args .names .now) (s .args .sorted .now) (s .args .firsts .now) (s .args .buckets .now) (s .pre) (c .before .before .before .before .before .before .before .before .before .before .before .before .before .before .before .before .before .before .colex .result) (c .before .before .before .before .before .before .before .before .before .before .before .before .before .before .before .before .before .before .colex .last .1 .1 .1 .1 .0) (c .before .before .before .before .before .before .before .before .before .before .before .before .before .before .before .before .before .before .colex .last .1 .1 .1 .1 .1 .1 .0) a (c .before .before .before .before .before .before .before .before .before .before .before .before .before .before .before .before .before .before .colex .kept .1 .1 .1 .1 .1 .1 .0) (s .args .out-cells .now) (s .args .out-words .now) (s .args .parents .now) (s .args .jacobians .now) (s .args .wholes .now) (s .args .birth-vertices .now) (s .args .birth-weights .now) (s .args .birth-shares .now) (c .before .before .before .before .before .before .before .before .fits2 .result) (not-false _ (c .before .before .before .before .before .before .before .if1 .left)) t (c .before .before .before .before .before .before .before .before .before .before .before .before .before .before .before .before .before .before .before .before .before .before .before .count .result) sz
+    let a = arranged (s .args .d) (s .args .m) (s .args .r) (s .args .d + 1) (c .before .before .before .before .before .before .before .before .before .before .before .before .before .before .before .before .before .before .before .before .before .before .before .count .result) (s .args .names .now) (c .before .before .before .before .before .before .before .before .before .before .before .before .before .before .before .before .before .before .ordered .last .1 .1 .1 .1 .1 .0) (c .before .before .before .before .before .before .before .before .before .before .before .before .before .before .before .before .before .before .ordered .last .1 .1 .1 .1 .1 .1 .1 .0) (c .before .before .before .before .before .before .before .before .before .before .before .before .before .before .before .before .before .before .ordered .result) (add-one (s .args .d)) sz (c .before .before .before .before .before .before .before .before .before .before .before .before .before .before .before .before .before .before .ordered .ensures) in
+    let t = subst (λ (x : ℕ). Fits (s .args .d) (c .before .before .before .before .before .before .before .before .before .before .before .before .before .before .before .before .before .before .ordered .result) x (lengthsOf (s .args .out-cells .now) (s .args .out-words .now) (s .args .parents .now) (s .args .jacobians .now) (s .args .wholes .now) (s .args .birth-vertices .now) (s .args .birth-weights .now) (s .args .birth-shares .now)) (c .before .before .before .before .before .before .before .before .fits2 .result)) (c .before .before .before .before .before .before .before .before .before .wide2 .ensures) (c .before .before .before .before .before .before .before .before .fits2 .ensures) in
+    to-children (s .args .d) (s .args .r) (s .args .n) (s .args .m) (s .args .born) (s .args .coarse .now) (s .args .along .now) (s .args .pattern .now) (s .args .keys .now) (s .args .rows .now) (s .args .spare .now) (s .args .names .now) (s .args .sorted .now) (s .args .firsts .now) (s .args .buckets .now) (s .pre) (c .before .before .before .before .before .before .before .before .before .before .before .before .before .before .before .before .before .before .ordered .result) (c .before .before .before .before .before .before .before .before .before .before .before .before .before .before .before .before .before .before .ordered .last .1 .1 .1 .1 .1 .0) (c .before .before .before .before .before .before .before .before .before .before .before .before .before .before .before .before .before .before .ordered .last .1 .1 .1 .1 .1 .1 .1 .0) a (c .before .before .before .before .before .before .before .before .before .before .before .before .before .before .before .before .before .before .ordered .kept .1 .1 .1 .1 .1 .1 .1 .0) (s .args .out-cells .now) (s .args .out-words .now) (s .args .parents .now) (s .args .jacobians .now) (s .args .wholes .now) (s .args .birth-vertices .now) (s .args .birth-weights .now) (s .args .birth-shares .now) (c .before .before .before .before .before .before .before .before .fits2 .result) (not-false _ (c .before .before .before .before .before .before .before .if1 .left)) t (c .before .before .before .before .before .before .before .before .before .before .before .before .before .before .before .before .before .before .before .before .before .before .before .count .result) sz
 
 write-births-requires : tie.Need-write-births-requires
 write-births-requires c κs =
     let s = c .before .before .before .before .before .before .before .before .before .before .before .before .before .before .before .before .before .before .before .before .before .before .before .before .before .before .before .before .before .before .before .before .before .before .before .before .before .before .before .before .before .before .before .before .before .before .before .before .before .before .before .before .before .before .before in
     let sz : c .before .before .before .before .before .before .before .before .before .before .before .before .before .before .before .before .before .before .before .before .before .before .before .before .before .before .before .before .before .before .before .before .before .before .before .before .count .result ≡ s .args .r ^ s .args .d = c .before .before .before .before .before .before .before .before .before .before .before .before .before .before .before .before .before .before .before .before .before .before .before .before .before .before .before .before .before .before .before .before .before .before .before .before .count .ensures ∙ ap (λ (x : ℕ). x ^ s .args .d) (c .before .before .before .before .before .before .before .before .before .before .before .before .before .before .before .before .before .before .before .before .before .before .before .before .before .before .before .before .before .before .before .before .before .before .before .before .before .wide .ensures) in
-    let a = arranged (s .args .d) (s .args .m) (s .args .r) (s .args .d + 1) (c .before .before .before .before .before .before .before .before .before .before .before .before .before .before .before .before .before .before .before .before .before .before .before .before .before .before .before .before .before .before .before .before .before .before .before .before .count .result) (s .args .names .now) (c .before .before .before .before .before .before .before .before .before .before .before .before .before .before .before .before .before .before .before .before .before .before .before .before .before .before .before .before .before .before .before .colex .last .1 .1 .1 .1 .0) (c .before .before .before .before .before .before .before .before .before .before .before .before .before .before .before .before .before .before .before .before .before .before .before .before .before .before .before .before .before .before .before .colex .last .1 .1 .1 .1 .1 .1 .0) (c .before .before .before .before .before .before .before .before .before .before .before .before .before .before .before .before .before .before .before .before .before .before .before .before .before .before .before .before .before .before .before .colex .result) (add-one (s .args .d)) sz (c .before .before .before .before .before .before .before .before .before .before .before .before .before .before .before .before .before .before .before .before .before .before .before .before .before .before .before .before .before .before .before .colex .ensures) in
-    let t = subst (λ (x : ℕ). Fits (s .args .d) (c .before .before .before .before .before .before .before .before .before .before .before .before .before .before .before .before .before .before .before .before .before .before .before .before .before .before .before .before .before .before .before .colex .result) x (lengthsOf (s .args .out-cells .now) (s .args .out-words .now) (s .args .parents .now) (s .args .jacobians .now) (s .args .wholes .now) (s .args .birth-vertices .now) (s .args .birth-weights .now) (s .args .birth-shares .now)) (c .before .before .before .before .before .before .before .before .before .before .before .before .before .before .before .before .before .before .before .before .before .fits2 .result)) (c .before .before .before .before .before .before .before .before .before .before .before .before .before .before .before .before .before .before .before .before .before .before .wide2 .ensures) (c .before .before .before .before .before .before .before .before .before .before .before .before .before .before .before .before .before .before .before .before .before .fits2 .ensures) in
-    subst (λ (x : ℕ). Bears (s .args .d) x (s .args .keys .now) (s .args .spare .now) (s .args .birth-vertices .now) (s .args .birth-weights .now) (s .args .birth-shares .now)) (sym (c .before .before .before .before .before .before .before .before .before .before .before .before .before .before .before .before .before .before .before .before .before .before .wide2 .ensures)) (to-births (s .args .d) (s .args .r) (s .args .n) (s .args .m) (s .args .born) (s .args .coarse .now) (s .args .along .now) (s .args .pattern .now) (s .args .keys .now) (s .args .rows .now) (s .args .spare .now) (s .args .names .now) (s .args .sorted .now) (s .args .firsts .now) (s .args .buckets .now) (s .pre) (c .before .before .before .before .before .before .before .before .before .before .before .before .before .before .before .before .before .before .before .before .before .before .before .before .before .before .before .before .before .before .before .colex .result) (c .before .before .before .before .before .before .before .before .before .before .before .before .before .before .before .before .before .before .before .before .before .before .before .before .before .before .before .before .before .before .before .colex .last .1 .1 .1 .1 .0) (c .before .before .before .before .before .before .before .before .before .before .before .before .before .before .before .before .before .before .before .before .before .before .before .before .before .before .before .before .before .before .before .colex .last .1 .1 .1 .1 .1 .1 .0) a (c .before .before .before .before .before .before .before .before .before .before .before .before .before .before .before .before .before .before .before .before .before .before .before .before .before .before .before .before .before .before .before .colex .kept .1 .1 .1 .1 .1 .1 .0) (s .args .out-cells .now) (s .args .out-words .now) (s .args .parents .now) (s .args .jacobians .now) (s .args .wholes .now) (s .args .birth-vertices .now) (s .args .birth-weights .now) (s .args .birth-shares .now) (c .before .before .before .before .before .before .before .before .before .before .before .before .before .before .before .before .before .before .before .before .before .fits2 .result) (not-false _ (c .before .before .before .before .before .before .before .before .before .before .before .before .before .before .before .before .before .before .before .before .if1 .left)) t)
+    let a = arranged (s .args .d) (s .args .m) (s .args .r) (s .args .d + 1) (c .before .before .before .before .before .before .before .before .before .before .before .before .before .before .before .before .before .before .before .before .before .before .before .before .before .before .before .before .before .before .before .before .before .before .before .before .count .result) (s .args .names .now) (c .before .before .before .before .before .before .before .before .before .before .before .before .before .before .before .before .before .before .before .before .before .before .before .before .before .before .before .before .before .before .before .ordered .last .1 .1 .1 .1 .1 .0) (c .before .before .before .before .before .before .before .before .before .before .before .before .before .before .before .before .before .before .before .before .before .before .before .before .before .before .before .before .before .before .before .ordered .last .1 .1 .1 .1 .1 .1 .1 .0) (c .before .before .before .before .before .before .before .before .before .before .before .before .before .before .before .before .before .before .before .before .before .before .before .before .before .before .before .before .before .before .before .ordered .result) (add-one (s .args .d)) sz (c .before .before .before .before .before .before .before .before .before .before .before .before .before .before .before .before .before .before .before .before .before .before .before .before .before .before .before .before .before .before .before .ordered .ensures) in
+    let t = subst (λ (x : ℕ). Fits (s .args .d) (c .before .before .before .before .before .before .before .before .before .before .before .before .before .before .before .before .before .before .before .before .before .before .before .before .before .before .before .before .before .before .before .ordered .result) x (lengthsOf (s .args .out-cells .now) (s .args .out-words .now) (s .args .parents .now) (s .args .jacobians .now) (s .args .wholes .now) (s .args .birth-vertices .now) (s .args .birth-weights .now) (s .args .birth-shares .now)) (c .before .before .before .before .before .before .before .before .before .before .before .before .before .before .before .before .before .before .before .before .before .fits2 .result)) (c .before .before .before .before .before .before .before .before .before .before .before .before .before .before .before .before .before .before .before .before .before .before .wide2 .ensures) (c .before .before .before .before .before .before .before .before .before .before .before .before .before .before .before .before .before .before .before .before .before .fits2 .ensures) in
+    subst (λ (x : ℕ). Bears (s .args .d) x (s .args .keys .now) (s .args .spare .now) (s .args .birth-vertices .now) (s .args .birth-weights .now) (s .args .birth-shares .now)) (sym (c .before .before .before .before .before .before .before .before .before .before .before .before .before .before .before .before .before .before .before .before .before .before .wide2 .ensures)) (to-births (s .args .d) (s .args .r) (s .args .n) (s .args .m) (s .args .born) (s .args .coarse .now) (s .args .along .now) (s .args .pattern .now) (s .args .keys .now) (s .args .rows .now) (s .args .spare .now) (s .args .names .now) (s .args .sorted .now) (s .args .firsts .now) (s .args .buckets .now) (s .pre) (c .before .before .before .before .before .before .before .before .before .before .before .before .before .before .before .before .before .before .before .before .before .before .before .before .before .before .before .before .before .before .before .ordered .result) (c .before .before .before .before .before .before .before .before .before .before .before .before .before .before .before .before .before .before .before .before .before .before .before .before .before .before .before .before .before .before .before .ordered .last .1 .1 .1 .1 .1 .0) (c .before .before .before .before .before .before .before .before .before .before .before .before .before .before .before .before .before .before .before .before .before .before .before .before .before .before .before .before .before .before .before .ordered .last .1 .1 .1 .1 .1 .1 .1 .0) a (c .before .before .before .before .before .before .before .before .before .before .before .before .before .before .before .before .before .before .before .before .before .before .before .before .before .before .before .before .before .before .before .ordered .kept .1 .1 .1 .1 .1 .1 .1 .0) (s .args .out-cells .now) (s .args .out-words .now) (s .args .parents .now) (s .args .jacobians .now) (s .args .wholes .now) (s .args .birth-vertices .now) (s .args .birth-weights .now) (s .args .birth-shares .now) (c .before .before .before .before .before .before .before .before .before .before .before .before .before .before .before .before .before .before .before .before .before .fits2 .result) (not-false _ (c .before .before .before .before .before .before .before .before .before .before .before .before .before .before .before .before .before .before .before .before .if1 .left)) t)
 
 cast-t66 : tie.Need-cast-t66
 cast-t66 c =
     let s = c .before .before .before .before .before .before .before .before .before .before .before .before .before .before .before .before .before .before .before .before .before .before .before .before .before .before .before .before .before .before .before .before .before .before .before .before .before .before .before .before .before .before .before .before .before .before .before .before .before .before .before .before .before .before .before .before .before .before .before .before .before .before in
     let sz : c .before .before .before .before .before .before .before .before .before .before .before .before .before .before .before .before .before .before .before .before .before .before .before .before .before .before .before .before .before .before .before .before .before .before .before .before .before .before .before .before .before .before .before .count .result ≡ s .args .r ^ s .args .d = c .before .before .before .before .before .before .before .before .before .before .before .before .before .before .before .before .before .before .before .before .before .before .before .before .before .before .before .before .before .before .before .before .before .before .before .before .before .before .before .before .before .before .before .count .ensures ∙ ap (λ (x : ℕ). x ^ s .args .d) (c .before .before .before .before .before .before .before .before .before .before .before .before .before .before .before .before .before .before .before .before .before .before .before .before .before .before .before .before .before .before .before .before .before .before .before .before .before .before .before .before .before .before .before .before .wide .ensures) in
-    let a = arranged (s .args .d) (s .args .m) (s .args .r) (s .args .d + 1) (c .before .before .before .before .before .before .before .before .before .before .before .before .before .before .before .before .before .before .before .before .before .before .before .before .before .before .before .before .before .before .before .before .before .before .before .before .before .before .before .before .before .before .before .count .result) (s .args .names .now) (c .before .before .before .before .before .before .before .before .before .before .before .before .before .before .before .before .before .before .before .before .before .before .before .before .before .before .before .before .before .before .before .before .before .before .before .before .before .before .colex .last .1 .1 .1 .1 .0) (c .before .before .before .before .before .before .before .before .before .before .before .before .before .before .before .before .before .before .before .before .before .before .before .before .before .before .before .before .before .before .before .before .before .before .before .before .before .before .colex .last .1 .1 .1 .1 .1 .1 .0) (c .before .before .before .before .before .before .before .before .before .before .before .before .before .before .before .before .before .before .before .before .before .before .before .before .before .before .before .before .before .before .before .before .before .before .before .before .before .before .colex .result) (add-one (s .args .d)) sz (c .before .before .before .before .before .before .before .before .before .before .before .before .before .before .before .before .before .before .before .before .before .before .before .before .before .before .before .before .before .before .before .before .before .before .before .before .before .before .colex .ensures) in
-    omega (arith, few (s .args .d) (s .args .r) (s .args .n) (s .args .m) (s .args .born) (s .args .coarse .now) (s .args .along .now) (s .args .pattern .now) (s .args .keys .now) (s .args .rows .now) (s .args .spare .now) (s .args .names .now) (s .args .sorted .now) (s .args .firsts .now) (s .args .buckets .now) (s .pre) (c .before .before .before .before .before .before .before .before .before .before .before .before .before .before .before .before .before .before .before .before .before .before .before .before .before .before .before .before .before .before .before .before .before .before .before .before .before .before .colex .result) (c .before .before .before .before .before .before .before .before .before .before .before .before .before .before .before .before .before .before .before .before .before .before .before .before .before .before .before .before .before .before .before .before .before .before .before .before .before .before .colex .last .1 .1 .1 .1 .0) (c .before .before .before .before .before .before .before .before .before .before .before .before .before .before .before .before .before .before .before .before .before .before .before .before .before .before .before .before .before .before .before .before .before .before .before .before .before .before .colex .last .1 .1 .1 .1 .1 .1 .0) a (c .before .before .before .before .before .before .before .before .before .before .before .before .before .before .before .before .before .before .before .before .before .before .before .before .before .before .before .before .before .before .before .before .before .before .before .before .before .before .colex .kept .1 .1 .1 .1 .1 .1 .0), s .pre .few-cells)
+    let a = arranged (s .args .d) (s .args .m) (s .args .r) (s .args .d + 1) (c .before .before .before .before .before .before .before .before .before .before .before .before .before .before .before .before .before .before .before .before .before .before .before .before .before .before .before .before .before .before .before .before .before .before .before .before .before .before .before .before .before .before .before .count .result) (s .args .names .now) (c .before .before .before .before .before .before .before .before .before .before .before .before .before .before .before .before .before .before .before .before .before .before .before .before .before .before .before .before .before .before .before .before .before .before .before .before .before .before .ordered .last .1 .1 .1 .1 .1 .0) (c .before .before .before .before .before .before .before .before .before .before .before .before .before .before .before .before .before .before .before .before .before .before .before .before .before .before .before .before .before .before .before .before .before .before .before .before .before .before .ordered .last .1 .1 .1 .1 .1 .1 .1 .0) (c .before .before .before .before .before .before .before .before .before .before .before .before .before .before .before .before .before .before .before .before .before .before .before .before .before .before .before .before .before .before .before .before .before .before .before .before .before .before .ordered .result) (add-one (s .args .d)) sz (c .before .before .before .before .before .before .before .before .before .before .before .before .before .before .before .before .before .before .before .before .before .before .before .before .before .before .before .before .before .before .before .before .before .before .before .before .before .before .ordered .ensures) in
+    omega (arith, few (s .args .d) (s .args .r) (s .args .n) (s .args .m) (s .args .born) (s .args .coarse .now) (s .args .along .now) (s .args .pattern .now) (s .args .keys .now) (s .args .rows .now) (s .args .spare .now) (s .args .names .now) (s .args .sorted .now) (s .args .firsts .now) (s .args .buckets .now) (s .pre) (c .before .before .before .before .before .before .before .before .before .before .before .before .before .before .before .before .before .before .before .before .before .before .before .before .before .before .before .before .before .before .before .before .before .before .before .before .before .before .ordered .result) (c .before .before .before .before .before .before .before .before .before .before .before .before .before .before .before .before .before .before .before .before .before .before .before .before .before .before .before .before .before .before .before .before .before .before .before .before .before .before .ordered .last .1 .1 .1 .1 .1 .0) (c .before .before .before .before .before .before .before .before .before .before .before .before .before .before .before .before .before .before .before .before .before .before .before .before .before .before .before .before .before .before .before .before .before .before .before .before .before .before .ordered .last .1 .1 .1 .1 .1 .1 .1 .0) a (c .before .before .before .before .before .before .before .before .before .before .before .before .before .before .before .before .before .before .before .before .before .before .before .before .before .before .before .before .before .before .before .before .before .before .before .before .before .before .ordered .kept .1 .1 .1 .1 .1 .1 .1 .0), s .pre .few-cells)
 
 add-t67 : tie.Need-add-t67
 add-t67 c = omega (arith, c .before .before .before .before .before .before .before .before .before .before .before .before .before .before .before .before .before .before .before .before .before .before .before .before .before .before .before .before .before .before .before .before .before .before .before .before .before .before .before .before .before .before .before .before .before .before .before .before .before .before .before .before .before .before .before .before .before .before .before .before .before .before .pre .few-vertices)
@@ -122,24 +121,24 @@ same-length-12 : tie.Need-same-length-12
 same-length-12 c = search needs
 
 same-length-13 : tie.Need-same-length-13
-same-length-13 c = (c .before .before .before .before .before .before .before .before .before .before .before .before .before .before .before .before .before .before .before .before .before .before .before .before .before .before .before .before .before .before .before .before .before .before .before .before .before .before .colex .kept .1 .1 .1 .1 .1 .0)
+same-length-13 c = (c .before .before .before .before .before .before .before .before .before .before .before .before .before .before .before .before .before .before .before .before .before .before .before .before .before .before .before .before .before .before .before .before .before .before .before .before .before .before .ordered .kept .1 .1 .1 .1 .1 .1 .0)
 
 same-length-14 : tie.Need-same-length-14
-same-length-14 c = (c .before .before .before .before .before .before .before .before .before .before .before .before .before .before .before .before .before .before .before .before .before .before .before .before .before .before .before .before .before .before .before .before .before .before .before .before .before .before .colex .kept .1 .1 .1 .1 .0)
+same-length-14 c = (c .before .before .before .before .before .before .before .before .before .before .before .before .before .before .before .before .before .before .before .before .before .before .before .before .before .before .before .before .before .before .before .before .before .before .before .before .before .before .ordered .kept .1 .1 .1 .1 .1 .0)
 
 same-length-15 : tie.Need-same-length-15
-same-length-15 c = (c .before .before .before .before .before .before .before .before .before .before .before .before .before .before .before .before .before .before .before .before .before .before .before .before .before .before .before .before .before .before .before .before .before .before .before .before .before .before .colex .kept .1 .1 .1 .1 .1 .1 .0)
+same-length-15 c = (c .before .before .before .before .before .before .before .before .before .before .before .before .before .before .before .before .before .before .before .before .before .before .before .before .before .before .before .before .before .before .before .before .before .before .before .before .before .before .ordered .kept .1 .1 .1 .1 .1 .1 .1 .0)
 
 same-length-16 : tie.Need-same-length-16
-same-length-16 c = (c .before .before .before .before .before .before .before .before .before .before .before .before .before .before .before .before .before .before .before .before .before .before .before .before .before .before .before .before .before .before .before .before .before .before .before .before .before .before .colex .kept .1 .1 .1 .1 .1 .1 .1 .0)
+same-length-16 c = (c .before .before .before .before .before .before .before .before .before .before .before .before .before .before .before .before .before .before .before .before .before .before .before .before .before .before .before .before .before .before .before .before .before .before .before .before .before .before .ordered .kept .1 .1 .1 .1 .1 .1 .1 .1 .0)
 
 returns-2 : tie.Need-returns-2
 returns-2 c =
     let s = c .before .before .before .before .before .before .before .before .before .before .before .before .before .before .before .before .before .before .before .before .before .before .before .before .before .before .before .before .before .before .before .before .before .before .before .before .before .before .before .before .before .before .before .before .before .before .before .before .before .before .before .before .before .before .before .before .before .before .before .before .before .before in
     let sz : c .before .before .before .before .before .before .before .before .before .before .before .before .before .before .before .before .before .before .before .before .before .before .before .before .before .before .before .before .before .before .before .before .before .before .before .before .before .before .before .before .before .before .before .count .result ≡ s .args .r ^ s .args .d = c .before .before .before .before .before .before .before .before .before .before .before .before .before .before .before .before .before .before .before .before .before .before .before .before .before .before .before .before .before .before .before .before .before .before .before .before .before .before .before .before .before .before .before .count .ensures ∙ ap (λ (x : ℕ). x ^ s .args .d) (c .before .before .before .before .before .before .before .before .before .before .before .before .before .before .before .before .before .before .before .before .before .before .before .before .before .before .before .before .before .before .before .before .before .before .before .before .before .before .before .before .before .before .before .before .wide .ensures) in
-    let a = arranged (s .args .d) (s .args .m) (s .args .r) (s .args .d + 1) (c .before .before .before .before .before .before .before .before .before .before .before .before .before .before .before .before .before .before .before .before .before .before .before .before .before .before .before .before .before .before .before .before .before .before .before .before .before .before .before .before .before .before .before .count .result) (s .args .names .now) (c .before .before .before .before .before .before .before .before .before .before .before .before .before .before .before .before .before .before .before .before .before .before .before .before .before .before .before .before .before .before .before .before .before .before .before .before .before .before .colex .last .1 .1 .1 .1 .0) (c .before .before .before .before .before .before .before .before .before .before .before .before .before .before .before .before .before .before .before .before .before .before .before .before .before .before .before .before .before .before .before .before .before .before .before .before .before .before .colex .last .1 .1 .1 .1 .1 .1 .0) (c .before .before .before .before .before .before .before .before .before .before .before .before .before .before .before .before .before .before .before .before .before .before .before .before .before .before .before .before .before .before .before .before .before .before .before .before .before .before .colex .result) (add-one (s .args .d)) sz (c .before .before .before .before .before .before .before .before .before .before .before .before .before .before .before .before .before .before .before .before .before .before .before .before .before .before .before .before .before .before .before .before .before .before .before .before .before .before .colex .ensures) in
-    let t = subst (λ (x : ℕ). Fits (s .args .d) (c .before .before .before .before .before .before .before .before .before .before .before .before .before .before .before .before .before .before .before .before .before .before .before .before .before .before .before .before .before .before .before .before .before .before .before .before .before .before .colex .result) x (lengthsOf (s .args .out-cells .now) (s .args .out-words .now) (s .args .parents .now) (s .args .jacobians .now) (s .args .wholes .now) (s .args .birth-vertices .now) (s .args .birth-weights .now) (s .args .birth-shares .now)) (c .before .before .before .before .before .before .before .before .before .before .before .before .before .before .before .before .before .before .before .before .before .before .before .before .before .before .before .before .fits2 .result)) (c .before .before .before .before .before .before .before .before .before .before .before .before .before .before .before .before .before .before .before .before .before .before .before .before .before .before .before .before .before .wide2 .ensures) (c .before .before .before .before .before .before .before .before .before .before .before .before .before .before .before .before .before .before .before .before .before .before .before .before .before .before .before .before .fits2 .ensures) in
-    handed-made (s .args .d) (s .args .r) (s .args .n) (s .args .m) (s .args .born) (s .args .coarse .now) (s .args .along .now) (s .args .pattern .now) (s .args .keys .now) (s .args .rows .now) (s .args .spare .now) (s .args .names .now) (s .args .sorted .now) (s .args .firsts .now) (s .args .buckets .now) (s .pre) (c .before .before .before .before .before .before .before .before .before .before .before .before .before .before .before .before .before .before .before .before .before .before .before .before .before .before .before .before .before .before .before .before .before .before .before .before .before .before .colex .result) (c .before .before .before .before .before .before .before .before .before .before .before .before .before .before .before .before .before .before .before .before .before .before .before .before .before .before .before .before .before .before .before .before .before .before .before .before .before .before .colex .last .1 .1 .1 .1 .0) (c .before .before .before .before .before .before .before .before .before .before .before .before .before .before .before .before .before .before .before .before .before .before .before .before .before .before .before .before .before .before .before .before .before .before .before .before .before .before .colex .last .1 .1 .1 .1 .1 .1 .0) a (c .before .before .before .before .before .before .before .before .before .before .before .before .before .before .before .before .before .before .before .before .before .before .before .before .before .before .before .before .before .before .before .before .before .before .before .before .before .before .colex .kept .1 .1 .1 .1 .1 .1 .0) (s .args .out-cells .now) (s .args .out-words .now) (s .args .parents .now) (s .args .jacobians .now) (s .args .wholes .now) (s .args .birth-vertices .now) (s .args .birth-weights .now) (s .args .birth-shares .now) (c .before .before .before .before .before .before .before .before .before .before .before .before .before .before .before .before .before .before .before .before .before .before .before .before .before .before .before .before .fits2 .result) (not-false _ (c .before .before .before .before .before .before .before .before .before .before .before .before .before .before .before .before .before .before .before .before .before .before .before .before .before .before .before .if1 .left)) t (c .before .before .before .before .before .before .before .before .before .before .before .before .before .before .before .before .before .before .before .write-children .last .1 .1 .1 .1 .1 .1 .1 .1 .1 .1 .0) (c .before .before .before .before .before .before .before .before .before .before .before .before .before .before .before .before .before .before .before .write-children .last .1 .1 .1 .1 .1 .1 .1 .1 .1 .1 .1 .0) (c .before .before .before .before .before .before .before .before .before .before .before .before .before .before .before .before .before .before .before .write-children .last .1 .1 .1 .1 .1 .1 .1 .1 .1 .1 .1 .1 .0) (c .before .before .before .before .before .before .before .before .before .before .before .before .before .before .before .before .before .before .before .write-children .last .1 .1 .1 .1 .1 .1 .1 .1 .1 .1 .1 .1 .1 .0) (c .before .before .before .before .before .before .before .before .before .before .before .before .before .before .before .before .before .before .before .write-children .last .1 .1 .1 .1 .1 .1 .1 .1 .1 .1 .1 .1 .1 .1 .0) (c .before .before .before .before .before .before .write-births .last .1 .1 .1 .1 .1 .1 .0) (c .before .before .before .before .before .before .write-births .last .1 .1 .1 .1 .1 .1 .1 .0) (c .before .before .before .before .before .before .write-births .last .1 .1 .1 .1 .1 .1 .1 .1 .0) (c .before .before .before .before .before .before .before .before .before .before .before .before .before .before .before .before .before .before .before .before .before .before .before .before .before .before .before .before .before .before .before .before .before .before .before .before .before .before .before .before .before .before .before .count .result) sz (c .before .before .before .before .before .before .before .before .before .before .before .before .before .before .before .before .before .before .before .write-children .ensures)
+    let a = arranged (s .args .d) (s .args .m) (s .args .r) (s .args .d + 1) (c .before .before .before .before .before .before .before .before .before .before .before .before .before .before .before .before .before .before .before .before .before .before .before .before .before .before .before .before .before .before .before .before .before .before .before .before .before .before .before .before .before .before .before .count .result) (s .args .names .now) (c .before .before .before .before .before .before .before .before .before .before .before .before .before .before .before .before .before .before .before .before .before .before .before .before .before .before .before .before .before .before .before .before .before .before .before .before .before .before .ordered .last .1 .1 .1 .1 .1 .0) (c .before .before .before .before .before .before .before .before .before .before .before .before .before .before .before .before .before .before .before .before .before .before .before .before .before .before .before .before .before .before .before .before .before .before .before .before .before .before .ordered .last .1 .1 .1 .1 .1 .1 .1 .0) (c .before .before .before .before .before .before .before .before .before .before .before .before .before .before .before .before .before .before .before .before .before .before .before .before .before .before .before .before .before .before .before .before .before .before .before .before .before .before .ordered .result) (add-one (s .args .d)) sz (c .before .before .before .before .before .before .before .before .before .before .before .before .before .before .before .before .before .before .before .before .before .before .before .before .before .before .before .before .before .before .before .before .before .before .before .before .before .before .ordered .ensures) in
+    let t = subst (λ (x : ℕ). Fits (s .args .d) (c .before .before .before .before .before .before .before .before .before .before .before .before .before .before .before .before .before .before .before .before .before .before .before .before .before .before .before .before .before .before .before .before .before .before .before .before .before .before .ordered .result) x (lengthsOf (s .args .out-cells .now) (s .args .out-words .now) (s .args .parents .now) (s .args .jacobians .now) (s .args .wholes .now) (s .args .birth-vertices .now) (s .args .birth-weights .now) (s .args .birth-shares .now)) (c .before .before .before .before .before .before .before .before .before .before .before .before .before .before .before .before .before .before .before .before .before .before .before .before .before .before .before .before .fits2 .result)) (c .before .before .before .before .before .before .before .before .before .before .before .before .before .before .before .before .before .before .before .before .before .before .before .before .before .before .before .before .before .wide2 .ensures) (c .before .before .before .before .before .before .before .before .before .before .before .before .before .before .before .before .before .before .before .before .before .before .before .before .before .before .before .before .fits2 .ensures) in
+    handed-made (s .args .d) (s .args .r) (s .args .n) (s .args .m) (s .args .born) (s .args .coarse .now) (s .args .along .now) (s .args .pattern .now) (s .args .keys .now) (s .args .rows .now) (s .args .spare .now) (s .args .names .now) (s .args .sorted .now) (s .args .firsts .now) (s .args .buckets .now) (s .pre) (c .before .before .before .before .before .before .before .before .before .before .before .before .before .before .before .before .before .before .before .before .before .before .before .before .before .before .before .before .before .before .before .before .before .before .before .before .before .before .ordered .result) (c .before .before .before .before .before .before .before .before .before .before .before .before .before .before .before .before .before .before .before .before .before .before .before .before .before .before .before .before .before .before .before .before .before .before .before .before .before .before .ordered .last .1 .1 .1 .1 .1 .0) (c .before .before .before .before .before .before .before .before .before .before .before .before .before .before .before .before .before .before .before .before .before .before .before .before .before .before .before .before .before .before .before .before .before .before .before .before .before .before .ordered .last .1 .1 .1 .1 .1 .1 .1 .0) a (c .before .before .before .before .before .before .before .before .before .before .before .before .before .before .before .before .before .before .before .before .before .before .before .before .before .before .before .before .before .before .before .before .before .before .before .before .before .before .ordered .kept .1 .1 .1 .1 .1 .1 .1 .0) (s .args .out-cells .now) (s .args .out-words .now) (s .args .parents .now) (s .args .jacobians .now) (s .args .wholes .now) (s .args .birth-vertices .now) (s .args .birth-weights .now) (s .args .birth-shares .now) (c .before .before .before .before .before .before .before .before .before .before .before .before .before .before .before .before .before .before .before .before .before .before .before .before .before .before .before .before .fits2 .result) (not-false _ (c .before .before .before .before .before .before .before .before .before .before .before .before .before .before .before .before .before .before .before .before .before .before .before .before .before .before .before .if1 .left)) t (c .before .before .before .before .before .before .before .before .before .before .before .before .before .before .before .before .before .before .before .write-children .last .1 .1 .1 .1 .1 .1 .1 .1 .1 .1 .0) (c .before .before .before .before .before .before .before .before .before .before .before .before .before .before .before .before .before .before .before .write-children .last .1 .1 .1 .1 .1 .1 .1 .1 .1 .1 .1 .0) (c .before .before .before .before .before .before .before .before .before .before .before .before .before .before .before .before .before .before .before .write-children .last .1 .1 .1 .1 .1 .1 .1 .1 .1 .1 .1 .1 .0) (c .before .before .before .before .before .before .before .before .before .before .before .before .before .before .before .before .before .before .before .write-children .last .1 .1 .1 .1 .1 .1 .1 .1 .1 .1 .1 .1 .1 .0) (c .before .before .before .before .before .before .before .before .before .before .before .before .before .before .before .before .before .before .before .write-children .last .1 .1 .1 .1 .1 .1 .1 .1 .1 .1 .1 .1 .1 .1 .0) (c .before .before .before .before .before .before .write-births .last .1 .1 .1 .1 .1 .1 .0) (c .before .before .before .before .before .before .write-births .last .1 .1 .1 .1 .1 .1 .1 .0) (c .before .before .before .before .before .before .write-births .last .1 .1 .1 .1 .1 .1 .1 .1 .0) (c .before .before .before .before .before .before .before .before .before .before .before .before .before .before .before .before .before .before .before .before .before .before .before .before .before .before .before .before .before .before .before .before .before .before .before .before .before .before .before .before .before .before .before .count .result) sz (c .before .before .before .before .before .before .before .before .before .before .before .before .before .before .before .before .before .before .before .write-children .ensures)
     (λ bs u. c .before .before .before .before .before .before .write-births .ensures bs (subst (λ (x : ℕ). Supports (suc (s .args .d)) (s .args .n) x bs (s .args .keys .now) (s .args .spare .now)) (sym (c .before .before .before .before .before .before .before .before .before .before .before .before .before .before .before .before .before .before .before .before .before .before .before .before .before .before .before .before .before .wide2 .ensures)) u))
 
 pub finish-spec : {M : Type 1} → statement M
@@ -148,9 +147,9 @@ finish-spec =
     (tie.spec
     wide-requires
     count-requires
-    add-colex
-    mul-colex
-    colex-requires
+    add-ordered
+    mul-ordered
+    ordered-requires
     wide-requires-2
     fits-requires
     same-length

@@ -4,6 +4,7 @@ use Prim.Native.Nat.{ℕ, suc, _+_, _*_}
 use native.Mathlib.Omega.{arith}
 use native.Mathlib.Numerals.{add-one}
 use borrow.Author.Tests.{leb-true, leb-false}
+use Rattle.refusal.specs.Limits.{mostCells, mostVertices, rowMost}
 use Rattle.refine_results.proofs.Tests.{never}
 use native.Mathlib.Nat.{mul-le-mul-left, mul-le-mul-right}
 use borrow.Author.Needs.{needs}
@@ -16,13 +17,13 @@ add-corners : tie.Need-add-corners
 add-corners c = search needs
 
 mul-corners : tie.Need-mul-corners
-mul-corners c = let s = c in record { fits = omega (arith, ap (λ (x : ℕ). s .args .m * x) (add-one (s .args .d)), mul-le-mul-right (suc (s .args .d)) (s .pre .1), mul-le-mul-left {m = suc (s .args .d)} {n = 4} 4096 (omega (arith, s .pre .0))) }
+mul-corners c = let s = c in record { fits = omega (arith, ap (λ (x : ℕ). s .args .m * x) (add-one (s .args .d)), mul-le-mul-right (suc (s .args .d)) (s .pre .1), mul-le-mul-left {m = suc (s .args .d)} {n = rowMost} mostCells (omega (arith, s .pre .0))) }
 
 add-ends : tie.Need-add-ends
 add-ends c = search needs
 
 mul-ends : tie.Need-mul-ends
-mul-ends c = let s = c in record { fits = omega (arith, ap (λ (x : ℕ). s .args .b * x) (add-one (s .args .d)), mul-le-mul-right (suc (s .args .d)) (s .pre .2), mul-le-mul-left {m = suc (s .args .d)} {n = 4} 4096 (omega (arith, s .pre .0))) }
+mul-ends c = let s = c in record { fits = omega (arith, ap (λ (x : ℕ). s .args .b * x) (add-one (s .args .d)), mul-le-mul-right (suc (s .args .d)) (s .pre .2), mul-le-mul-left {m = suc (s .args .d)} {n = rowMost} mostVertices (omega (arith, s .pre .0))) }
 
 returns : tie.Need-returns
 returns c = record { yes = λ e. absurd (never e); no = λ e h z k. omega (arith, k .of-cells, z .cells-size, c .if1 .taken, ap (λ (x : ℕ). c .before .args .m * x) (add-one (c .before .args .d)), ap (λ (x : ℕ). c .before .args .b * x) (add-one (c .before .args .d))) }

@@ -4,6 +4,7 @@ use Prim.Native.Nat.{_+_, _*_}
 use native.Mathlib.Omega.{arith}
 use native.Mathlib.Numerals.{add-one}
 use lib.Seq.{length-take-le}
+use Rattle.refusal.specs.Limits.{squareMost}
 use Rattle.refine_results.proofs.Writing.{in-sorted, in-names, rows-room, wrote}
 use borrow.Author.Needs.{needs}
 use Rattle.refine_results.proofs.write_children.Statement.{statement}
@@ -48,19 +49,19 @@ slice-relend-prefix-jacobians : tie.Need-slice-relend-prefix-jacobians
 slice-relend-prefix-jacobians c = search needs
 
 slice-aggregate-jacobians : tie.Need-slice-aggregate-jacobians
-slice-aggregate-jacobians c = let s = c .before .before .before .before .before .before .before .before .before .before .before .before .before .before .before .before .before .before .before .before .before .before .before in sym (length-take-le (s .args .m * 9) (s .args .wholes .now) (s .pre .in-wholes))
+slice-aggregate-jacobians c = let s = c .before .before .before .before .before .before .before .before .before .before .before .before .before .before .before .before .before .before .before .before .before .before .before in sym (length-take-le (s .args .m * squareMost) (s .args .wholes .now) (s .pre .in-wholes))
 
 slice-relend-prefix-jacobians-2 : tie.Need-slice-relend-prefix-jacobians-2
 slice-relend-prefix-jacobians-2 c = search needs
 
 slice-aggregate-jacobians-2 : tie.Need-slice-aggregate-jacobians-2
-slice-aggregate-jacobians-2 c = let s = c .before .before .before .before .before .before .before .before .before .before .before .before .before .before .before .before .before .before .before .before .before .before .before .before in sym (length-take-le (s .args .m * 9) (s .args .jacobians .now) (s .pre .in-jacobians))
+slice-aggregate-jacobians-2 c = let s = c .before .before .before .before .before .before .before .before .before .before .before .before .before .before .before .before .before .before .before .before .before .before .before .before in sym (length-take-le (s .args .m * squareMost) (s .args .jacobians .now) (s .pre .in-jacobians))
 
 jacobians-requires : tie.Need-jacobians-requires
 jacobians-requires c κs =
     let s = c .before .before .before .before .before .before .before .before .before .before .before .before .before .before .before .before .before .before .before .before .before .before .before .before in
     let f = s .pre .families in
-    (length-take-le (s .args .m * 9) (s .args .wholes .now) (s .pre .in-wholes), length-take-le (s .args .m * 9) (s .args .jacobians .now) (s .pre .in-jacobians), f)
+    (length-take-le (s .args .m * squareMost) (s .args .wholes .now) (s .pre .in-wholes), length-take-le (s .args .m * squareMost) (s .args .jacobians .now) (s .pre .in-jacobians), f)
 
 same-length : tie.Need-same-length
 same-length c = search needs

@@ -4,7 +4,7 @@ use Prim.Native.Nat.{ℕ, _*_, _^_, _≤_, _<_}
 use native.Mathlib.Nat.{mul-le-mul-left}
 use native.Mathlib.Omega.{arith}
 use borrow.Author.Needs.{needs}
-use Rattle.refusal.specs.Limits.{mostCells}
+use Rattle.refusal.specs.Limits.{mostCells, manyCorners}
 use Rattle.refine.specs.Space.{counted}
 use Rattle.refine.proofs.Needed.{counted-most, power-small, children-over, children-in}
 use Rattle.refine.proofs.room.children.Statement.{statement}
@@ -29,7 +29,7 @@ mul-many c =
     let s = c .before .before in
     let e = size-is (s .args .d) (s .args .r) (c .before .counted .result) (c .count .result) (c .before .counted .ensures) (c .count .ensures) in
     let p = power-small (s .args .d) (counted (s .args .r)) (s .pre .0) (counted-most (s .args .r)) in
-    let f : c .count .result ≤ 262144 = subst (λ (x : ℕ). x ≤ 262144) (sym e) p in
+    let f : c .count .result ≤ manyCorners = subst (λ (x : ℕ). x ≤ manyCorners) (sym e) p in
     omega (arith, mul-le-mul-left (s .args .m) f, s .pre .1)
 
 returns : tie.Need-returns

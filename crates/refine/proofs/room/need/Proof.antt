@@ -3,7 +3,7 @@ use mathlib.Core.Path.{_≡_, sym, subst}
 use Prim.Native.Nat.{ℕ, _+_, _*_, _/_, _≤_}
 use native.Mathlib.Omega.{arith}
 use native.Mathlib.Numerals.{add-one}
-use Rattle.refusal.specs.Limits.{mostCells}
+use Rattle.refusal.specs.Limits.{mostDimension, mostCells, rowMost, mostCorners}
 use Rattle.refine.specs.Space.{childrenRoom}
 use Rattle.refine.proofs.Needed.{children-most, need-is, room-by, corners-few, pattern-few}
 use borrow.Author.Needs.{needs}
@@ -14,7 +14,7 @@ use Rattle.refine.proofs.room.need.Lts as lts
 use Rattle.refine.proofs.room.children.Reads as children-reads
 
 -- what is found of the children: few corners, and few numbers of the pattern
-few : (d n r k : ℕ) → d ≤ 3 → k ≡ childrenRoom d (n / (d + 1)) r → (k * (d + 1) ≤ 16384) × (k * (d + 1) * (d + 1) ≤ 65536)
+few : (d n r k : ℕ) → d ≤ mostDimension → k ≡ childrenRoom d (n / (d + 1)) r → (k * (d + 1) ≤ mostCorners) × (k * (d + 1) * (d + 1) ≤ mostCorners * rowMost)
 few d n r k h e =
     let m : k ≤ mostCells = subst (λ (x : ℕ). x ≤ mostCells) (sym e) (children-most d (n / (d + 1)) r) in
     (corners-few d k h m, pattern-few d k h m)
@@ -85,6 +85,12 @@ add-t14 c =
     let f = few (s .args .d) (s .args .len) (s .args .r) (c .children .result) (s .pre .0) (c .children .ensures) in
     omega (arith, f .0, f .1, s .pre .2)
 
+add-t15 : tie.Need-add-t15
+add-t15 c =
+    let s = c .before in
+    let f = few (s .args .d) (s .args .len) (s .args .r) (c .children .result) (s .pre .0) (c .children .ensures) in
+    omega (arith, f .0, f .1, s .pre .2)
+
 returns : tie.Need-returns
 returns c = need-is (c .before .args .d) (c .before .args .len) _ (c .children .result) (room-by (c .before .args .d) (c .before .args .len) (c .before .args .r) (c .children .result) (c .children .ensures))
 
@@ -106,4 +112,5 @@ need-spec =
     add-t12
     add-t13
     add-t14
+    add-t15
     returns)

@@ -1,0 +1,4 @@
+pub mod Laws
+pub mod Counting
+pub mod Sizes
+pub mod Enough

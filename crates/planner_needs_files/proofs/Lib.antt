@@ -1,0 +1,4 @@
+pub mod Laws
+pub mod Fair
+pub mod Enough
+pub mod Figures
