@@ -18,6 +18,7 @@ use Rattle.lists.proofs.Flat.{flat-cut}
 use Rattle.lists.proofs.Rows.{cut-length}
 use Rattle.sorting.specs.Gather.{rowsOf}
 use Rattle.sorting.proofs.Rows.{rowsOf-pos}
+use Rattle.refusal.specs.Limits.{mostDimension, manyCorners}
 use Rattle.complex.specs.Check.{Passed}
 use Rattle.complex.specs.Room.{keyRoom, needOf}
 use Rattle.complex.specs.Cells.{cellsOf}
@@ -32,7 +33,8 @@ use Rattle.complex_mates.proofs.Meeting.{slots-most}
 use Rattle.complex_cells.proofs.Named.{named-flat, named-many}
 use Rattle.complex_edges.specs.WorkPairs.{Edging}
 use Rattle.complex_facets.specs.WorkClasses.{Classes, Pass, Found, loneRows}
-use Rattle.complex_facets.specs.Sides.{tableOf, fours}
+use Rattle.complex_facets.specs.Sides.{tableOf}
+use Rattle.complex_facets.specs.WorkSides.{fours}
 use Rattle.complex_facets.proofs.Border.{border-named}
 use Rattle.complex_facets.proofs.Tabling.{fours-length, table-is}
 use Rattle.complex_facets.proofs.Recording.{fives-length, records-are}
@@ -188,7 +190,7 @@ pub width-most : (beside : Beside) → widthOf beside ≤ 5
 width-most Places = omega arith
 width-most Signs = omega arith
 
-room-narrow : (d m n : ℕ) → d ≤ 3 → n < 65536 → m * suc d ≤ n → m * slots d * d < 4294967296
+room-narrow : (d m n : ℕ) → d ≤ mostDimension → n < manyCorners → m * suc d ≤ n → m * slots d * d < 4294967296
 room-narrow d m n h c k = omega (arith, room-rows d m n k, room-most d n h)
 
 module _ (d : ℕ) (ws keys rows spare counts : List ℕ) (w : Working (needOf d (length ws)) d ws keys rows spare counts) (m : ℕ) (keys′ rows′ spare′ counts′ : List ℕ) (lk : length keys′ ≡ length keys) (lr : length rows′ ≡ length rows) (ls : length spare′ ≡ length spare) (lc : length counts′ ≡ length counts) (a : Made d ws m rows′) where

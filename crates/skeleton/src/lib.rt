@@ -15,7 +15,7 @@ ghost use mathlib.Core.List.{List, _++_};
 ghost use mathlib.Core.Path.{_≡_};
 ghost use Prim.Native.Nat.{ℕ, suc, _*_, _<_, _≤_};
 ghost use lib.ListN.{length, take, drop};
-ghost use Rattle.refusal.specs.Limits.{mostDimension};
+ghost use Rattle.refusal.specs.Limits.{mostDimension, manyCorners};
 ghost use Rattle.lists.specs.Rows.{flat};
 ghost use Rattle.lists.specs.Zero.{AllZero};
 ghost use Rattle.sorting.specs.Gather.{rowsOf};
@@ -41,7 +41,7 @@ pub(crate) enum Beside {
 }
 
 // Whether no facet lies in three or more cells.
-fn sound(
+pub fn sound(
     d: usize,
     words: &[u32],
     keys: &mut [u32],
@@ -57,7 +57,7 @@ fn sound(
 }
 
 // Hands out a flat list of m words.
-fn hand_out(m: usize, from: &[u32], out: &mut [u32]) -> Counted
+pub fn hand_out(m: usize, from: &[u32], out: &mut [u32]) -> Counted
     requires { ⌜ m < 4294967296 ⌝ }
     ensures { λ r. ⌜ ((ws : List (List ℕ)) → flat ws ≡ now (from .entry) → length ws ≡ m → Handed ws r (now (out .entry)) (now (out .exit))) ⌝ }
 {
@@ -211,7 +211,7 @@ fn list_facets(
 
 // What the call for a part needs of its working lists.
 fn need(part: Part, d: usize, len: usize) -> Room
-    requires { ⌜ (d ≤ mostDimension) × (len < 65536) ⌝ }
+    requires { ⌜ (d ≤ mostDimension) × (len < manyCorners) ⌝ }
     ensures { λ r. ⌜ r ≡ needFor part d len ⌝ }
 {
     let plain = complex::need(d, len);
