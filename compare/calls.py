@@ -9,6 +9,11 @@ def need(d, n):
     return [max(1, d) * n, n, n, n]
 
 
+def record_need(n):
+    """working lists of a call that reads the facet records"""
+    return [5 * n, n, n, n]
+
+
 def text(ws, n):
     return ";".join(",".join(map(str, w)) for w in m.chunks(ws, n)) or "-"
 
@@ -44,6 +49,12 @@ class Cells:
             return Want(self.early, self.need, self.late)
         return Want(None, self.need, late, **more)
 
+    def want_signs(self, late=None, **more):
+        """the same of a call that reads the facet records"""
+        want = self.want(late, **more)
+        want.need = want.need and record_need(len(self.ws))
+        return want
+
     @property
     def fine(self):
         return not self.early and not self.late
@@ -62,7 +73,7 @@ def orientation(j, c):
         late = (13, 0) if signs is None else None
         if signs is not None:
             j.agree("coherent", m.coherent(c.rows, signs), True)
-    j.call("planner_orientation", [c.d], [("u32", c.ws)], ["i32"], c.want(late, value=len(signs or []), results=[("i32", signs or [])]))
+    j.call("planner_orientation", [c.d], [("u32", c.ws)], ["i32"], c.want_signs(late, value=len(signs or []), results=[("i32", signs or [])]))
     looks(j, c, late, signs or [])
 
 
@@ -73,7 +84,7 @@ def looks(j, c, late, signs):
     made = int(j.rust.fields("orient " + c.line)["looks"]) if c.fine else 0
     if c.fine and late is None:
         j.agree("looks", len(c.cells) * (c.d + 1 if c.d else 0), made)
-    want = c.want(late, value=len(signs), results=[("i32", signs)], tells=late == (13, 0))
+    want = c.want_signs(late, value=len(signs), results=[("i32", signs)], tells=late == (13, 0))
     j.call("planner_orientation_looks", [c.d], [("u32", c.ws)], ["i32"], want, fixed=("u32", [made], 1))
 
 
@@ -122,7 +133,7 @@ def border(j, c):
 def orient_by(j, c):
     """a caller's own signs"""
     if not c.fine:
-        j.call("planner_orient_by", [c.d], [("u32", c.ws), ("i32", [1] * j.rnd.randrange(4))], [], c.want())
+        j.call("planner_orient_by", [c.d], [("u32", c.ws), ("i32", [1] * j.rnd.randrange(4))], [], c.want_signs())
         return
     signs = inputs.signs_for(j.rnd, c.cells, signs_of(j, c))
     late, yes = None, 0
@@ -131,7 +142,7 @@ def orient_by(j, c):
     else:
         yes = int(c.d > 0 and m.coherent(c.rows, signs))
         j.agree("orient_by", "ok " + ("yes" if yes else "no"), j.rust.ask("orientby %s %s" % (c.line, "".join("+" if x == 1 else "-" for x in signs))))
-    j.call("planner_orient_by", [c.d], [("u32", c.ws), ("i32", signs)], [], c.want(late, value=yes))
+    j.call("planner_orient_by", [c.d], [("u32", c.ws), ("i32", signs)], [], c.want_signs(late, value=yes))
 
 
 YES = 1 << 31          # added to a count where the order agrees, or is handed out

@@ -225,7 +225,7 @@ uint64_t planner_border(
 
 /* One sign a cell, in the colex order of the cells: +1 or -1, coherent, +1 at the lowest cell of each facet-connected piece. Returns how many
  * cells there are, which is the length needed of signs. Refused: 1, 2, 3, 4, 6, 5, 12 (working lists), 7, 13, 12 (signs).
- * Working lists: keys max(1, d) * n, rows n, spare n, counts n. */
+ * Working lists: keys 5 * n, rows n, spare n, counts n. */
 uint64_t planner_orientation(
     uint32_t d, const uint32_t *words, size_t n, int32_t *signs, size_t signs_len, uint32_t *keys, size_t keys_len, uint32_t *rows, size_t rows_len,
     uint32_t *spare, size_t spare_len, uint32_t *counts, size_t counts_len);
@@ -237,7 +237,7 @@ uint64_t planner_orientation_looks(
     uint32_t *spare, size_t spare_len, uint32_t *counts, size_t counts_len, uint32_t looks[1]);
 
 /* 1 exactly if the caller's signs are coherent, else 0; in dimension 0 always 0. Refused: 1, 2, 3, 4, 6, 5, 12 (working lists), 7, 14 (the list is not one
- * +1 or -1 for each cell). Working lists: keys max(1, d) * n, rows n, spare n, counts n. */
+ * +1 or -1 for each cell). Working lists: keys 5 * n, rows n, spare n, counts n. */
 uint64_t planner_orient_by(
     uint32_t d, const uint32_t *words, size_t n, const int32_t *signs, size_t signs_len, uint32_t *keys, size_t keys_len, uint32_t *rows, size_t rows_len,
     uint32_t *spare, size_t spare_len, uint32_t *counts, size_t counts_len);

@@ -3,3 +3,4 @@ pub mod Passing
 pub mod Border
 pub mod Tabling
 pub mod Recording
+pub mod Joining

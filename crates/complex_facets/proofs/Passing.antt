@@ -24,7 +24,7 @@ use Rattle.complex_cells.proofs.Words.{Word, In}
 use Rattle.complex_cells.proofs.Named.{named, rowList-at}
 use Rattle.complex_mates.specs.Table.{Written, Paired, Three, Meet, MateTable, Meeting}
 use Rattle.complex_mates.proofs.Meeting.{crowd, mate-table, slots-most}
-use Rattle.complex_facets.specs.WorkClasses.{Classes, Pass}
+use Rattle.complex_facets.specs.WorkClasses.{Turning, Classed, Classes, Pass, Found}
 use Rattle.lists.proofs.Words.{same-word, word-true, word-false}
 use Rattle.complex_facets.proofs.Numbers.{numbers-one, numbers-two, tab-in, in-tab}
 
@@ -145,9 +145,38 @@ module _ (d m b : ℕ) (keys rows spare counts : List ℕ) (a : Meeting d m b ke
   pub pass : Pass d (cut (suc d) m rows) f keys′ reps others mates
   pass = record { classes = classes; mates = table; meet = meet }
 
--- the same, with the number of rows a cell as the code has it
-pub pass-done : (d m b : ℕ) (keys rows spare counts : List ℕ) → Meeting d m b keys rows spare counts → m * slots d * d < 4294967296 → (k : ℕ) → k ≡ slots d → (keys′ : List ℕ) → length keys′ ≡ length keys → (f : ℕ) (reps ids others mates : List ℕ) →
-    Written d k rows keys′ (m * k) → Distinct (cell keys′ d) d (m * k) f reps ids → m * k ≤ length reps → f ≤ length others → Paired (m * k) ids mates → ((i : ℕ) → i < f → getD others i 0 ≡ getD mates (getD reps i 0) 0) → Pass d (cut (suc d) m rows) f keys′ reps others mates
-pass-done d m b keys rows spare counts a narrow k e keys′ l f reps ids others mates =
-    subst (λ (z : ℕ). Written d z rows keys′ (m * z) → Distinct (cell keys′ d) d (m * z) f reps ids → m * z ≤ length reps → f ≤ length others → Paired (m * z) ids mates → ((i : ℕ) → i < f → getD others i 0 ≡ getD mates (getD reps i 0) 0) → Pass d (cut (suc d) m rows) f keys′ reps others mates) (sym e)
-    (λ w q lr lo p o. pass d m b keys rows spare counts a keys′ l w f reps ids others mates q lr lo p o narrow)
+  -- the facet of a row
+  pub row-facet : (x : ℕ) → x < m * slots d → getD (facetsOf d (cut (suc d) m rows)) (getD ids x 0) [] ≡ facetRowOf d (cut (suc d) m rows) x
+  row-facet x h = sym (its-row (getD ids x 0) (q .id-below x h) x h refl)
+
+-- what the pass leaves, with the number of rows a cell as the code has it
+pub classed-done : (d m b : ℕ) (keys rows spare counts : List ℕ) → Meeting d m b keys rows spare counts → (k : ℕ) → k ≡ slots d → (keys′ : List ℕ) → length keys′ ≡ length keys → (f : ℕ) (reps ids mates : List ℕ) (sound : Bool) →
+    Written d k rows keys′ (m * k) → Distinct (cell keys′ d) d (m * k) f reps ids → (sound ≡ true → Paired (m * k) ids mates) → (sound ≡ false → Three (m * k) ids) → Classed d m sound f rows keys′ reps ids mates
+classed-done d m b keys rows spare counts a k e keys′ l f reps ids mates sound =
+    subst (λ (z : ℕ). Written d z rows keys′ (m * z) → Distinct (cell keys′ d) d (m * z) f reps ids → (sound ≡ true → Paired (m * z) ids mates) → (sound ≡ false → Three (m * z) ids) → Classed d m sound f rows keys′ reps ids mates) (sym e)
+    (λ w q p t. record { written = w; distinct = q; yes = p; no = λ n. crowd d m rows keys′ reps ids (a .cells) (omega (arith, a .keys-long)) w f q (t n) })
+
+-- the facets with their other rows
+module _ (d m b : ℕ) (keys rows spare counts : List ℕ) (a : Meeting d m b keys rows spare counts) (sound : Bool) (f : ℕ) (keys′ reps ids mates : List ℕ) (lk : length keys′ ≡ length keys) (lr : length reps ≡ length spare) (lm : length mates ≡ length rows) (c : Classed d m sound f rows keys′ reps ids mates) where
+  few-rows : m * slots d ≤ m * suc d
+  few-rows = mul-le-mul-left m (slots-most d)
+
+  -- there are no more facets than rows
+  pub count-most : f ≤ m * slots d
+  count-most = c .distinct .few
+
+  pub turning : (to : List ℕ) → f ≤ length to → Turning f reps mates to
+  turning to h =
+      record {
+        in-reps = omega (arith, count-most, few-rows, a .spare-long);
+        in-to = h;
+        inside = λ i h. omega (arith, c .distinct .below i h, few-rows, a .rows-long);
+      }
+
+  module _ (narrow : m * slots d * d < 4294967296) (others : List ℕ) (lo : f ≤ length others) (turned : (i : ℕ) → i < f → getD others i 0 ≡ getD mates (getD reps i 0) 0) where
+    pub classed-pass : sound ≡ true → Pass d (cut (suc d) m rows) f keys′ reps others mates
+    classed-pass e =
+        pass d m b keys rows spare counts a keys′ lk (c .written) f reps ids others mates (c .distinct) (omega (arith, few-rows, a .spare-long)) lo (c .yes e) turned narrow
+
+    pub classed-found : Found d (cut (suc d) m rows) sound f keys′ reps others mates
+    classed-found = record { yes = classed-pass; no = c .no }

@@ -22,8 +22,9 @@ use Rattle.complex_cells.specs.WorkNamed.{Named}
 use Rattle.complex_cells.proofs.Words.{Word}
 use Rattle.complex_cells.proofs.Named.{named-many}
 use Rattle.complex_facets.specs.WorkClasses.{Classes, Pass}
-use Rattle.complex_facets.specs.Sides.{orNone, cellOf}
-use Rattle.complex_facets.specs.Records.{signMark, signedOf, keptOf, oneIf, agreeOf, recordOf, eachRecord, recordsOf, zeroIf, signAt, fiveOf, fives}
+use Rattle.complex_facets.specs.WorkSides.{orNone, cellOf}
+use Rattle.complex_facets.specs.Records.{signMark, signedOf, keptOf, oneIf, agreeOf, recordOf, eachRecord, recordsOf}
+use Rattle.complex_facets.specs.WorkRecords.{zeroIf, signAt, fiveOf, fives}
 
 -- one more other row is stored
 pub turn-more : (i : ℕ) (reps mates to : List ℕ) (v : ℕ) → i < length to → v ≡ getD mates (getD reps i 0) 0 → ((j : ℕ) → j < i → getD to j 0 ≡ getD mates (getD reps j 0) 0) → (j : ℕ) → j < i + 1 → getD (set to i v) j 0 ≡ getD mates (getD reps j 0) 0

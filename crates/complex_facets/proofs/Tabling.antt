@@ -19,7 +19,8 @@ use Rattle.complex_cells.proofs.Words.{Word}
 use Rattle.complex_cells.proofs.Named.{named-many}
 use Rattle.lists.specs.Words.{none}
 use Rattle.complex_facets.specs.WorkClasses.{Classes}
-use Rattle.complex_facets.specs.Sides.{sideOf, sidesOf, eachSides, tableOf, orNone, cellOf, placeOf, fourOf, fours}
+use Rattle.complex_facets.specs.Sides.{sideOf, sidesOf, eachSides, tableOf}
+use Rattle.complex_facets.specs.WorkSides.{orNone, cellOf, placeOf, fourOf, fours}
 
 snoc-length : (p : List ℕ) (a n : ℕ) → length p ≡ n → length (p ++ (a ∷ [])) ≡ n + 1
 snoc-length p a n e = omega (arith, length-append p (a ∷ []))

@@ -1,14 +1,13 @@
 -- One record a facet (document 02, K8): its lower cell and the induced sign there, its other cell and the induced sign there, and whether the words of its cells agree. Assumes nothing.
 use mathlib.Core.Bool.{Bool, true, false}
 use mathlib.Core.List.{List, [], _∷_, _++_}
-use Prim.Native.Nat.{ℕ, zero, suc, _+_, _-_, _*_, _/_, _%_, _<_, _≤_}
-use lib.Dec.{eqb}
-use lib.ListN.{length, getD, drop}
+use Prim.Native.Nat.{ℕ, _-_, _*_, _/_, _%_}
+use lib.ListN.{getD, drop}
+use Rattle.refusal.specs.declared.Room.{Room}
 use Rattle.multiindex.specs.Sign.{Sign, plus, minus, induced}
 use Rattle.lists.specs.Words.{sameWord, without, none}
 use Rattle.complex.specs.Facets.{cellAt, slots}
 use Rattle.complex.specs.Skeleton.{facetsOf, rowsWith}
-use Rattle.complex_facets.specs.Sides.{cellOf}
 
 -- a sign as a mark: 1 for +, 2 for -
 abbrev pub signMark : Sign → ℕ
@@ -47,26 +46,6 @@ eachRecord d cs ks (f ∷ fs) = recordOf d cs ks f ++ eachRecord d cs ks fs
 abbrev pub recordsOf : ℕ → List (List ℕ) → List (List ℕ) → List ℕ
 recordsOf d cs ks = eachRecord d cs ks (facetsOf d cs)
 
--- ---- as the code has it, by row numbers, k rows a cell
-abbrev pub zeroIf : Bool → ℕ → ℕ
-zeroIf true v = 0
-zeroIf false v = v
-
-abbrev pub signAt : ℕ → ℕ → ℕ → ℕ
-signAt d k x = zeroIf (eqb x none) ((d - x % k) % 2 + 1)
-
-abbrev pub fiveOf : ℕ → ℕ → ℕ → ℕ → List ℕ
-fiveOf d k x y = cellOf k x ∷ signAt d k x ∷ cellOf k y ∷ signAt d k y ∷ 1 ∷ []
-
-unfoldable pub fives : ℕ → ℕ → ℕ → List ℕ → List ℕ → List ℕ
-fives d k zero reps others = []
-fives d k (suc f) reps others = fives d k f reps others ++ fiveOf d k (getD reps f 0) (getD others f 0)
-
--- what writing f facets' records asks
-pub record Recording (d k f : ℕ) (reps others records : List ℕ) : Type 0 where
-  pub some : 0 < f → 0 < k
-  pub few : k ≤ suc d
-  pub dim : d < 4294967295
-  pub in-reps : f ≤ length reps
-  pub in-others : f ≤ length others
-  pub room : f * 5 ≤ length records
+-- what a call that reads the records needs of its working lists, where n is the number of corners of the words: there are no more facets than corners
+abbrev pub recordNeed : ℕ → Room
+recordNeed n = record { keys = n * 5; rows = n; spare = n; counts = n }

@@ -6,7 +6,10 @@ use Prim.Native.Nat.{ℕ, zero, suc, _*_, _<_, _≤_}
 use lib.Dec.{eqb}
 use lib.ListN.{length, getD}
 use Rattle.lists.specs.Words.{none}
-use Rattle.complex_mates.specs.Table.{Meet, MateTable}
+use Rattle.lists.specs.Rows.{cut}
+use Rattle.sorting.specs.Bucket.{cell}
+use Rattle.sorting.specs.Distinct.{Distinct}
+use Rattle.complex_mates.specs.Table.{Written, Paired, Meet, MateTable}
 use Rattle.complex.specs.Facets.{Crowded, slots}
 use Rattle.complex.specs.Skeleton.{facetsOf, rowsWith, onlyIf}
 use Rattle.complex_cells.specs.WorkNamed.{Named}
@@ -16,6 +19,13 @@ pub record Turning (f : ℕ) (reps mates to : List ℕ) : Type 0 where
   pub in-reps : f ≤ length reps
   pub in-to : f ≤ length to
   pub inside : (i : ℕ) → i < f → getD reps i 0 < length mates
+
+-- what one pass over the facet rows of m cells leaves: the rows, the lowest row of each of the f facets, the facet of each row, and the mates, or that a facet lies in three cells
+pub record Classed (d m : ℕ) (sound : Bool) (f : ℕ) (cells keys reps ids mates : List ℕ) : Type 0 where
+  pub written : Written d (slots d) cells keys (m * slots d)
+  pub distinct : Distinct (cell keys d) d (m * slots d) f reps ids
+  pub yes : sound ≡ true → Paired (m * slots d) ids mates
+  pub no : sound ≡ false → Crowded d (cut (suc d) m cells)
 
 -- the facets of cells: f of them, named by their lowest rows, and the other row of each, or none
 pub record Classes (d : ℕ) (cs : List (List ℕ)) (f : ℕ) (keys reps others : List ℕ) : Type 0 where

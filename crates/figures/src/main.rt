@@ -44,7 +44,7 @@ fn line(n: u32) {
 // The signs of a list of words.
 fn signs(d: u32, words: &[u32]) {
     let mut signs = [0i32; 6];
-    let mut keys = [7u32; 64];
+    let mut keys = [7u32; 160];
     let mut rows = [7u32; 32];
     let mut spare = [7u32; 32];
     let mut counts = [7u32; 32];

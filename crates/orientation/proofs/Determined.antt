@@ -10,7 +10,7 @@ use Rattle.orientation.specs.declared.Coherence.the-variants.{Refused}
 use Rattle.refusal.specs.Lent.{onto, lengths}
 use Rattle.refusal.proofs.Determined.{comes-one, cleared-one}
 use Rattle.complex.specs.Check.{answerOf}
-use Rattle.complex.specs.Room.{needOf}
+use Rattle.complex_facets.specs.Records.{recordNeed}
 use Rattle.complex.specs.Cells.{cellsOf}
 use Rattle.orientation_signs.proofs.Unique.{one-list}
 use Rattle.orientation.specs.Promise.{Ends, crowded, one-sided, short, signed, Orientation}
@@ -37,7 +37,7 @@ ends-one d cs g r r′ l l′ (signed n σ o h) (signed n′ τ p k) = (refl, on
 pub orientation-one : (d : ℕ) (ws : List ℕ) (r r′ : Coherence) (signs s s′ : List ℤ) (keys k k′ rows o o′ spare p p′ counts c c′ : List ℕ) → Orientation d ws r signs s keys k rows o spare p counts c → Orientation d ws r′ signs s′ keys k′ rows o′ spare p′ counts c′ →
     (r ≡ r′) × (s ≡ s′) × ((k ≡ k′) × (o ≡ o′) × (p ≡ p′) × (c ≡ c′))
 orientation-one d ws r r′ signs s s′ keys k k′ rows o o′ spare p p′ counts c c′ a b =
-    let w = comes-one Refused [] (answerOf d ws) (needOf d (length ws)) (lengths keys rows spare counts) (Ends d (cellsOf d ws) (length signs)) (ends-one d (cellsOf d ws) (length signs)) (a .comes) (b .comes) in (
+    let w = comes-one Refused [] (answerOf d ws) (recordNeed (length ws)) (lengths keys rows spare counts) (Ends d (cellsOf d ws) (length signs)) (ends-one d (cellsOf d ws) (length signs)) (a .comes) (b .comes) in (
       w .0,
       a .result ∙ ap (λ (l : List ℤ). onto l signs) (w .1) ∙ sym (b .result),
       cleared-one (a .used) (b .used) keys k k′ rows o o′ spare p p′ counts c c′ (w .2) (a .room) (b .room),

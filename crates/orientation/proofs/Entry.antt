@@ -15,18 +15,18 @@ use Rattle.refusal.specs.Call.{Comes, refused, cramped, ended}
 use Rattle.refusal.proofs.Parts.{parts-cleared}
 use Rattle.lists.specs.Zero.{AllZero}
 use Rattle.complex.specs.Check.{answerOf}
-use Rattle.complex.specs.Room.{needOf}
+use Rattle.complex_facets.specs.Records.{recordNeed}
 use Rattle.complex.proofs.Fine.{fine-passed}
 use Rattle.complex.specs.Cells.{cellsOf}
 use Rattle.orientation.specs.Promise.{Ends, Orientation}
-use Rattle.orientation.specs.Work.{Working, Worked}
+use Rattle.orientation.specs.Work.{Furnished, Worked}
 
 module _ (d : ℕ) (ws : List ℕ) (out : List ℤ) (keys rows spare counts : List ℕ) where
   pub out-refused : (n p : ℕ) → answerOf d ws ≡ Answer.Refused n p → Orientation d ws (Refused n p) out out keys keys rows rows spare spare counts counts
   out-refused n p e =
       record { handed = []; used = untouched; comes = refused e; result = refl; room = record { of-keys = refl; of-rows = refl; of-spare = refl; of-counts = refl } }
 
-  pub out-cramped : answerOf d ws ≡ Answer.Fine → (n : Room) → n ≡ needOf d (length ws) → (Roomy n (lengths keys rows spare counts) → ⊥) → Orientation d ws (Refused tooShort 0) out out keys keys rows rows spare spare counts counts
+  pub out-cramped : answerOf d ws ≡ Answer.Fine → (n : Room) → n ≡ recordNeed (length ws) → (Roomy n (lengths keys rows spare counts) → ⊥) → Orientation d ws (Refused tooShort 0) out out keys keys rows rows spare spare counts counts
   out-cramped e n q f =
       record {
         handed = [];
@@ -36,8 +36,8 @@ module _ (d : ℕ) (ws : List ℕ) (out : List ℤ) (keys rows spare counts : Li
         room = record { of-keys = refl; of-rows = refl; of-spare = refl; of-counts = refl };
       }
 
-  module _ (e : answerOf d ws ≡ Answer.Fine) (n : Room) (q : n ≡ needOf d (length ws)) (h : Roomy n (lengths keys rows spare counts)) where
-    pub working : Working d ws (take (n .keys) keys) (take (n .rows) rows) (take (n .spare) spare) (take (n .counts) counts)
+  module _ (e : answerOf d ws ≡ Answer.Fine) (n : Room) (q : n ≡ recordNeed (length ws)) (h : Roomy n (lengths keys rows spare counts)) where
+    pub working : Furnished d ws (take (n .keys) keys) (take (n .rows) rows) (take (n .spare) spare) (take (n .counts) counts)
     working =
         record {
           passed = fine-passed d ws e;

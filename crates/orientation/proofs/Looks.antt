@@ -10,7 +10,7 @@ use Rattle.refusal.specs.declared.Room.{Room}
 use Rattle.refusal.specs.Lent.{lengths}
 use Rattle.refusal.specs.Call.{Comes, refused, cramped, ended}
 use Rattle.complex.specs.Check.{answerOf}
-use Rattle.complex.specs.Room.{needOf}
+use Rattle.complex_facets.specs.Records.{recordNeed}
 use Rattle.complex.specs.Cells.{cellsOf}
 use Rattle.complex.specs.Facets.{slots}
 use Rattle.orientation_signs.specs.Looks.{looksOf}
@@ -37,7 +37,7 @@ module _ {d : ℕ} {ws : List ℕ} {r : Coherence} {signs signs′ : List ℤ} {
   pub looks-are : (n : ℕ) → Reports r n → n ≡ looksOf d (cellsOf d ws)
   looks-are n q = go (p .comes) q
     where
-      go : {s : Coherence} {h : List ℤ} {u : Room} → Comes Refused [] (answerOf d ws) (needOf d (length ws)) (lengths keys rows spare counts) (Ends d (cellsOf d ws) (length signs)) s h u → Reports s n → n ≡ looksOf d (cellsOf d ws)
+      go : {s : Coherence} {h : List ℤ} {u : Room} → Comes Refused [] (answerOf d ws) (recordNeed (length ws)) (lengths keys rows spare counts) (Ends d (cellsOf d ws) (length signs)) s h u → Reports s n → n ≡ looksOf d (cellsOf d ws)
       go (refused e) k = absurd k
       go (cramped e f) k = absurd k
       go (ended e f (crowded x)) k = absurd k
@@ -49,7 +49,7 @@ module _ {d : ℕ} {ws : List ℕ} {r : Coherence} {signs signs′ : List ℤ} {
   pub looks-bounded : Bounded d (length (cellsOf d ws)) r
   looks-bounded = go (p .comes)
     where
-      go : {s : Coherence} {h : List ℤ} {u : Room} → Comes Refused [] (answerOf d ws) (needOf d (length ws)) (lengths keys rows spare counts) (Ends d (cellsOf d ws) (length signs)) s h u → Bounded d (length (cellsOf d ws)) s
+      go : {s : Coherence} {h : List ℤ} {u : Room} → Comes Refused [] (answerOf d ws) (recordNeed (length ws)) (lengths keys rows spare counts) (Ends d (cellsOf d ws) (length signs)) s h u → Bounded d (length (cellsOf d ws)) s
       go (refused e) = tt
       go (cramped e f) = tt
       go (ended e f (crowded x)) = tt

@@ -17,18 +17,19 @@ use Rattle.complex.specs.Cells.{cellsOf}
 use Rattle.lists.proofs.Rows.{cut-length}
 use Rattle.complex.specs.Facets.{Crowded, Cells, slots}
 use Rattle.lists.specs.Words.{none}
-use Rattle.complex_mates.specs.Table.{MateTable, Meeting}
+use Rattle.complex_mates.specs.Table.{Meeting}
+use Rattle.complex_facets.specs.WorkAcross.{Keeping, Linked}
 use Rattle.complex_mates.proofs.Meeting.{slots-most}
 use Rattle.complex_cells.specs.WorkMade.{Making, Made}
 use Rattle.multiindex.specs.Sign.{Sign, signNumber}
 use Rattle.orientation_signs.specs.Signs.{Coherent, Oriented, signList}
 use Rattle.orientation_signs.specs.Looks.{looksOf}
-use Rattle.orientation_signs.specs.WorkFound.{signOf, markNumber, handedOut, Finding, Found}
+use Rattle.orientation_signs.specs.WorkFound.{signOf, markNumber, handedOut, Searching, Found}
 use Rattle.complex_mates.proofs.Mated.{not-crowded}
 use Rattle.orientation_signs.proofs.Whole.{looks-whole}
 use Rattle.complex.specs.Room.{keyRoom}
 use Rattle.orientation.specs.Promise.{Ends, crowded, one-sided, short, signed}
-use Rattle.orientation.specs.Work.{Working, Worked}
+use Rattle.orientation.specs.Work.{Furnished, Working, Worked}
 
 pub room-least : (d n : ℕ) → n ≤ keyRoom d n
 room-least zero n = omega arith
@@ -60,30 +61,58 @@ handed-signs (x ∷ xs) (suc m) h =
 pub cells-fit : (d : ℕ) (ws : List ℕ) (m : ℕ) (rows : List ℕ) → Made d ws m rows → m < 4294967296
 cells-fit d ws m rows a = omega (arith, a .most, a .corners, mul-suc m d)
 
-module _ (d : ℕ) (ws keys rows spare counts : List ℕ) (w : Working d ws keys rows spare counts) where
+-- where there is room for the facet rows, a pass over them can be made
+module _ (d : ℕ) (ws keys rows spare counts : List ℕ) (w : Working d ws keys rows spare counts) (m : ℕ) (keys′ rows′ spare′ counts′ : List ℕ) (lk : length keys′ ≡ length keys) (lr : length rows′ ≡ length rows) (ls : length spare′ ≡ length spare) (lc : length counts′ ≡ length counts) (a : Made d ws m rows′) where
+  pub meeting : Meeting d m (length ws) keys′ rows′ spare′ counts′
+  meeting =
+      record {
+        cells = a .cells;
+        rows-long = omega (arith, a .most, w .rows-long);
+        keys-long = omega (arith, room-rows d m (length ws) (a .most), w .keys-long);
+        spare-long = omega (arith, a .most, w .spare-long);
+        counts-long = omega (arith, a .most, w .counts-long);
+        buckets = omega (arith, w .counts-long);
+        few = omega (arith, a .most, a .corners);
+        small = omega (arith, w .passed .small);
+        below = a .below;
+      }
+
+module _ (d : ℕ) (ws keys rows spare counts : List ℕ) (w : Furnished d ws keys rows spare counts) where
   pub making : Making d ws keys rows spare counts
   making =
       record {
         passed = w .passed;
-        keys-long = omega (arith, w .keys-long, room-least d (length ws));
+        keys-long = omega (arith, w .keys-long);
         rows-long = omega (arith, w .rows-long);
         spare-long = omega (arith, w .spare-long);
         counts-long = omega (arith, w .counts-long);
       }
 
   module _ (m : ℕ) (keys′ rows′ spare′ counts′ : List ℕ) (lk : length keys′ ≡ length keys) (lr : length rows′ ≡ length rows) (ls : length spare′ ≡ length spare) (lc : length counts′ ≡ length counts) (a : Made d ws m rows′) where
-    pub meeting : Meeting d m (length ws) keys′ rows′ spare′ counts′
-    meeting =
+    -- there are no more facet rows than corners, and five numbers are enough for one in every dimension up to 5
+    slots-fit : m * slots d ≤ length ws
+    slots-fit = omega (arith, mul-le-mul-left m (slots-most d), a .most)
+
+    rows-fit : m * slots d * d ≤ m * slots d * 5
+    rows-fit = mul-le-mul-left (m * slots d) (omega (arith, w .passed .small))
+
+    pub keeping : Keeping d m (length ws) keys′ rows′ spare′ counts′
+    keeping =
         record {
-          cells = a .cells;
-          rows-long = omega (arith, a .most, w .rows-long);
-          keys-long = omega (arith, room-rows d m (length ws) (a .most), w .keys-long);
-          spare-long = omega (arith, a .most, w .spare-long);
-          counts-long = omega (arith, a .most, w .counts-long);
-          buckets = omega (arith, w .counts-long);
-          few = omega (arith, a .most, a .corners);
-          small = omega (arith, w .passed .small);
-          below = a .below;
+          meeting =
+              record {
+                cells = a .cells;
+                rows-long = omega (arith, a .most, w .rows-long);
+                keys-long = omega (arith, rows-fit, slots-fit, w .keys-long);
+                spare-long = omega (arith, a .most, w .spare-long);
+                counts-long = omega (arith, a .most, w .counts-long);
+                buckets = omega (arith, w .counts-long);
+                few = omega (arith, a .most, a .corners);
+                small = omega (arith, w .passed .small);
+                below = a .below;
+              };
+          narrow = omega (arith, rows-fit, slots-fit, a .corners);
+          room = omega (arith, slots-fit, w .keys-long);
         }
 
     cells-many : length (cellsOf d ws) ≡ m
@@ -93,29 +122,25 @@ module _ (d : ℕ) (ws keys rows spare counts : List ℕ) (w : Working d ws keys
     pub worked-crowded : (out : List ℤ) → Crowded d (cut (suc d) m rows′) → Worked d ws (Refused crowdedFacet 0) out out
     worked-crowded out x = record { handed = []; ends = crowded (subst (λ (cs : List (List ℕ)). Crowded d cs) (a .same) x); result = refl }
 
-    module _ (keys″ rows″ spare″ counts″ : List ℕ) (lk″ : length keys″ ≡ length keys′) (lr″ : length rows″ ≡ length rows′) (ls″ : length spare″ ≡ length spare′) (lc″ : length counts″ ≡ length counts′) (t : MateTable d (cut (suc d) m rows′) rows″) where
-      slots-fit : m * slots d ≤ length ws
-      slots-fit = omega (arith, mul-le-mul-left m (slots-most d), a .most)
-
-      pub finding : Finding d m rows″ keys″ spare″ counts″
-      finding =
+    module _ (keys″ rows″ spare″ counts″ : List ℕ) (lk″ : length keys″ ≡ length keys′) (lr″ : length rows″ ≡ length rows′) (ls″ : length spare″ ≡ length spare′) (lc″ : length counts″ ≡ length counts′) (t : Linked d (cut (suc d) m rows′) rows″ spare″) where
+      pub searching : Searching d m rows″ spare″ counts″ keys″
+      searching =
           record {
             cs = cut (suc d) m rows′;
             many = cut-length (suc d) m rows′;
-            mates = t;
-            rows-long = omega (arith, slots-fit, w .rows-long);
-            keys-long = omega (arith, slots-fit, w .keys-long, room-least d (length ws));
-            spare-long = omega (arith, slots-fit, w .spare-long);
-            counts-long = omega (arith, a .most, mul-suc m d, w .counts-long);
-            stack-long = omega (arith, a .most, mul-suc m d, w .rows-long);
+            linked = t;
+            other-long = omega (arith, slots-fit, w .rows-long);
+            flip-long = omega (arith, slots-fit, w .spare-long);
+            marks-long = omega (arith, a .most, mul-suc m d, w .counts-long);
+            stack-long = omega (arith, a .most, mul-suc m d, w .keys-long);
             few = omega (arith, a .most, a .corners);
             small = omega (arith, w .passed .small);
           }
 
       free : Crowded d (cellsOf d ws) → ⊥
-      free x = not-crowded d m (cut (suc d) m rows′) (cut-length (suc d) m rows′) rows″ t (omega (arith, a .most, a .corners)) (subst (λ (cs : List (List ℕ)). Crowded d cs) (sym (a .same)) x)
+      free x = not-crowded d m (cut (suc d) m rows′) (cut-length (suc d) m rows′) (t .mates) (t .table) (omega (arith, a .most, a .corners)) (subst (λ (cs : List (List ℕ)). Crowded d cs) (sym (a .same)) x)
 
-      module _ (ok : Bool) (looks : ℕ) (marks : List ℕ) (lm : length marks ≡ length counts″) (f : (cs : List (List ℕ)) → length cs ≡ m → MateTable d cs rows″ → Found d cs ok looks marks) where
+      module _ (ok : Bool) (looks : ℕ) (marks : List ℕ) (lm : length marks ≡ length counts″) (f : (cs : List (List ℕ)) → length cs ≡ m → Linked d cs rows″ spare″ → Found d cs ok looks marks) where
         f′ : Found d (cut (suc d) m rows′) ok looks marks
         f′ = f (cut (suc d) m rows′) (cut-length (suc d) m rows′) t
 

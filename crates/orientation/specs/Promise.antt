@@ -12,7 +12,7 @@ use Rattle.refusal.specs.Lent.{onto, lengths, Cleared}
 use Rattle.refusal.specs.Call.{Comes}
 use Rattle.multiindex.specs.Sign.{Sign}
 use Rattle.complex.specs.Check.{answerOf}
-use Rattle.complex.specs.Room.{needOf}
+use Rattle.complex_facets.specs.Records.{recordNeed}
 use Rattle.complex.specs.Cells.{cellsOf}
 use Rattle.complex.specs.Facets.{Crowded, slots}
 use Rattle.orientation_signs.specs.Signs.{Coherent, Oriented, signList}
@@ -41,6 +41,6 @@ pub data Ends (d : ℕ) (cs : List (List ℕ)) (given : ℕ) : Coherence → Lis
 pub record Orientation (d : ℕ) (ws : List ℕ) (r : Coherence) (signs signs′ : List ℤ) (keys keys′ rows rows′ spare spare′ counts counts′ : List ℕ) : Type 0 where
   pub handed : List ℤ
   pub used : Room
-  pub comes : Comes Refused [] (answerOf d ws) (needOf d (length ws)) (lengths keys rows spare counts) (Ends d (cellsOf d ws) (length signs)) r handed used
+  pub comes : Comes Refused [] (answerOf d ws) (recordNeed (length ws)) (lengths keys rows spare counts) (Ends d (cellsOf d ws) (length signs)) r handed used
   pub result : signs′ ≡ onto handed signs
   pub room : Cleared used keys keys′ rows rows′ spare spare′ counts counts′

@@ -1,7 +1,7 @@
 -- What the work of `orientation` asks of its lists, of just the lengths that are needed, and what it gives. Assumes nothing.
 use mathlib.Core.List.{List}
 use mathlib.Core.Path.{_≡_}
-use Prim.Native.Nat.{ℕ}
+use Prim.Native.Nat.{ℕ, _*_}
 use lib.IntN.{ℤ}
 use lib.ListN.{length}
 use Rattle.refusal.specs.Lent.{onto}
@@ -12,6 +12,15 @@ use Rattle.complex.specs.Cells.{cellsOf}
 use Rattle.orientation.specs.declared.Coherence.{Coherence}
 use Rattle.orientation.specs.Promise.{Ends}
 
+-- a checked word list, and the room for its facets' records
+pub record Furnished (d : ℕ) (ws keys rows spare counts : List ℕ) : Type 0 where
+  pub passed : Passed d ws
+  pub keys-long : length keys ≡ length ws * 5
+  pub rows-long : length rows ≡ length ws
+  pub spare-long : length spare ≡ length ws
+  pub counts-long : length counts ≡ length ws
+
+-- the same, with the room for its facet rows
 pub record Working (d : ℕ) (ws keys rows spare counts : List ℕ) : Type 0 where
   pub passed : Passed d ws
   pub keys-long : length keys ≡ keyRoom d (length ws)

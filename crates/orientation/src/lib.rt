@@ -3,10 +3,10 @@
 // Follows `Complex::orientation` (crates/simplicial/src/topology/orientation.rs).
 //
 // What the working lists hold, one phase after the other:
-//   keys     sorted words     facet rows     the cell across each slot
-//   rows     cells            mates          the stack of the walk
-//   spare    first rows       first rows     whether signs differ across each slot
-//   counts   buckets          classes        signs, 1 for + and 2 for -
+//   keys     sorted words     facet rows     records of the facets     the stack of the walk
+//   rows     cells            mates          other rows of the facets  the cell across each slot
+//   spare    first rows       first rows     first rows                whether signs differ across each slot
+//   counts   buckets          facets of rows facets of rows            signs, 1 for + and 2 for -
 use refusal::Answer;
 use refusal::CROWDED_FACET;
 use refusal::Counted;
@@ -18,7 +18,7 @@ ghost use Prim.Native.Nat.{_*_, _<_, _≤_};
 ghost use lib.ListN.{length};
 ghost use Rattle.lists.specs.Zero.{AllZero};
 ghost use Rattle.orientation.specs.Promise.{Orientation, countedOf};
-ghost use Rattle.orientation.specs.Work.{Working, Worked};
+ghost use Rattle.orientation.specs.Work.{Furnished, Worked};
 
 // What the call says: how many cells got signs, or that there are no coherent signs, each with the facet looks of the walk; or another refusal, with its number and place.
 pub enum Coherence {
@@ -48,14 +48,14 @@ fn work(
     spare: &mut [u32],
     counts: &mut [u32],
 ) -> Coherence
-    requires { ⌜ Working d (now words) (now keys) (now rows) (now spare) (now counts) ⌝ }
+    requires { ⌜ Furnished d (now words) (now keys) (now rows) (now spare) (now counts) ⌝ }
     ensures { λ r. ⌜ Worked d (now (words .entry)) r (now (signs .entry)) (now (signs .exit)) ⌝ }
 {
     let m = complex_cells::cells(d, words, keys, rows, spare, counts);
-    if !complex_mates::mates(d, m, words.len(), keys, rows, spare, counts) {
+    if !complex_facets::links(d, m, words.len(), keys, rows, spare, counts) {
         return Coherence::Refused(CROWDED_FACET, 0);
     }
-    let searched = orientation_signs::coherent(d, m, rows, keys, spare, counts);
+    let searched = orientation_signs::coherent(d, m, rows, spare, counts, keys);
     if !searched.found {
         return Coherence::OneSided(searched.looks);
     }
@@ -63,7 +63,8 @@ fn work(
         return Coherence::Refused(TOO_SHORT, 0);
     }
     orientation_signs::hand_out(counts, &mut signs[..m]);
-    Coherence::Signs(m as u32, searched.looks)
+    let count = m as u32;
+    Coherence::Signs(count, searched.looks)
 }
 
 // The work, and then the working lists are all zero.
@@ -76,7 +77,7 @@ fn cleared(
     spare: &mut [u32],
     counts: &mut [u32],
 ) -> Coherence
-    requires { ⌜ Working d (now words) (now keys) (now rows) (now spare) (now counts) ⌝ }
+    requires { ⌜ Furnished d (now words) (now keys) (now rows) (now spare) (now counts) ⌝ }
     ensures work { λ r. ⌜ Worked d (now (words .entry)) r (now (signs .entry)) (now (signs .exit)) ⌝ }
     ensures room { λ _.
         ⌜ AllZero (now (keys .entry)) (now (keys .exit)) (now (rows .entry)) (now (rows .exit)) (now (spare .entry)) (now (spare .exit)) (now (counts .entry))
@@ -87,7 +88,7 @@ fn cleared(
     said
 }
 
-// One sign a cell, +1 or -1, coherent, +1 at the lowest cell of each piece, and the walk's facet looks: d + 1 a cell, none in dimension 0. Refused: 1, 2, 3, 4, 6, 5, then 12 where a working list is too short (`needOf`), then 7,
+// One sign a cell, +1 or -1, coherent, +1 at the lowest cell of each piece, and the walk's facet looks: d + 1 a cell, none in dimension 0. Refused: 1, 2, 3, 4, 6, 5, then 12 where a working list is too short (`recordNeed`), then 7,
 // 13 where no coherent signs exist (`OneSided`, with the looks up to the conflict), 12 where the sign list is too short. A refusal changes no sign; from the room's test on what is needed of the working lists is zero at the end.
 pub fn orientation(
     d: u32,
@@ -107,7 +108,7 @@ pub fn orientation(
         return Coherence::Refused(number, place);
     }
     let dim = d as usize;
-    let need = complex::need(dim, words.len());
+    let need = complex_facets::need(words.len());
     let have = Room {
         keys: keys.len(),
         rows: rows.len(),

@@ -12,7 +12,7 @@ use Rattle.refusal.specs.declared.Verdict.the-variants.{Yes, No, Refused}
 use Rattle.refusal.specs.Lent.{lengths}
 use Rattle.refusal.proofs.Determined.{comes-one, cleared-one}
 use Rattle.complex.specs.Check.{answerOf}
-use Rattle.complex.specs.Room.{needOf}
+use Rattle.complex_facets.specs.Records.{recordNeed}
 use Rattle.complex.specs.Cells.{cellsOf}
 use Rattle.complex.specs.Facets.{Crowded, Mates}
 use Rattle.multiindex.specs.Sign.{Sign, plus, minus, opposite, times, induced}
@@ -65,7 +65,7 @@ module _ (d : ℕ) (cs : List (List ℕ)) (signs : List ℤ) where
 pub orient-by-one : (d : ℕ) (ws : List ℕ) (signs : List ℤ) (r r′ : Verdict) (keys k k′ rows o o′ spare p p′ counts c c′ : List ℕ) → OrientBy d ws signs r keys k rows o spare p counts c → OrientBy d ws signs r′ keys k′ rows o′ spare p′ counts c′ →
     (r ≡ r′) × ((k ≡ k′) × (o ≡ o′) × (p ≡ p′) × (c ≡ c′))
 orient-by-one d ws signs r r′ keys k k′ rows o o′ spare p p′ counts c c′ a b =
-    let w = comes-one Refused tt (answerOf d ws) (needOf d (length ws)) (lengths keys rows spare counts) (Ends d (cellsOf d ws) signs) (ends-one d (cellsOf d ws) signs) (a .comes) (b .comes) in (
+    let w = comes-one Refused tt (answerOf d ws) (recordNeed (length ws)) (lengths keys rows spare counts) (Ends d (cellsOf d ws) signs) (ends-one d (cellsOf d ws) signs) (a .comes) (b .comes) in (
       w .0,
       cleared-one (a .used) (b .used) keys k k′ rows o o′ spare p p′ counts c c′ (w .2) (a .room) (b .room),
     )

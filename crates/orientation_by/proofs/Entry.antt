@@ -14,7 +14,7 @@ use Rattle.refusal.specs.Call.{Comes, refused, cramped, ended}
 use Rattle.refusal.proofs.Parts.{parts-cleared}
 use Rattle.lists.specs.Zero.{AllZero}
 use Rattle.complex.specs.Check.{answerOf}
-use Rattle.complex.specs.Room.{needOf}
+use Rattle.complex_facets.specs.Records.{recordNeed}
 use Rattle.complex.specs.Cells.{cellsOf}
 use Rattle.orientation_by.specs.Promise.{Ends, OrientBy}
 
@@ -23,7 +23,7 @@ module _ (d : ℕ) (ws : List ℕ) (signs : List ℤ) (keys rows spare counts : 
   out-refused n p e =
       record { used = untouched; comes = refused e; room = record { of-keys = refl; of-rows = refl; of-spare = refl; of-counts = refl } }
 
-  pub out-cramped : answerOf d ws ≡ Answer.Fine → (n : Room) → n ≡ needOf d (length ws) → (Roomy n (lengths keys rows spare counts) → ⊥) → OrientBy d ws signs (Refused tooShort 0) keys keys rows rows spare spare counts counts
+  pub out-cramped : answerOf d ws ≡ Answer.Fine → (n : Room) → n ≡ recordNeed (length ws) → (Roomy n (lengths keys rows spare counts) → ⊥) → OrientBy d ws signs (Refused tooShort 0) keys keys rows rows spare spare counts counts
   out-cramped e n q f =
       record {
         used = untouched;
@@ -31,7 +31,7 @@ module _ (d : ℕ) (ws : List ℕ) (signs : List ℤ) (keys rows spare counts : 
         room = record { of-keys = refl; of-rows = refl; of-spare = refl; of-counts = refl };
       }
 
-  module _ (e : answerOf d ws ≡ Answer.Fine) (n : Room) (q : n ≡ needOf d (length ws)) (h : Roomy n (lengths keys rows spare counts)) where
+  module _ (e : answerOf d ws ≡ Answer.Fine) (n : Room) (q : n ≡ recordNeed (length ws)) (h : Roomy n (lengths keys rows spare counts)) where
     pub out-ended : (r : Verdict) (k o s c : List ℕ) → Ends d (cellsOf d ws) signs r tt → AllZero (take (n .keys) keys) k (take (n .rows) rows) o (take (n .spare) spare) s (take (n .counts) counts) c →
         OrientBy d ws signs r keys (k ++ drop (n .keys) keys) rows (o ++ drop (n .rows) rows) spare (s ++ drop (n .spare) spare) counts (c ++ drop (n .counts) counts)
     out-ended r k o s c w z =

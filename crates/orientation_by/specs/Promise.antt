@@ -13,7 +13,7 @@ use Rattle.refusal.specs.Lent.{lengths, Cleared}
 use Rattle.refusal.specs.Call.{Comes}
 use Rattle.multiindex.specs.Sign.{Sign}
 use Rattle.complex.specs.Check.{answerOf}
-use Rattle.complex.specs.Room.{needOf}
+use Rattle.complex_facets.specs.Records.{recordNeed}
 use Rattle.complex.specs.Cells.{cellsOf}
 use Rattle.complex.specs.Facets.{Crowded}
 use Rattle.orientation_signs.specs.Signs.{Coherent, signList}
@@ -36,5 +36,5 @@ pub data Ends (d : ℕ) (cs : List (List ℕ)) (signs : List ℤ) : Verdict → 
 -- the promise: r is what the call says, and a list with ′ is what it holds at exit
 pub record OrientBy (d : ℕ) (ws : List ℕ) (signs : List ℤ) (r : Verdict) (keys keys′ rows rows′ spare spare′ counts counts′ : List ℕ) : Type 0 where
   pub used : Room
-  pub comes : Comes Refused tt (answerOf d ws) (needOf d (length ws)) (lengths keys rows spare counts) (Ends d (cellsOf d ws) signs) r tt used
+  pub comes : Comes Refused tt (answerOf d ws) (recordNeed (length ws)) (lengths keys rows spare counts) (Ends d (cellsOf d ws) signs) r tt used
   pub room : Cleared used keys keys′ rows rows′ spare spare′ counts counts′

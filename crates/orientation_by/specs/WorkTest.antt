@@ -10,7 +10,7 @@ use Rattle.orientation_walk.specs.WorkSigns.{turned}
 use Rattle.orientation_walk.specs.WorkSigns as walk
 use Rattle.multiindex.specs.Sign.{Sign}
 use Rattle.orientation_signs.specs.Signs.{Coherent}
-use Rattle.orientation_signs.specs.WorkFound.{signOf, Finding}
+use Rattle.orientation_signs.specs.WorkFound.{signOf, Searching, Finding}
 use Rattle.orientation_by.specs.Promise.{Given}
 
 -- the mark of a number: 1 for +1, 2 for -1, and 0 for any other
@@ -40,7 +40,12 @@ pub record Looking (k n : ℕ) (o fl marks : List ℕ) : Type 0 where
   pub own : (x : ℕ) → x < n → x / k < length marks
   pub small : (x : ℕ) → x < n → getD marks (x / k) 0 ≤ 2
 
--- what the test of m cells' marks asks
+-- what the test of m cells' marks asks: the cell across each of their facets and whether signs differ there
+pub record Weighing (d m : ℕ) (other flip marks : List ℕ) : Type 0 where
+  pub searching : Searching d m other flip marks marks
+  pub signs : (c : ℕ) → c < m → walk.Sign (getD marks c 0)
+
+-- the same where a table of mates stands in rows
 pub record Testing (d m : ℕ) (rows keys spare marks : List ℕ) : Type 0 where
   pub finding : Finding d m rows keys spare marks
   pub signs : (c : ℕ) → c < m → walk.Sign (getD marks c 0)

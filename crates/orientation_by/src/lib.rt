@@ -2,10 +2,10 @@
 // Follows `Complex::orient_by` (crates/simplicial/src/topology/orientation.rs).
 //
 // What the working lists hold, one phase after the other:
-//   keys     sorted words     facet rows     the cell across each slot
-//   rows     cells            mates          mates
-//   spare    first rows       first rows     whether signs differ across each slot
-//   counts   buckets          classes        the signs, 1 for + and 2 for -
+//   keys     sorted words     facet rows     records of the facets     records of the facets
+//   rows     cells            mates          other rows of the facets  the cell across each slot
+//   spare    first rows       first rows     first rows                whether signs differ across each slot
+//   counts   buckets          facets of rows facets of rows            the signs, 1 for + and 2 for -
 use refusal::Answer;
 use refusal::BAD_SIGNS;
 use refusal::CROWDED_FACET;
@@ -19,18 +19,13 @@ ghost use Prim.Native.Nat.{ℕ, _<_, _≤_};
 ghost use lib.ListN.{length, getD};
 ghost use Rattle.lists.specs.Zero.{AllZero};
 ghost use Rattle.complex_mates.specs.Table.{MateTable};
+ghost use Rattle.complex_facets.specs.WorkAcross.{Linked};
 ghost use Rattle.multiindex.specs.Sign.{Sign};
 ghost use Rattle.orientation_signs.specs.WorkFound.{signOf};
 ghost use Rattle.complex.specs.Cells.{cellsOf};
-ghost use Rattle.orientation.specs.Work.{Working};
+ghost use Rattle.orientation.specs.Work.{Furnished};
 ghost use Rattle.orientation_by.specs.Promise.{Given, Ends, OrientBy};
-ghost use Rattle.orientation_by.specs.WorkTest.{markOf, AgreesAt, Clash, Looking, Testing, Tested, TakenOver};
-
-fn wide(x: u32) -> usize
-    ensures { λ r. ⌜ r ≡ x ⌝ }
-{
-    x as usize
-}
+ghost use Rattle.orientation_by.specs.WorkTest.{markOf, AgreesAt, Clash, Looking, Weighing, Testing, Tested, TakenOver};
 
 // Whether the marks across each slot are as its flip says.
 fn all_agree(k: usize, total: usize, other: &[u32], flip: &[u32], marks: &[u32]) -> bool
@@ -45,7 +40,7 @@ fn all_agree(k: usize, total: usize, other: &[u32], flip: &[u32], marks: &[u32])
             x += 1;
             continue;
         }
-        let there = marks[wide(o)];
+        let there = marks[lists::wide(o)];
         let here = marks[x / k];
         if there != orientation_walk::turn(flip[x], here) {
             return false;
@@ -55,7 +50,20 @@ fn all_agree(k: usize, total: usize, other: &[u32], flip: &[u32], marks: &[u32])
     true
 }
 
-// Whether the signs of m cells, 1 for + and 2 for - in `marks`, are coherent by the table of mates in `rows`; not in dimension 0.
+// Whether the signs of m cells, 1 for + and 2 for - in `marks`, are coherent by the cell across each facet and whether signs differ there; not in dimension 0.
+pub fn coherent_over(d: usize, m: usize, other: &[u32], flip: &[u32], marks: &[u32]) -> bool
+    requires { ⌜ Weighing d m (now other) (now flip) (now marks) ⌝ }
+    ensures { λ r.
+        ⌜ ((cs : List (List ℕ)) → length cs ≡ m → Linked d cs (now (other .entry)) (now (flip .entry)) → Tested d cs r (λ c. signOf (getD (now (marks .entry)) c 0))) ⌝ }
+{
+    if d == 0 {
+        return false;
+    }
+    let k = complex_mates::slots(d);
+    all_agree(k, m * k, other, flip, marks)
+}
+
+// The same by a table of mates, which stands in `rows`.
 pub fn coherent_as(
     d: usize,
     m: usize,
@@ -67,12 +75,9 @@ pub fn coherent_as(
     requires { ⌜ Testing d m (now rows) (now keys) (now spare) (now marks) ⌝ }
     ensures { λ r. ⌜ ((cs : List (List ℕ)) → length cs ≡ m → MateTable d cs (now (rows .entry)) → Tested d cs r (λ c. signOf (getD (now (marks .entry)) c 0))) ⌝ }
 {
-    if d == 0 {
-        return false;
-    }
     let k = complex_mates::slots(d);
     complex_mates::across(k, m * k, rows, keys, spare);
-    all_agree(k, m * k, keys, spare, marks)
+    coherent_over(d, m, keys, spare, marks)
 }
 
 // 1 for +1, 2 for -1, and 0 for any other number.
@@ -119,17 +124,17 @@ fn work(
     spare: &mut [u32],
     counts: &mut [u32],
 ) -> Verdict
-    requires { ⌜ Working d (now words) (now keys) (now rows) (now spare) (now counts) ⌝ }
+    requires { ⌜ Furnished d (now words) (now keys) (now rows) (now spare) (now counts) ⌝ }
     ensures { λ r. ⌜ Ends d (cellsOf d (now (words .entry))) (now (signs .entry)) r tt ⌝ }
 {
     let m = complex_cells::cells(d, words, keys, rows, spare, counts);
-    if !complex_mates::mates(d, m, words.len(), keys, rows, spare, counts) {
+    if !complex_facets::links(d, m, words.len(), keys, rows, spare, counts) {
         return Verdict::Refused(CROWDED_FACET, 0);
     }
     if !take_over(m, signs, counts) {
         return Verdict::Refused(BAD_SIGNS, 0);
     }
-    if !coherent_as(d, m, rows, keys, spare, counts) {
+    if !coherent_over(d, m, rows, spare, counts) {
         return Verdict::No;
     }
     Verdict::Yes
@@ -145,7 +150,7 @@ fn cleared(
     spare: &mut [u32],
     counts: &mut [u32],
 ) -> Verdict
-    requires { ⌜ Working d (now words) (now keys) (now rows) (now spare) (now counts) ⌝ }
+    requires { ⌜ Furnished d (now words) (now keys) (now rows) (now spare) (now counts) ⌝ }
     ensures work { λ r. ⌜ Ends d (cellsOf d (now (words .entry))) (now (signs .entry)) r tt ⌝ }
     ensures room { λ _.
         ⌜ AllZero (now (keys .entry)) (now (keys .exit)) (now (rows .entry)) (now (rows .exit)) (now (spare .entry)) (now (spare .exit)) (now (counts .entry))
@@ -156,7 +161,7 @@ fn cleared(
     said
 }
 
-// Yes exactly if the signs are coherent, else no; in dimension 0 always no. Refused: 1, 2, 3, 4, 6, 5, then 12 where a working list is too short (`needOf`), then 7,
+// Yes exactly if the signs are coherent, else no; in dimension 0 always no. Refused: 1, 2, 3, 4, 6, 5, then 12 where a working list is too short (`recordNeed`), then 7,
 // 14 where the sign list is not one +1 or -1 for each cell. From the room's test on what is needed of the working lists is zero at the end.
 pub fn orient_by(
     d: u32,
@@ -176,7 +181,7 @@ pub fn orient_by(
         return Verdict::Refused(number, place);
     }
     let dim = d as usize;
-    let need = complex::need(dim, words.len());
+    let need = complex_facets::need(words.len());
     let have = Room {
         keys: keys.len(),
         rows: rows.len(),

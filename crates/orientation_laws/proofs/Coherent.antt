@@ -17,7 +17,7 @@ use Rattle.refusal.specs.Call.{Comes, refused, cramped, ended}
 use Rattle.multiindex.specs.Sign.{Sign}
 use Rattle.complex.specs.Cells.{cellsOf}
 use Rattle.complex.specs.Check.{answerOf}
-use Rattle.complex.specs.Room.{needOf}
+use Rattle.complex_facets.specs.Records.{recordNeed}
 use Rattle.complex.specs.Facets.{Crowded}
 use Rattle.orientation_signs.specs.Signs.{Coherent, signList}
 use Rattle.orientation.specs.declared.Coherence.{Coherence}
@@ -33,8 +33,8 @@ module _ (d : ℕ) (ws : List ℕ) (fine : answerOf d ws ≡ answers.Fine) (uncr
   not-refused n p e = let z : _≡_ {A = ℕ} 0 1 = cc in absurd (omega arith)
 
   -- ---- a caller's signs
-  yes-of : 0 < d → (r : Verdict) (have used : Room) (h : Unit {0}) → Roomy (needOf d (length ws)) have
-      → Comes verdicts.Refused tt (answerOf d ws) (needOf d (length ws)) have (by.Ends d (cellsOf d ws) (signList σ (length (cellsOf d ws)))) r h used → r ≡ verdicts.Yes
+  yes-of : 0 < d → (r : Verdict) (have used : Room) (h : Unit {0}) → Roomy (recordNeed (length ws)) have
+      → Comes verdicts.Refused tt (answerOf d ws) (recordNeed (length ws)) have (by.Ends d (cellsOf d ws) (signList σ (length (cellsOf d ws)))) r h used → r ≡ verdicts.Yes
   yes-of pd r have used h fits (refused {n} {p} e) = absurd (not-refused n p e)
   yes-of pd r have used h fits (cramped e f) = absurd (f fits)
   yes-of pd r have used h fits (ended e f n) = yes-exactly d (cellsOf d ws) (signList σ (length (cellsOf d ws))) σ uncrowded refl r n .1 (pd, co)
@@ -50,7 +50,7 @@ module _ (d : ℕ) (ws : List ℕ) (fine : answerOf d ws ≡ answers.Fine) (uncr
   end-not given r h (found.signed c τ o s) e = let z : _≡_ {A = ℕ} 0 1 = cc in absurd (omega arith)
 
   not-of : (given : ℕ) (r : Coherence) (have used : Room) (h : List ℤ)
-      → Comes coherence.Refused [] (answerOf d ws) (needOf d (length ws)) have (found.Ends d (cellsOf d ws) given) r h used → countedOf r ≡ counted.Refused noSigns 0 → ⊥
+      → Comes coherence.Refused [] (answerOf d ws) (recordNeed (length ws)) have (found.Ends d (cellsOf d ws) given) r h used → countedOf r ≡ counted.Refused noSigns 0 → ⊥
   not-of given r have used h (refused {n} {p} x) e = not-refused n p x
   not-of given r have used h (cramped x f) e = let z : _≡_ {A = ℕ} 12 13 = cc in absurd (omega arith)
   not-of given r have used h (ended x f n) e = end-not given r h n e

@@ -5,7 +5,7 @@ use lib.IntN.{ℤ}
 use lib.ListN.{length}
 use Rattle.refusal.specs.declared.Verdict.{Verdict}
 use Rattle.refusal.specs.Lent.{lengths, Roomy}
-use Rattle.complex.specs.Room.{needOf}
+use Rattle.complex_facets.specs.Records.{recordNeed}
 use Rattle.orientation.specs.declared.Coherence.{Coherence}
 use Rattle.orientation.specs.Promise.{Orientation}
 use Rattle.orientation_by.specs.Promise.{OrientBy}
@@ -21,7 +21,7 @@ pub record OrientByCalled (d : ℕ) (ws : List ℕ) (signs : List ℤ) (r : Verd
   pub counts : List ℕ
   pub counts′ : List ℕ
   pub promised : OrientBy d ws signs r keys keys′ rows rows′ spare spare′ counts counts′
-  pub roomy : Roomy (needOf d (length ws)) (lengths keys rows spare counts)
+  pub roomy : Roomy (recordNeed (length ws)) (lengths keys rows spare counts)
 
 -- a call of `orientation` that says r
 pub record OrientationCalled (d : ℕ) (ws : List ℕ) (r : Coherence) : Type 0 where

@@ -7,10 +7,11 @@ use lib.ListN.{length, getD}
 use Rattle.complex.specs.Facets.{slots}
 use Rattle.lists.specs.Words.{none}
 use Rattle.complex_mates.specs.Table.{MateTable, Across}
+use Rattle.complex_facets.specs.WorkAcross.{Linked}
 use Rattle.orientation_walk.specs.WorkSigns as walk
 use Rattle.orientation_walk.specs.WorkSteps as steps
-use Rattle.orientation_signs.specs.WorkFound.{Finding, Found}
-use Rattle.orientation_signs.proofs.Linking.{code, coherent-down, oriented-up, finding-links}
+use Rattle.orientation_signs.specs.WorkFound.{Searching, Found}
+use Rattle.orientation_signs.proofs.Linking.{code, coherent-down, oriented-up, across-in, searching-links}
 use Rattle.orientation_signs.proofs.Looking.{looks-are}
 
 module _ (d m : ℕ) (cs : List (List ℕ)) (many : length cs ≡ m) (mates : List ℕ) (t : MateTable d cs mates) (few : m * suc d < none) (o fl : List ℕ) (a : (x : ℕ) → x < m * slots d → Across (slots d) mates o fl x) where
@@ -23,8 +24,8 @@ module _ (d m : ℕ) (cs : List (List ℕ)) (many : length cs ≡ m) (mates : Li
       }
 
 -- what the call gives; k is the number of slots as the code has it
-module _ (d m : ℕ) (rows keys spare counts : List ℕ) (w : Finding d m rows keys spare counts) (k : ℕ) (e : k ≡ slots d) where
-  pub finding-found : (o fl : List ℕ) → length o ≡ length keys → length fl ≡ length spare → ((x : ℕ) → x < m * k → Across k rows o fl x) → (ok : Bool) (g′ t′ : List ℕ) (looks : ℕ) → steps.Answer m k o fl counts rows g′ t′ ok looks → (cs : List (List ℕ)) → length cs ≡ m → MateTable d cs rows → Found d cs ok looks g′
-  finding-found o fl lo lf a ok g′ t′ looks r cs many mt =
-      subst (λ (z : ℕ). ((x : ℕ) → x < m * z → Across z rows o fl x) → walk.Table m z o fl → steps.Answer m z o fl counts rows g′ t′ ok looks → Found d cs ok looks g′) (sym e)
-      (λ a tb r. found d m cs many rows mt (w .few) o fl a ok counts rows g′ t′ looks tb (w .counts-long) (w .stack-long) r) a (finding-links d m rows keys spare counts w k e o fl lo lf a) r
+module _ (d m : ℕ) (other flip marks stack : List ℕ) (w : Searching d m other flip marks stack) (k : ℕ) (e : k ≡ slots d) where
+  pub searching-found : (ok : Bool) (g′ t′ : List ℕ) (looks : ℕ) → steps.Answer m k other flip marks stack g′ t′ ok looks → (cs : List (List ℕ)) → length cs ≡ m → Linked d cs other flip → Found d cs ok looks g′
+  searching-found ok g′ t′ looks r cs many l =
+      subst (λ (z : ℕ). walk.Table m z other flip → steps.Answer m z other flip marks stack g′ t′ ok looks → Found d cs ok looks g′) (sym e)
+      (λ tb r. found d m cs many (l .mates) (l .table) (w .few) other flip (across-in d m cs many other flip l) ok marks stack g′ t′ looks tb (w .marks-long) (w .stack-long) r) (searching-links d m other flip marks stack w k e) r

@@ -11,6 +11,7 @@ use lib.ListN.{length, getD}
 use Rattle.complex.specs.Facets.{FacetOf, Mates, Crowded, slots}
 use Rattle.lists.specs.Words.{none}
 use Rattle.complex_mates.specs.Table.{Meet, MateTable, Across, Crossing}
+use Rattle.complex_facets.specs.WorkAcross.{Linked}
 use Rattle.lists.proofs.Rows.{row-in, row-div, row-mod, row-cell-below, row-slot-below, row-is, slots-some}
 use Rattle.complex_mates.proofs.Meeting.{slots-most, slots-dim}
 use Rattle.complex_mates.proofs.Places.{slots-pos}
@@ -21,7 +22,7 @@ use Rattle.orientation_walk.specs.WorkSigns.Way.{here, on}
 use Rattle.multiindex.specs.Sign.{Sign, plus, minus, opposite, times, induced}
 use Rattle.orientation_signs.specs.Signs.{Coherent, Joined, Lowest, Oriented}
 use Rattle.orientation_signs.specs.Signs.Joined.{here as start, across}
-use Rattle.orientation_signs.specs.WorkFound.{signOf, Finding}
+use Rattle.orientation_signs.specs.WorkFound.{signOf, Searching, Finding}
 use Rattle.orientation_signs.proofs.Unique.{double, cancel, forced}
 
 -- ---- signs and the walk's numbers
@@ -231,6 +232,19 @@ module _ (d m : ℕ) (cs : List (List ℕ)) (many : length cs ≡ m) (mates : Li
         }
 
 -- ---- the call `coherent`, step by step; k is the number of slots as the code has it
+pub across-in : (d m : ℕ) (cs : List (List ℕ)) → length cs ≡ m → (o fl : List ℕ) (l : Linked d cs o fl) → (x : ℕ) → x < m * slots d → Across (slots d) (l .mates) o fl x
+across-in d m cs many o fl l x h = l .across x (subst (λ (z : ℕ). x < z * slots d) (sym many) h)
+
+module _ (d m : ℕ) (other flip marks stack : List ℕ) (w : Searching d m other flip marks stack) (k : ℕ) (e : k ≡ slots d) where
+  pub searching-few : m * k < none
+  searching-few = rw e (rows-few d m (w .cs) (w .many) (w .linked .mates) (w .linked .table) (w .few))
+
+  pub searching-links : walk.Table m k other flip
+  searching-links =
+      subst (λ (z : ℕ). walk.Table m z other flip) (sym e)
+      (links d m (w .cs) (w .many) (w .linked .mates) (w .linked .table) (w .few) other flip (across-in d m (w .cs) (w .many) other flip (w .linked)) (w .other-long) (w .flip-long))
+
+-- ---- the same over a table of mates
 module _ (d m : ℕ) (rows keys spare counts : List ℕ) (w : Finding d m rows keys spare counts) (k : ℕ) (e : k ≡ slots d) where
   pub finding-few : m * k < none
   finding-few = rw e (rows-few d m (w .cs) (w .many) rows (w .mates) (w .few))

@@ -8,6 +8,7 @@ use lib.ListN.{length, getD}
 use Rattle.complex.specs.Facets.{slots}
 use Rattle.lists.specs.Words.{none}
 use Rattle.complex_mates.specs.Table.{MateTable}
+use Rattle.complex_facets.specs.WorkAcross.{Linked}
 use Rattle.multiindex.specs.Sign.{Sign, plus, minus}
 use Rattle.orientation_signs.specs.Signs.{Coherent, Oriented}
 use Rattle.orientation_signs.specs.Looks.{looksOf}
@@ -28,7 +29,19 @@ abbrev pub handedOut : List ℕ → List ℤ
 handedOut [] = []
 handedOut (n ∷ ns) = markNumber n ∷ handedOut ns
 
--- what the search for signs asks
+-- what the search for signs of m cells asks: the cell across each of their facets and whether signs differ there
+pub record Searching (d m : ℕ) (other flip marks stack : List ℕ) : Type 0 where
+  pub cs : List (List ℕ)
+  pub many : length cs ≡ m
+  pub linked : Linked d cs other flip
+  pub other-long : m * slots d ≤ length other
+  pub flip-long : m * slots d ≤ length flip
+  pub marks-long : m ≤ length marks
+  pub stack-long : m ≤ length stack
+  pub few : m * suc d < none
+  pub small : d < none
+
+-- the same where a table of mates stands in rows
 pub record Finding (d m : ℕ) (rows keys spare counts : List ℕ) : Type 0 where
   pub cs : List (List ℕ)
   pub many : length cs ≡ m

@@ -1,12 +1,12 @@
-// Coherent signs over a table of mates.
+// Coherent signs over the cells across facets.
 // Follows `Complex::compute_orientation` (crates/simplicial/src/topology/orientation.rs): the signs that its walk asks across a facet.
 ghost use mathlib.Core.Bool.{true, false};
 ghost use mathlib.Core.Path.{_≡_};
 ghost use mathlib.Core.List.{List};
 ghost use Prim.Native.Nat.{ℕ, suc, _+_, _*_, _<_, _≤_};
 ghost use lib.ListN.{length, getD, take};
-ghost use Rattle.complex_mates.specs.Table.{MateTable};
-ghost use Rattle.orientation_signs.specs.WorkFound.{Finding, Found, markNumber, handedOut};
+ghost use Rattle.complex_facets.specs.WorkAcross.{Linked};
+ghost use Rattle.orientation_signs.specs.WorkFound.{Searching, Found, markNumber, handedOut};
 
 // What a search for coherent signs comes to: whether it found them, and its facet looks.
 pub struct Searched {
@@ -14,24 +14,25 @@ pub struct Searched {
     pub looks: u32,
 }
 
-// Finds coherent signs for m cells from their table of mates, which stands in `rows`: 1 for + and 2 for -, in `counts`. Not found exactly where there are none.
+// Finds coherent signs for m cells from the cell across each of their facets and whether signs differ there: 1 for + and 2 for -, in `marks`. Not found exactly where there
+// are none.
 pub fn coherent(
     d: usize,
     m: usize,
-    rows: &mut [u32],
-    keys: &mut [u32],
-    spare: &mut [u32],
-    counts: &mut [u32],
+    other: &[u32],
+    flip: &[u32],
+    marks: &mut [u32],
+    stack: &mut [u32],
 ) -> Searched
-    requires { ⌜ Finding d m (now rows) (now keys) (now spare) (now counts) ⌝ }
-    ensures { λ r. ⌜ ((cs : List (List ℕ)) → length cs ≡ m → MateTable d cs (now (rows .entry)) → Found d cs (r .found) (r .looks) (now (counts .exit))) ⌝ }
+    requires { ⌜ Searching d m (now other) (now flip) (now marks) (now stack) ⌝ }
+    ensures { λ r. ⌜ ((cs : List (List ℕ)) → length cs ≡ m → Linked d cs (now (other .entry)) (now (flip .entry)) → Found d cs (r .found) (r .looks) (now (marks .exit))) ⌝ }
 {
     let k = complex_mates::slots(d);
-    complex_mates::across(k, m * k, rows, keys, spare);
-    let walked = orientation_walk::walk(m, k, keys, spare, counts, rows);
+    let walked = orientation_walk::walk(m, k, other, flip, marks, stack);
+    let looks = walked.looks as u32;
     Searched {
         found: walked.ok,
-        looks: walked.looks as u32,
+        looks,
     }
 }
 

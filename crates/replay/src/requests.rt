@@ -63,7 +63,7 @@ fn ask(kind: u64, a: u32, b: u32, axes: &[u32]) {
 
 fn orient(d: u32, words: &[u32]) {
     let mut signs = [7i32; 128];
-    let mut keys = [7u32; 384];
+    let mut keys = [7u32; 640];
     let mut rows = [7u32; 128];
     let mut spare = [7u32; 128];
     let mut counts = [7u32; 128];
@@ -106,7 +106,7 @@ fn read_signs(numbers: &[u32], signs: &mut [i32]) {
 
 // The test of a caller's signs.
 fn test_signs(d: u32, words: &[u32], signs: &[i32]) {
-    let mut keys = [7u32; 384];
+    let mut keys = [7u32; 640];
     let mut rows = [7u32; 128];
     let mut spare = [7u32; 128];
     let mut counts = [7u32; 128];

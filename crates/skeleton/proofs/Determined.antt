@@ -44,7 +44,7 @@ listed-one need words d ws r r′ out s s′ keys k k′ rows o o′ spare p p�
     let w = call-one [] d (Gives words (length out)) (gives-one words (length out)) need ws r r′ (a .handed) (b .handed) keys k k′ rows o o′ spare p p′ counts c c′ (a .call) (b .call) in
     (w .0, a .result ∙ ap (λ (l : List ℕ). onto l out) (w .1) ∙ sym (b .result), w .2)
 
-both-one : (words : List (List ℕ)) (table : List ℕ) (g t : ℕ) (r r′ : Counted) (l l′ : List ℕ × List ℕ) → GivesBoth words table g t r l → GivesBoth words table g t r′ l′ → (r ≡ r′) × (l ≡ l′)
+pub both-one : (words : List (List ℕ)) (table : List ℕ) (g t : ℕ) (r r′ : Counted) (l l′ : List ℕ × List ℕ) → GivesBoth words table g t r l → GivesBoth words table g t r′ l′ → (r ≡ r′) × (l ≡ l′)
 both-one words table g t r r′ l l′ (words-short h) (words-short k) = (refl, refl)
 both-one words table g t r r′ l l′ (words-short h) (table-short k) = (refl, refl)
 both-one words table g t r r′ l l′ (words-short h) (both-listed k m) = absurd (omega arith)

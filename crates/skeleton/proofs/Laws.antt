@@ -29,6 +29,7 @@ use Rattle.complex_mates.proofs.Laws.{facet-length, facets-differ}
 use Rattle.complex_mates.proofs.Places.{facet-row}
 use Rattle.complex_mates.proofs.Meeting.{slots-most, slots-dim}
 use Rattle.lists.proofs.Words.{same-word, word-true}
+use Rattle.complex_facets.specs.Records.{recordNeed}
 use Rattle.complex_facets.proofs.Numbers.{tab-in, in-tab}
 use Rattle.complex_edges.proofs.Members.{pair-in, in-pair, all-in, in-all}
 use Rattle.skeleton.specs.Parts.{edgeNeed}
@@ -43,6 +44,9 @@ need-bound d n h = omega (arith, room-most d n h)
 
 pub edge-bound : (d n : ℕ) → d ≤ 3 → sum (edgeNeed d n) ≤ 32 * n + 16384
 edge-bound d n h = omega (arith, room-most d n h)
+
+pub record-bound : (n : ℕ) → sum (recordNeed n) ≤ 32 * n + 16384
+record-bound n = omega arith
 
 -- ---- cells: rising, the words sorted, and the same for words in another order
 pub cells-rising : (d : ℕ) (ws : List ℕ) → Rising (Colex (d + 1)) (cellsOf d ws)

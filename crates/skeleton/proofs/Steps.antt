@@ -33,7 +33,8 @@ use Rattle.complex_mates.proofs.Meeting.{slots-most}
 use Rattle.complex_cells.proofs.Named.{named-flat, named-many}
 use Rattle.complex_edges.specs.WorkPairs.{Edging}
 use Rattle.complex_facets.specs.WorkClasses.{Classes, Pass, Found, loneRows}
-use Rattle.complex_facets.specs.Sides.{tableOf, fours}
+use Rattle.complex_facets.specs.Sides.{tableOf}
+use Rattle.complex_facets.specs.WorkSides.{fours}
 use Rattle.complex_facets.proofs.Border.{border-named}
 use Rattle.complex_facets.proofs.Tabling.{fours-length, table-is}
 use Rattle.complex_facets.proofs.Recording.{fives-length, records-are}

@@ -4,8 +4,10 @@ use Prim.Native.Nat.{ℕ, _*_}
 use Rattle.refusal.specs.declared.Room.{Room}
 use Rattle.complex.specs.Room.{keyRoom, needOf}
 use Rattle.complex.specs.Skeleton.{edgesOf, borderOf}
-use Rattle.complex_facets.specs.Sides.{tableOf, fours}
-use Rattle.complex_facets.specs.Records.{recordsOf, fives}
+use Rattle.complex_facets.specs.Sides.{tableOf}
+use Rattle.complex_facets.specs.WorkSides.{fours}
+use Rattle.complex_facets.specs.Records.{recordsOf}
+use Rattle.complex_facets.specs.WorkRecords.{fives}
 use Rattle.skeleton.specs.declared.Beside.{Beside}
 use Rattle.skeleton.specs.declared.Beside.the-variants.{Places, Signs}
 use Rattle.skeleton.specs.declared.Part.{Part}

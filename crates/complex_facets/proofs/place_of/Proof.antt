@@ -8,7 +8,7 @@ use native.Mathlib.Omega.{arith}
 use borrow.Author.Needs.{needs}
 use borrow.Author.Tests.{eq-eqb, ne-eqb}
 use Rattle.lists.specs.Words.{none}
-use Rattle.complex_facets.specs.Sides.{orNone, fours}
+use Rattle.complex_facets.specs.WorkSides.{orNone, fours}
 use Rattle.complex_facets.proofs.place_of.Statement.{statement}
 use Rattle.complex_facets.proofs.place_of.Tie as tie
 use Rattle.complex_facets.proofs.place_of.Reads as reads

@@ -1,5 +1,5 @@
 -- `complex_facets::sign_of` meets its contract. Assumes nothing.
-use Rattle.complex_facets.specs.Records.{zeroIf}
+use Rattle.complex_facets.specs.WorkRecords.{zeroIf}
 use Rattle.lists.specs.Words.{none}
 use borrow.Author.Tests.{eq-eqb, ne-eqb}
 use mathlib.Core.Bool.{Bool}

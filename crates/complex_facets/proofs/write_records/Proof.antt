@@ -6,7 +6,7 @@ use Prim.Native.Nat.{ℕ, suc, _+_, _*_, _-_, _/_, _%_, _≤_, _<_}
 use native.Mathlib.Omega.{arith}
 use borrow.Author.Needs.{needs}
 use lib.ListN.{length, getD, drop, set, length-set}
-use Rattle.complex_facets.specs.Records.{fives}
+use Rattle.complex_facets.specs.WorkRecords.{fives}
 use Rattle.complex_facets.proofs.write_records.Statement.{statement}
 use Rattle.complex_facets.proofs.write_records.Tie as tie
 use Rattle.complex_facets.proofs.write_records.Reads as reads

@@ -12,7 +12,7 @@ use Rattle.orientation.proofs.orientation.Tie as tie
 use Rattle.orientation.proofs.orientation.Reads as reads
 use Rattle.orientation.proofs.orientation.Lts as lts
 use Rattle.complex.proofs.check_cells.Reads as check-cells-reads
-use Rattle.complex.proofs.need.Reads as need-reads
+use Rattle.complex_facets.proofs.need.Reads as need-reads
 use Rattle.orientation.proofs.cleared.Reads as cleared-reads
 use Rattle.refusal.proofs.has_room.Reads as has-room-reads
 
@@ -39,7 +39,7 @@ need-requires : tie.Need-need-requires
 need-requires c κs =
     let s = c .before .before .before .before .before .before .before .before in
     let p = fine-passed (s .args .d) (s .args .words .now) (sym (c .before .before .check-cells .ensures) ∙ c .enum-told .given .1) in
-    (p .small, few-corners (s .args .d) (s .args .words .now) p)
+    few-corners (s .args .d) (s .args .words .now) p
 
 -- src/lib.rt:97:9
 has-room-requires : tie.Need-has-room-requires

@@ -11,7 +11,7 @@ use Rattle.orientation_by.proofs.all_agree.Statement.{statement}
 use Rattle.orientation_by.proofs.all_agree.Tie as tie
 use Rattle.orientation_by.proofs.all_agree.Reads as reads
 use Rattle.orientation_by.proofs.all_agree.Lts as lts
-use Rattle.orientation_by.proofs.wide.Reads as wide-reads
+use Rattle.lists.proofs.wide.Reads as wide-reads
 
 abbrev Inv-loop : tie.InvT-loop
 Inv-loop k total other flip marks x₀ x = (x ≤ total) × ((y : ℕ) → y < x → AgreesAt k other flip marks y)

@@ -13,7 +13,7 @@ use Rattle.orientation_by.proofs.orient_by.Tie as tie
 use Rattle.orientation_by.proofs.orient_by.Reads as reads
 use Rattle.orientation_by.proofs.orient_by.Lts as lts
 use Rattle.complex.proofs.check_cells.Reads as check-cells-reads
-use Rattle.complex.proofs.need.Reads as need-reads
+use Rattle.complex_facets.proofs.need.Reads as need-reads
 use Rattle.orientation_by.proofs.cleared.Reads as cleared-reads
 use Rattle.refusal.proofs.has_room.Reads as has-room-reads
 
@@ -32,7 +32,7 @@ enum-told c = search needs
 need-requires : tie.Need-need-requires
 need-requires c κs =
     let p = fine-passed (c .before .before .before .before .before .before .before .before .args .d) (c .before .before .before .before .before .before .before .before .args .words .now) (sym (c .before .before .check-cells .ensures) ∙ c .enum-told .given .1) in
-    (p .small, few-corners (c .before .before .before .before .before .before .before .before .args .d) (c .before .before .before .before .before .before .before .before .args .words .now) p)
+    few-corners (c .before .before .before .before .before .before .before .before .args .d) (c .before .before .before .before .before .before .before .before .args .words .now) p
 
 has-room-requires : tie.Need-has-room-requires
 has-room-requires c κs = search needs
