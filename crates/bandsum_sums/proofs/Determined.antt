@@ -19,7 +19,7 @@ use Rattle.bandsum_lines.specs.Lines.{linesOf, refusedLine}
 use Rattle.bandsum_sums.specs.declared.Sum.{Sum}
 use Rattle.bandsum_sums.specs.declared.Sum.the-variants.{Told, Refused}
 use Rattle.bandsum_sums.specs.Promise.{SidesOf, two, one, summaryOf, Sound, SumsOf, refused, crowded, ordered, unordered, Prints, unread, refusal, six, Printed}
-use Rattle.bandsum_sums.specs.Work.{bandCorners, bandListed, sidesAs}
+use Rattle.bandsum_sums.specs.Work.{bandCorners, bandRecorded, sidesAs}
 use Rattle.bandsum_sums.proofs.Ends.{sides-are}
 
 -- the sides of one grid
@@ -30,7 +30,7 @@ sides-one g n n′ (one f) (two σ p) = absurd (f σ p)
 sides-one g n n′ (one f) (one f′) = refl
 
 -- the sides are what `orientation` says of the grid's words: 2 with signs, and 1 where it says 13
-pub sides-by-signs : (g : Grid) (n : ℕ) → Sound g → SidesOf g n → (r : Coherence) (signs signs′ : List ℤ) (keys keys′ rows rows′ spare spare′ counts counts′ : List ℕ) → bandCorners ≤ length signs → bandListed ≤ length keys → bandCorners ≤ length rows →
+pub sides-by-signs : (g : Grid) (n : ℕ) → Sound g → SidesOf g n → (r : Coherence) (signs signs′ : List ℤ) (keys keys′ rows rows′ spare spare′ counts counts′ : List ℕ) → bandCorners ≤ length signs → bandRecorded ≤ length keys → bandCorners ≤ length rows →
     bandCorners ≤ length spare → bandCorners ≤ length counts → Orientation (g .d) (flatWords g) r signs signs′ keys keys′ rows rows′ spare spare′ counts counts′ → n ≡ sidesAs r
 sides-by-signs g n sound s r signs signs′ keys keys′ rows rows′ spare spare′ counts counts′ lg lk lr ls ln t =
     sides-one g n (sidesAs r) s (sides-are g (flatWords g) (record { sound = sound; same = refl }) signs keys rows spare counts lg lk lr ls ln r signs′ keys′ rows′ spare′ counts′ t)

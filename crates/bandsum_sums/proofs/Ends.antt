@@ -21,6 +21,7 @@ use Rattle.complex.specs.Cells as Complex
 use Rattle.complex.specs.Check.{answerOf}
 use Rattle.complex.specs.Facets.{Crowded}
 use Rattle.complex.specs.Room.{keyRoom, needOf}
+use Rattle.complex_facets.specs.Records.{recordNeed}
 use Rattle.complex.specs.Skeleton.{edgesOf, borderOf}
 use Rattle.complex.proofs.Fine.{passed-fine}
 use Rattle.skeleton.specs.Promise.{Gives, Listed}
@@ -53,7 +54,7 @@ use Rattle.refusal.specs.Told.{countOf}
 use Rattle.bandsum_sums.specs.declared.Sum.the-variants.{Told, Refused}
 use Rattle.bandsum_sums.specs.Promise.{SidesOf, two, one, Sound, SumsOf}
 use Rattle.bandsum_sums.specs.Promise as Promise
-use Rattle.bandsum_sums.specs.Work.{bandCorners, bandListed, sidesAs, Triangulates, Glued, HasWords, HasCells, Tells}
+use Rattle.bandsum_sums.specs.Work.{bandCorners, bandRecorded, bandListed, sidesAs, Triangulates, Glued, HasWords, HasCells, Tells}
 use Rattle.bandsum_sums.specs.Work as Work
 use Rattle.bandsum_sums.proofs.Bounds.{corners-most, words-most, size-most, cells-corners, edges-fit, border-fits}
 
@@ -104,6 +105,11 @@ module _ (g : Grid) (fine : checkOf g ≡ Answer.Fine) where
   pub edges-roomy : (n : ℕ) → n ≡ cornersOf g → (keys rows spare counts : List ℕ) → bandListed + bandListed ≤ length keys → bandListed ≤ length rows → bandListed ≤ length spare → bandListed ≤ length counts → Roomy (edgeNeed (g .d) n) (lengths keys rows spare counts)
   edges-roomy n e keys rows spare counts k r s c =
       let m : keyRoom (g .d) n ≤ bandListed = rw e keys-most in
+      record { in-keys = omega arith; in-rows = omega arith; in-spare = omega arith; in-counts = omega arith }
+
+  pub records-roomy : (n : ℕ) → n ≡ cornersOf g → (keys rows spare counts : List ℕ) → bandRecorded ≤ length keys → bandCorners ≤ length rows → bandCorners ≤ length spare → bandCorners ≤ length counts → Roomy (recordNeed n) (lengths keys rows spare counts)
+  records-roomy n e keys rows spare counts k r s c =
+      let m : n ≤ bandCorners = rw e (corners-most g fine) in
       record { in-keys = omega arith; in-rows = omega arith; in-spare = omega arith; in-counts = omega arith }
 
   pub taken-counted : countOf (nverticesOf g) ≡ verticesOf g
@@ -182,7 +188,7 @@ module _ (g : Grid) (ws : List ℕ) (w : HasWords g ws) (r : Counted) (out out�
       ∙ ap length e
 
 -- ---- the sides, by the signs of words that are those of the grid
-module _ (g : Grid) (ws : List ℕ) (w : HasWords g ws) (signs : List ℤ) (keys rows spare counts : List ℕ) (lg : bandCorners ≤ length signs) (lk : bandListed ≤ length keys) (lr : bandCorners ≤ length rows) (ls : bandCorners ≤ length spare) (ln : bandCorners ≤ length counts) where
+module _ (g : Grid) (ws : List ℕ) (w : HasWords g ws) (signs : List ℤ) (keys rows spare counts : List ℕ) (lg : bandCorners ≤ length signs) (lk : bandRecorded ≤ length keys) (lr : bandCorners ≤ length rows) (ls : bandCorners ≤ length spare) (ln : bandCorners ≤ length counts) where
   sides-end : (r : Coherence) (h : List ℤ) → Signs.Ends (g .d) (gluedCells g) (length signs) r h → SidesOf g (sidesAs r)
   sides-end r h (signs-crowded x) = absurd (w .sound .free x)
   sides-end r h (one-sided f n) = one n
@@ -193,13 +199,13 @@ module _ (g : Grid) (ws : List ℕ) (w : HasWords g ws) (signs : List ℤ) (keys
   sides-are r signs′ keys′ rows′ spare′ counts′ t =
       sides-end r (t .handed)
       (subst (λ (l : List ℕ). Signs.Ends (g .d) (Complex.cellsOf (g .d) l) (length signs) r (t .handed)) (w .same)
-      (comes-end Coherence.Refused [] (answerOf (g .d) ws) (needOf (g .d) (length ws)) (lengths keys rows spare counts) (Signs.Ends (g .d) (Complex.cellsOf (g .d) ws) (length signs)) fine room (t .comes)))
+      (comes-end Coherence.Refused [] (answerOf (g .d) ws) (recordNeed (length ws)) (lengths keys rows spare counts) (Signs.Ends (g .d) (Complex.cellsOf (g .d) ws) (length signs)) fine room (t .comes)))
     where
       fine : answerOf (g .d) ws ≡ Answer.Fine
       fine = rw (w .same) (words-fine g (w .sound .taken))
 
-      room : Roomy (needOf (g .d) (length ws)) (lengths keys rows spare counts)
-      room = subst (λ (n : ℕ). Roomy (needOf (g .d) n) (lengths keys rows spare counts)) (sym (ap length (w .same) ∙ words-long g (w .sound .taken))) (grid-roomy g (w .sound .taken) keys rows spare counts lk lr ls ln)
+      room : Roomy (recordNeed (length ws)) (lengths keys rows spare counts)
+      room = records-roomy g (w .sound .taken) (length ws) (ap length (w .same) ∙ words-long g (w .sound .taken)) keys rows spare counts lk lr ls ln
 
 -- ---- the six things
 pub told-all : (g : Grid) (ordered : Bool) {cells vertices edges border sides : ℕ} → cells ≡ length (gluedCells g) → vertices ≡ verticesOf g → edges ≡ length (edgesOf (gluedCells g)) → border ≡ length (borderOf (g .d) (gluedCells g)) → SidesOf g sides →

@@ -28,6 +28,10 @@ bandCorners = bandCells * suc bandDimension
 abbrev pub bandListed : ℕ
 bandListed = bandDimension * bandCorners
 
+-- the most numbers that its facets' records have room for: five for each corner
+abbrev pub bandRecorded : ℕ
+bandRecorded = bandCorners * 5
+
 -- the sides, by what `orientation` says
 abbrev pub sidesAs : Coherence → ℕ
 sidesAs (Coherence.Signs cells looks) = 2

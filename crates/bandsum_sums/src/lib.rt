@@ -34,6 +34,9 @@ pub const ORDER_KEYS: usize = LISTED + 2 * CORNERS;
 
 pub const EDGE_KEYS: usize = 2 * LISTED;
 
+// The keys of the facets' records.
+pub const RECORD_KEYS: usize = 5 * CORNERS;
+
 // What is told of a grid, or the refusal with its number and place.
 pub enum Sum {
     Told(Summary),
@@ -142,7 +145,7 @@ fn sides(grid: Grid, words: &[u32]) -> u32
     ensures { λ r. ⌜ SidesOf grid r ⌝ }
 {
     let mut signs = [0i32; CORNERS];
-    let mut keys = [0u32; LISTED];
+    let mut keys = [0u32; RECORD_KEYS];
     let mut rows = [0u32; CORNERS];
     let mut spare = [0u32; CORNERS];
     let mut counts = [0u32; CORNERS];

@@ -22,6 +22,7 @@ use Rattle.complex.specs.Room.{keyRoom, needOf}
 use Rattle.complex.specs.Skeleton.{edgesOf, facetsOf, borderOf}
 use Rattle.complex.proofs.Fine.{fine-passed}
 use Rattle.complex_facets.specs.Sides.{tableOf}
+use Rattle.complex_facets.specs.Records.{recordNeed}
 use Rattle.skeleton.specs.Parts.{edgeNeed}
 use Rattle.skeleton.specs.Promise as skeleton
 use Rattle.orientation.specs.declared.Coherence.{Coherence}
@@ -108,16 +109,16 @@ module _ (d : ℕ) (ws keys rows spare counts : List ℕ) {keys′ rows′ spare
 
   pub orientation-enough : {signs signs′ : List ℤ} {r : Coherence} → orientation.Orientation d ws r signs signs′ keys keys′ rows rows′ spare spare′ counts counts′ → Long (signsNeed d (worked d (length ws))) (length signs ∷ length keys ∷ length rows ∷ length spare ∷ length counts ∷ []) → coherenceNumber r ≡ tooShort → ⊥
   orientation-enough {signs = signs} a l t =
-      never Coherence.Refused coherenceNumber (λ n p. refl) [] (answerOf d ws) (check-never d ws) (Passed d ws) (fine-passed d ws) (needOf d (length ws)) (lengths keys rows spare counts) (orientation.Ends d (cellsOf d ws) (length signs))
-      (λ p. let k = told d ws (signsNeed d) (length signs ∷ length keys ∷ length rows ∷ length spare ∷ length counts ∷ []) l p in roomy-of (needOf d (length ws)) _ _ _ _ (k .1))
+      never Coherence.Refused coherenceNumber (λ n p. refl) [] (answerOf d ws) (check-never d ws) (Passed d ws) (fine-passed d ws) (recordNeed (length ws)) (lengths keys rows spare counts) (orientation.Ends d (cellsOf d ws) (length signs))
+      (λ p. let k = told d ws (signsNeed d) (length signs ∷ length keys ∷ length rows ∷ length spare ∷ length counts ∷ []) l p in roomy-of (recordNeed (length ws)) _ _ _ _ (k .1))
       (λ p. let k = told d ws (signsNeed d) (length signs ∷ length keys ∷ length rows ∷ length spare ∷ length counts ∷ []) l p in signs-end d (cellsOf d ws) (length signs) (omega (arith, k .0, cells-most d ws p)))
       (a .comes) t
 
-  pub orient-by-enough : (signs : List ℤ) {r : Verdict} → orientation-by.OrientBy d ws signs r keys keys′ rows rows′ spare spare′ counts counts′ → Long (plainNeed d (worked d (length ws))) (length keys ∷ length rows ∷ length spare ∷ length counts ∷ []) → verdictNumber r ≡ tooShort → ⊥
+  pub orient-by-enough : (signs : List ℤ) {r : Verdict} → orientation-by.OrientBy d ws signs r keys keys′ rows rows′ spare spare′ counts counts′ → Long (plainNeed (worked d (length ws))) (length keys ∷ length rows ∷ length spare ∷ length counts ∷ []) → verdictNumber r ≡ tooShort → ⊥
   orient-by-enough signs a l t =
-      never Verdict.Refused verdictNumber (λ n p. refl) tt (answerOf d ws) (check-never d ws) (Passed d ws) (fine-passed d ws) (needOf d (length ws)) (lengths keys rows spare counts) (orientation-by.Ends d (cellsOf d ws) signs)
-      (λ p. let k = told d ws (plainNeed d) (length keys ∷ length rows ∷ length spare ∷ length counts ∷ []) l p in roomy-of (needOf d (length ws)) _ _ _ _ (k))
-      (λ p. let k = told d ws (plainNeed d) (length keys ∷ length rows ∷ length spare ∷ length counts ∷ []) l p in by-end d (cellsOf d ws) signs)
+      never Verdict.Refused verdictNumber (λ n p. refl) tt (answerOf d ws) (check-never d ws) (Passed d ws) (fine-passed d ws) (recordNeed (length ws)) (lengths keys rows spare counts) (orientation-by.Ends d (cellsOf d ws) signs)
+      (λ p. let k = told d ws plainNeed (length keys ∷ length rows ∷ length spare ∷ length counts ∷ []) l p in roomy-of (recordNeed (length ws)) _ _ _ _ (k))
+      (λ p. let k = told d ws plainNeed (length keys ∷ length rows ∷ length spare ∷ length counts ∷ []) l p in by-end d (cellsOf d ws) signs)
       (a .comes) t
 
   pub ordering-enough : (order : List ℕ) {out out′ : List ℕ} {r : Ordered} → ordering.Ordering d ws order r out out′ keys keys′ rows rows′ spare spare′ counts counts′ → Long (orderedNeed d (worked d (length ws))) (length out ∷ length keys ∷ length rows ∷ length spare ∷ length counts ∷ []) → orderedNumber r ≡ tooShort → ⊥

@@ -19,11 +19,11 @@ facets-made d n m k w e = ap (λ (k : ℕ). d * m ∷ 4 * m ∷ k ∷ m ∷ m �
 pub border-made : (d n m k : ℕ) → Worked d n m → k ≡ keyRoom d m → _≡_ {A = List ℕ} (d * m ∷ k ∷ m ∷ m ∷ m ∷ []) (borderNeed d (worked d n))
 border-made d n m k w e = ap (λ (k : ℕ). d * m ∷ k ∷ m ∷ m ∷ m ∷ []) e ∙ ap (borderNeed d) (w .is)
 
-pub orientation-made : (d n m k : ℕ) → Worked d n m → k ≡ keyRoom d m → _≡_ {A = List ℕ} (m / (d + 1) ∷ k ∷ m ∷ m ∷ m ∷ []) (signsNeed d (worked d n))
-orientation-made d n m k w e = ap (λ (x : ℕ). m / x ∷ k ∷ m ∷ m ∷ m ∷ []) (add-one d) ∙ ap (λ (k : ℕ). m / suc d ∷ k ∷ m ∷ m ∷ m ∷ []) e ∙ ap (signsNeed d) (w .is)
+pub orientation-made : (d n m : ℕ) → Worked d n m → _≡_ {A = List ℕ} (m / (d + 1) ∷ m * 5 ∷ m ∷ m ∷ m ∷ []) (signsNeed d (worked d n))
+orientation-made d n m w = ap (λ (x : ℕ). m / x ∷ m * 5 ∷ m ∷ m ∷ m ∷ []) (add-one d) ∙ ap (signsNeed d) (w .is)
 
-pub orient-by-made : (d n m k : ℕ) → Worked d n m → k ≡ keyRoom d m → _≡_ {A = List ℕ} (k ∷ m ∷ m ∷ m ∷ []) (plainNeed d (worked d n))
-orient-by-made d n m k w e = ap (λ (k : ℕ). k ∷ m ∷ m ∷ m ∷ []) e ∙ ap (plainNeed d) (w .is)
+pub orient-by-made : (d n m : ℕ) → Worked d n m → _≡_ {A = List ℕ} (m * 5 ∷ m ∷ m ∷ m ∷ []) (plainNeed (worked d n))
+orient-by-made d n m w = ap plainNeed (w .is)
 
 pub ordering-made : (d n m k : ℕ) → Worked d n m → k ≡ keyRoom d m → _≡_ {A = List ℕ} (m ∷ (k + m + m) ∷ m ∷ m ∷ m ∷ []) (orderedNeed d (worked d n))
 ordering-made d n m k w e = ap (λ (k : ℕ). m ∷ (k + m + m) ∷ m ∷ m ∷ m ∷ []) e ∙ ap (orderedNeed d) (w .is)

@@ -2,6 +2,7 @@
 use mathlib.Core.List.{List, [], _∷_}
 use Prim.Native.Nat.{ℕ, suc, _*_, _/_}
 use Rattle.complex.specs.Room.{keyRoom, needOf}
+use Rattle.complex_facets.specs.Records.{recordNeed}
 use Rattle.skeleton.specs.Parts.{edgeNeed}
 use Rattle.ordering.specs.Promise.{orderNeed}
 use Rattle.needs.specs.Needs.{lists}
@@ -24,11 +25,11 @@ borderNeed d n = d * n ∷ lists (needOf d n)
 
 -- signs
 abbrev pub signsNeed : ℕ → ℕ → List ℕ
-signsNeed d n = n / suc d ∷ lists (needOf d n)
+signsNeed d n = n / suc d ∷ lists (recordNeed n)
 
 -- a caller's own signs: no result list
-abbrev pub plainNeed : ℕ → ℕ → List ℕ
-plainNeed d n = lists (needOf d n)
+abbrev pub plainNeed : ℕ → List ℕ
+plainNeed n = lists (recordNeed n)
 
 -- the words of an order by cell
 abbrev pub orderedNeed : ℕ → ℕ → List ℕ

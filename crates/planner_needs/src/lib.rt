@@ -52,17 +52,18 @@ pub extern "C" fn planner_need_orientation(d: u32, n: usize, need: &mut [usize; 
     ensures { λ _. ⌜ now (need .exit) ≡ signsNeed d (worked d n) ⌝ }
 {
     let m = corners(d, n);
-    let k = key_room(d, m);
-    *need = [m / (d as usize + 1), k, m, m, m];
+    let k = m * 5;
+    let cells = m / (d as usize + 1);
+    *need = [cells, k, m, m, m];
 }
 
 // planner_orient_by: keys, rows, spare, counts.
 #[no_mangle]
 pub extern "C" fn planner_need_orient_by(d: u32, n: usize, need: &mut [usize; 4])
-    ensures { λ _. ⌜ now (need .exit) ≡ plainNeed d (worked d n) ⌝ }
+    ensures { λ _. ⌜ now (need .exit) ≡ plainNeed (worked d n) ⌝ }
 {
     let m = corners(d, n);
-    let k = key_room(d, m);
+    let k = m * 5;
     *need = [k, m, m, m];
 }
 

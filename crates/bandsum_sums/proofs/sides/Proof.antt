@@ -2,7 +2,7 @@
 use mathlib.Core.Path.{ap, subst}
 use Rattle.bandsum_sums.proofs.Ends.{zeros, no-signs, sides-are}
 use Rattle.bandsum_sums.specs.Promise.{SidesOf}
-use Rattle.bandsum_sums.specs.Work.{bandCorners, bandListed, sidesAs}
+use Rattle.bandsum_sums.specs.Work.{bandCorners, bandRecorded, sidesAs}
 use borrow.Author.Needs.{needs}
 use Rattle.bandsum_sums.proofs.sides.Statement.{statement}
 use Rattle.bandsum_sums.proofs.sides.Tie as tie
@@ -39,21 +39,21 @@ returns c =
     let s = c .before .before .before .before .before .before .before .before .before .before .before .before .before .before in
     let o = c .before .before .before .before .before .before .before .orientation in
     subst (SidesOf (s .args .grid)) (ap sidesAs (c .enum-told .given .1))
-    (sides-are (s .args .grid) (s .args .words .now) (s .pre) _ _ _ _ _ (no-signs bandCorners) (zeros bandListed) (zeros bandCorners) (zeros bandCorners) (zeros bandCorners) (o .result) _ _ _ _ _ (o .ensures))
+    (sides-are (s .args .grid) (s .args .words .now) (s .pre) _ _ _ _ _ (no-signs bandCorners) (zeros bandRecorded) (zeros bandCorners) (zeros bandCorners) (zeros bandCorners) (o .result) _ _ _ _ _ (o .ensures))
 
 returns-2 : tie.Need-returns-2
 returns-2 c =
     let s = c .before .before .before .before .before .before .before .before .before .before .before .before .before .before in
     let o = c .before .before .before .before .before .before .before .orientation in
     subst (SidesOf (s .args .grid)) (ap sidesAs (c .enum-told2 .given .1))
-    (sides-are (s .args .grid) (s .args .words .now) (s .pre) _ _ _ _ _ (no-signs bandCorners) (zeros bandListed) (zeros bandCorners) (zeros bandCorners) (zeros bandCorners) (o .result) _ _ _ _ _ (o .ensures))
+    (sides-are (s .args .grid) (s .args .words .now) (s .pre) _ _ _ _ _ (no-signs bandCorners) (zeros bandRecorded) (zeros bandCorners) (zeros bandCorners) (zeros bandCorners) (o .result) _ _ _ _ _ (o .ensures))
 
 returns-3 : tie.Need-returns-3
 returns-3 c =
     let s = c .before .before .before .before .before .before .before .before .before .before .before .before .before .before in
     let o = c .before .before .before .before .before .before .before .orientation in
     subst (SidesOf (s .args .grid)) (ap sidesAs (c .enum-told3 .given .1))
-    (sides-are (s .args .grid) (s .args .words .now) (s .pre) _ _ _ _ _ (no-signs bandCorners) (zeros bandListed) (zeros bandCorners) (zeros bandCorners) (zeros bandCorners) (o .result) _ _ _ _ _ (o .ensures))
+    (sides-are (s .args .grid) (s .args .words .now) (s .pre) _ _ _ _ _ (no-signs bandCorners) (zeros bandRecorded) (zeros bandCorners) (zeros bandCorners) (zeros bandCorners) (o .result) _ _ _ _ _ (o .ensures))
 
 pub sides-spec : {M : Type 1} → statement M
 sides-spec =

@@ -8,11 +8,11 @@ use Rattle.planner_needs.proofs.planner_need_orient_by.Tie as tie
 corners-requires : tie.Need-corners-requires
 corners-requires c κs = search needs
 
-key-room-requires : tie.Need-key-room-requires
-key-room-requires c κs = search needs
+mul-k : tie.Need-mul-k
+mul-k c = omega (arith, c .corners .ensures .most)
 
 returns : tie.Need-returns
-returns c = orient-by-made _ _ _ _ (c .before .before .corners .ensures) (c .before .key-room .ensures)
+returns c = orient-by-made _ _ _ (c .before .corners .ensures)
 
 pub planner-need-orient-by-spec : {M : Type 1} → statement M
-planner-need-orient-by-spec = tie.close (tie.spec corners-requires key-room-requires returns)
+planner-need-orient-by-spec = tie.close (tie.spec corners-requires mul-k returns)

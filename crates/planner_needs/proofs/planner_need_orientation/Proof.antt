@@ -8,17 +8,17 @@ use Rattle.planner_needs.proofs.planner_need_orientation.Tie as tie
 corners-requires : tie.Need-corners-requires
 corners-requires c κs = search needs
 
-key-room-requires : tie.Need-key-room-requires
-key-room-requires c κs = search needs
+mul-k : tie.Need-mul-k
+mul-k c = omega (arith, c .corners .ensures .most)
 
-add-t7 : tie.Need-add-t7
-add-t7 c = search needs
+add-cells : tie.Need-add-cells
+add-cells c = search needs
 
-div-t8 : tie.Need-div-t8
-div-t8 c = search needs
+div-cells : tie.Need-div-cells
+div-cells c = search needs
 
 returns : tie.Need-returns
-returns c = orientation-made _ _ _ _ (c .before .before .corners .ensures) (c .before .key-room .ensures)
+returns c = orientation-made _ _ _ (c .before .corners .ensures)
 
 pub planner-need-orientation-spec : {M : Type 1} → statement M
-planner-need-orientation-spec = tie.close (tie.spec corners-requires key-room-requires add-t7 div-t8 returns)
+planner-need-orientation-spec = tie.close (tie.spec corners-requires mul-k add-cells div-cells returns)
