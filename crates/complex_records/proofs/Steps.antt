@@ -1,33 +1,50 @@
 -- What the loops and the tests say of lists and numbers. Assumes nothing.
 use mathlib.Core.Path.{_≡_, refl, ap, sym, _∙_}
-use Prim.Native.Nat.{ℕ, zero, suc, _*_, _/_, _%_, _<_, _≤_}
-use native.Mathlib.Nat.{div-add-mod' as div-mod}
+use Prim.Native.Nat.{ℕ, zero, suc, _+_, _*_, _<_, _≤_}
 use native.Mathlib.Omega.{arith}
-use mathlib.Core.Bool.{Bool, true, false, not}
+use mathlib.Core.Bool.{Bool, true, false}
 use mathlib.Core.List.{List, [], _∷_, _++_}
 use lib.ListN.{length, getD, drop, set, length-append}
 use lib.Seq.{drop-cons, set-at, append-snoc}
-use lib.Dec.{eqb, ltb, lit≤}
+use lib.Dec.{eqb, lit≤}
+use lib.IntN.{ℤ, pos, negsuc}
+use mir.Syntax.{w32}
+use mir.Val.{toZ, ofZ}
 use borrow.Author.Needs.{zero≤}
-use borrow.Author.Tests.{ltb-true, ltb-false}
-use Rattle.refusal.specs.declared.Counted.{Counted}
-use Rattle.refusal.specs.declared.Counted.the-variants.{Count}
-use Rattle.refusal.specs.Lent.{onto}
-use Rattle.refusal.specs.Table.{raggedWords, tooManyCells, tooShort}
+use Rattle.lists.specs.Words.{none}
+use Rattle.complex_facets.specs.Records.{oneIf}
 use Rattle.complex_records.specs.declared.FacetRec.{FacetRec}
-use Rattle.complex_records.specs.Record.{noFacet, recordAt, firstRecords, oneIf, bordering}
-use Rattle.complex_records.specs.Fill.{mostFacets, refuseCount, fillAnswer, countOf, handed, Filled}
+use Rattle.complex_records.specs.Record.{noFacet, signIf, signNumber, recordAt, firstRecords, bordering}
+
+-- ---- a record by its five fields
+abbrev fields : ℕ → ℤ → ℕ → ℤ → Bool → FacetRec
+fields cell sign other there agree = record { cell = cell; sign = sign; other = other; «other_sign» = there; agree = agree }
+
+-- a sign's number is stored and read as it is
+sign-kept : (s t : Bool) → toZ w32 (ofZ w32 (signIf s (pos 1) (signIf t (negsuc 0) (pos 0)))) ≡ signIf s (pos 1) (signIf t (negsuc 0) (pos 0))
+sign-kept true t = refl
+sign-kept false true = refl
+sign-kept false false = refl
+
+stored : (mark : ℕ) (sign : ℤ) → sign ≡ signNumber mark → toZ w32 (ofZ w32 sign) ≡ signNumber mark
+stored mark sign e = ap (λ (z : ℤ). toZ w32 (ofZ w32 z)) e ∙ sign-kept (eqb mark 1) (eqb mark 2)
+
+pub made : (flat : List ℕ) (i : ℕ) (sign there : ℤ) → sign ≡ signNumber (getD flat (i * 5 + 1) 0) → there ≡ signNumber (getD flat (i * 5 + 3) 0) →
+    fields (getD flat (i * 5) 0) (toZ w32 (ofZ w32 sign)) (getD flat (i * 5 + 2) 0) (toZ w32 (ofZ w32 there)) (eqb (getD flat (i * 5 + 4) 0) 1) ≡ recordAt flat i
+made flat i sign there p q =
+    ap (λ (z : ℤ). fields (getD flat (i * 5) 0) z (getD flat (i * 5 + 2) 0) (toZ w32 (ofZ w32 there)) (eqb (getD flat (i * 5 + 4) 0) 1)) (stored (getD flat (i * 5 + 1) 0) sign p) ∙
+    ap (λ (z : ℤ). fields (getD flat (i * 5) 0) (signNumber (getD flat (i * 5 + 1) 0)) (getD flat (i * 5 + 2) 0) z (eqb (getD flat (i * 5 + 4) 0) 1)) (stored (getD flat (i * 5 + 3) 0) there q)
 
 -- ---- the records written so far
-pub first-length : (k : ℕ) (table : List ℕ) → length (firstRecords k table) ≡ k
+pub first-length : (k : ℕ) (flat : List ℕ) → length (firstRecords k flat) ≡ k
 unfolding firstRecords
-first-length zero table = refl
-first-length (suc k) table = length-append (firstRecords k table) (recordAt table k ∷ []) ∙ omega (arith, first-length k table)
+first-length zero flat = refl
+first-length (suc k) flat = length-append (firstRecords k flat) (recordAt flat k ∷ []) ∙ omega (arith, first-length k flat)
 
 -- one more is written
-pub written : (table : List ℕ) (records : List FacetRec) (i : ℕ) → i < length records → set (firstRecords i table ++ drop i records) i (recordAt table i) ≡ firstRecords (suc i) table ++ drop (suc i) records
+pub written : (flat : List ℕ) (records : List FacetRec) (i : ℕ) → i < length records → set (firstRecords i flat ++ drop i records) i (recordAt flat i) ≡ firstRecords (suc i) flat ++ drop (suc i) records
 unfolding firstRecords
-written table records i h = rw (drop-cons records i noFacet h) (set-at (firstRecords i table) (getD records i noFacet) (drop (suc i) records) (recordAt table i) i (first-length i table) ∙ sym (append-snoc (firstRecords i table) (recordAt table i) (drop (suc i) records)))
+written flat records i h = rw (drop-cons records i noFacet h) (set-at (firstRecords i flat) (getD records i noFacet) (drop (suc i) records) (recordAt flat i) i (first-length i flat) ∙ sym (append-snoc (firstRecords i flat) (recordAt flat i) (drop (suc i) records)))
 
 -- ---- the facets counted so far
 pub one-most : (t : Bool) → oneIf t ≤ 1
@@ -37,51 +54,4 @@ one-most false = zero≤
 pub bordering-most : (n : ℕ) (records : List FacetRec) → bordering n records ≤ n
 unfolding bordering
 bordering-most zero records = zero≤
-bordering-most (suc n) records = omega (arith, bordering-most n records, one-most (eqb (getD records n noFacet .other) 4294967295))
-
--- ---- the answer of `fill`: its count has room and is of the table, and what it hands out are that many records
-abbrev Said : ℕ → Bool → Bool → Bool → Counted
-Said n ragged many short = refuseCount ragged raggedWords (refuseCount many tooManyCells (refuseCount short tooShort (Count n)))
-
-said-room : (room n : ℕ) (ragged many short : Bool) → ltb room n ≡ short → countOf (Said n ragged many short) ≤ room
-said-room room n true many short e = zero≤
-said-room room n false true short e = zero≤
-said-room room n false false true e = zero≤
-said-room room n false false false e = ltb-false room n e
-
-said-most : (n : ℕ) (ragged many short : Bool) → countOf (Said n ragged many short) ≤ n
-said-most n true many short = zero≤
-said-most n false true short = zero≤
-said-most n false false true = zero≤
-said-most n false false false = omega arith
-
-said-handed : (table : List ℕ) (ragged many short : Bool) → handed (Said (length table / 4) ragged many short) table ≡ firstRecords (countOf (Said (length table / 4) ragged many short)) table
-unfolding firstRecords
-said-handed table true many short = refl
-said-handed table false true short = refl
-said-handed table false false true = refl
-said-handed table false false false = refl
-
-pub count-room : (long room : ℕ) → countOf (fillAnswer long room) ≤ room
-count-room long room = said-room room (long / 4) (not (eqb (long % 4) 0)) (ltb mostFacets (long / 4)) (ltb room (long / 4)) refl
-
-pub count-quarter : (long room : ℕ) → countOf (fillAnswer long room) ≤ long / 4
-count-quarter long room = said-most (long / 4) (not (eqb (long % 4) 0)) (ltb mostFacets (long / 4)) (ltb room (long / 4))
-
-pub count-most : (long room : ℕ) → countOf (fillAnswer long room) * 4 ≤ long
-count-most long room = omega (arith, count-quarter long room, div-mod long 4)
-
-pub handed-first : (table : List ℕ) (room : ℕ) → handed (fillAnswer (length table) room) table ≡ firstRecords (countOf (fillAnswer (length table) room)) table
-handed-first table room = said-handed table (not (eqb (length table % 4) 0)) (ltb mostFacets (length table / 4)) (ltb room (length table / 4))
-
--- what `fill` asks of `fill_first`, and what it promises
-pub asked : (table : List ℕ) (records : List FacetRec) (said : Counted) (n : ℕ) → said ≡ fillAnswer (length table) (length records) → n ≡ countOf said → (n ≤ length records) × (n * 4 ≤ length table)
-asked table records said n e f =
-    let g : n ≡ countOf (fillAnswer (length table) (length records)) = f ∙ ap countOf e in
-    (rw g (count-room (length table) (length records)), rw g (count-most (length table) (length records)))
-
-pub filled : (table : List ℕ) (records records′ : List FacetRec) (said : Counted) (n : ℕ) → said ≡ fillAnswer (length table) (length records) → n ≡ countOf said → records′ ≡ onto (firstRecords n table) records → Filled table said records records′
-filled table records records′ said n e f p = record {
-  answered = e;
-  list = p ∙ ap (λ (l : List FacetRec). onto l records) (ap (λ (k : ℕ). firstRecords k table) (f ∙ ap countOf e) ∙ sym (handed-first table (length records)) ∙ ap (λ (s : Counted). handed s table) (sym e));
-}
+bordering-most (suc n) records = omega (arith, bordering-most n records, one-most (eqb (getD records n noFacet .other) none))

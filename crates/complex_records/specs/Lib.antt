@@ -1,2 +1,3 @@
 pub mod Record
-pub mod Fill
+pub mod Promise
+pub mod Work

@@ -1,37 +1,46 @@
--- The facet table as records: what four numbers of the flat table say of a facet. Assumes nothing.
-use Prim.Native.Nat.{ℕ, zero, suc, _+_, _*_, _/_}
+-- The facet records as structs: what five numbers of the flat list say of a facet. Assumes nothing.
+use Prim.Native.Nat.{ℕ, zero, suc, _+_, _*_}
 use mathlib.Core.Bool.{Bool, true, false}
 use mathlib.Core.List.{List, [], _∷_, _++_}
+use lib.IntN.{ℤ, pos, negsuc}
 use lib.ListN.{length, getD}
 use lib.Dec.{eqb, ltb}
+use Rattle.lists.specs.Words.{none}
+use Rattle.complex.specs.Skeleton.{facetsOf}
+use Rattle.complex_facets.specs.Records.{oneIf, recordsOf}
 use Rattle.complex_records.specs.declared.FacetRec.{FacetRec}
 use Rattle.complex_records.specs.declared.Found.{Found}
 use Rattle.complex_records.specs.declared.Found.the-variants.{Facet, NoFacet}
 
 -- what stands past the end of a list of records
 abbrev pub noFacet : FacetRec
-noFacet = record { cell = 0; dropped = 0; other = 0; «other_dropped» = 0 }
+noFacet = record { cell = 0; sign = pos 0; other = 0; «other_sign» = pos 0; agree = false }
 
--- the i-th record of a flat table: the lower cell, the position dropped there, the other cell and the position dropped there
+-- one number where the test holds, else the other
+abbrev pub signIf : Bool → ℤ → ℤ → ℤ
+signIf true s t = s
+signIf false s t = t
+
+-- the sign that a mark stands for: 1 for the mark 1, -1 for 2, and 0 where there is none
+abbrev pub signNumber : ℕ → ℤ
+signNumber mark = signIf (eqb mark 1) (pos 1) (signIf (eqb mark 2) (negsuc 0) (pos 0))
+
+-- the i-th record of a flat list: the lower cell and the sign there, the other cell and the sign there, and whether the words agree
 abbrev pub recordAt : List ℕ → ℕ → FacetRec
-recordAt table i = record { cell = getD table (i * 4) 0; dropped = getD table (i * 4 + 1) 0; other = getD table (i * 4 + 2) 0; «other_dropped» = getD table (i * 4 + 3) 0 }
+recordAt flat i = record { cell = getD flat (i * 5) 0; sign = signNumber (getD flat (i * 5 + 1) 0); other = getD flat (i * 5 + 2) 0; «other_sign» = signNumber (getD flat (i * 5 + 3) 0); agree = eqb (getD flat (i * 5 + 4) 0) 1 }
 
--- the first k records of a flat table
+-- the first k records of a flat list
 unfoldable pub firstRecords : ℕ → List ℕ → List FacetRec
-firstRecords zero table = []
-firstRecords (suc k) table = firstRecords k table ++ (recordAt table k ∷ [])
+firstRecords zero flat = []
+firstRecords (suc k) flat = firstRecords k flat ++ (recordAt flat k ∷ [])
 
--- the records of a flat table, four numbers to a record
-abbrev pub recordsOf : List ℕ → List FacetRec
-recordsOf table = firstRecords (length table / 4) table
+-- the records of the facets of cells, by the words ks, one for each cell
+abbrev pub facetRecords : ℕ → List (List ℕ) → List (List ℕ) → List FacetRec
+facetRecords d cs ks = firstRecords (length (facetsOf d cs)) (recordsOf d cs ks)
 
 -- 1 for a facet that lies in one cell, and 0 for another
-abbrev pub oneIf : Bool → ℕ
-oneIf true = 1
-oneIf false = 0
-
 abbrev pub loneOf : FacetRec → ℕ
-loneOf r = oneIf (eqb (r .other) 4294967295)
+loneOf r = oneIf (eqb (r .other) none)
 
 -- how many of the first n records have a facet that lies in one cell
 unfoldable pub bordering : ℕ → List FacetRec → ℕ

@@ -1,26 +1,24 @@
-// The facet table as a list of records, one record for each facet: thin functions over lent lists of records, above covered ones that read the flat table which `skeleton::facets` hands out.
+// The facet records as a lent list of structs, one for each facet of a cell list: thin functions over lists of records, above the covered call `skeleton::facet_records`,
+// which hands out five numbers a facet.
 // The port added it: the Rust asks a facet for its cells (`Facet::adjacent_cells`).
 use refusal::Counted;
-use refusal::MOST_CELLS;
-use refusal::RAGGED_WORDS;
-use refusal::TOO_MANY_CELLS;
-use refusal::TOO_SHORT;
 ghost use mathlib.Core.Path.{_≡_};
 ghost use Prim.Native.Nat.{_<_, _≤_, _+_, _*_, _^_, min};
 ghost use lib.ListN.{length, set, getD};
+ghost use Rattle.refusal.specs.Told.{countOf};
 ghost use Rattle.refusal.specs.Lent.{onto};
-ghost use Rattle.complex_records.specs.Record.{noFacet, recordAt, firstRecords, loneOf, bordering, foundAt};
-ghost use Rattle.complex_records.specs.Fill.{fillAnswer, countOf, Filled};
+ghost use Rattle.complex_records.specs.Record.{noFacet, signNumber, recordAt, firstRecords, loneOf, bordering, foundAt};
+ghost use Rattle.complex_records.specs.Promise.{Numbers, Records};
+ghost use Rattle.complex_records.specs.Work.{Shared};
 
-// The most facets that 4,096 cells have, four a cell: specs/Fill.antt has the same number.
-const MOST_FACETS: usize = 4 * MOST_CELLS;
-
-// A facet: its lower cell and the position dropped there, its other cell and the position dropped there. The last two are 4294967295 where it lies in one cell.
+// A facet: its lower cell and the induced sign there, its other cell and the induced sign there, 1 or -1, and whether the words of its cells agree on it. Where it lies in one
+// cell the other is 4294967295, the sign there 0, and they agree.
 pub struct FacetRec {
     pub cell: u32,
-    pub dropped: u32,
+    pub sign: i32,
     pub other: u32,
-    pub other_dropped: u32,
+    pub other_sign: i32,
+    pub agree: bool,
 }
 
 // What a question for one record says.
@@ -62,59 +60,57 @@ pub fn read(records: &[FacetRec], i: usize) -> Found
     this_facet(r)
 }
 
-// The i-th record of a flat table.
-fn record_at(table: &[u32], i: usize) -> FacetRec
-    requires { ⌜ i * 4 + 4 ≤ length (now table) ⌝ }
-    ensures { λ r. ⌜ r ≡ recordAt (now (table .entry)) i ⌝ }
+// The sign that a mark stands for: 1 for the mark 1, -1 for 2, and 0 where there is none.
+fn sign_number(mark: u32) -> i32
+    ensures { λ r. ⌜ r ≡ signNumber mark ⌝ }
 {
-    let k = i * 4;
-    let cell = table[k];
-    let dropped = table[k + 1];
-    let other = table[k + 2];
-    let other_dropped = table[k + 3];
+    if mark == 1 {
+        return 1;
+    }
+    if mark == 2 {
+        return -1;
+    }
+    0
+}
+
+// The i-th record of a flat list, five numbers a record.
+fn record_at(flat: &[u32], i: usize) -> FacetRec
+    requires { ⌜ i * 5 + 5 ≤ length (now flat) ⌝ }
+    ensures { λ r. ⌜ r ≡ recordAt (now (flat .entry)) i ⌝ }
+{
+    let k = i * 5;
+    let cell = flat[k];
+    let sign = sign_number(flat[k + 1]);
+    let other = flat[k + 2];
+    let other_sign = sign_number(flat[k + 3]);
+    let agree = flat[k + 4] == 1;
     FacetRec {
         cell,
-        dropped,
+        sign,
         other,
-        other_dropped,
+        other_sign,
+        agree,
     }
 }
 
-// The i-th record is the flat table's i-th from now on.
-fn store_at(records: &mut [FacetRec], i: usize, table: &[u32])
-    requires { ⌜ (i < length (now records)) × (i * 4 + 4 ≤ length (now table)) ⌝ }
-    ensures { λ _. ⌜ now (records .exit) ≡ set (now (records .entry)) i (recordAt (now (table .entry)) i) ⌝ }
+// The i-th record is the flat list's i-th from now on.
+fn store_at(records: &mut [FacetRec], i: usize, flat: &[u32])
+    requires { ⌜ (i < length (now records)) × (i * 5 + 5 ≤ length (now flat)) ⌝ }
+    ensures { λ _. ⌜ now (records .exit) ≡ set (now (records .entry)) i (recordAt (now (flat .entry)) i) ⌝ }
 {
-    records[i] = record_at(table, i);
+    records[i] = record_at(flat, i);
 }
 
-// The first k records are the flat table's from now on.
-fn fill_first(records: &mut [FacetRec], k: usize, table: &[u32])
-    requires { ⌜ (k ≤ length (now records)) × (k * 4 ≤ length (now table)) ⌝ }
-    ensures { λ _. ⌜ now (records .exit) ≡ onto (firstRecords k (now (table .entry))) (now (records .entry)) ⌝ }
+// The first k records are the flat list's from now on.
+fn fill_first(records: &mut [FacetRec], k: usize, flat: &[u32])
+    requires { ⌜ (k ≤ length (now records)) × (k * 5 ≤ length (now flat)) ⌝ }
+    ensures { λ _. ⌜ now (records .exit) ≡ onto (firstRecords k (now (flat .entry))) (now (records .entry)) ⌝ }
 {
     let mut i = 0;
     while i < k {
-        store_at(records, i, table);
+        store_at(records, i, flat);
         i += 1;
     }
-}
-
-// How many records a table of `long` numbers has: 2 where these are no multiple of four, 3 where they are the facets of more than 4,096 cells, 12 where there is room for fewer.
-fn answer(long: usize, room: usize) -> Counted
-    ensures { λ r. ⌜ r ≡ fillAnswer long room ⌝ }
-{
-    if long % 4 != 0 {
-        return Counted::Refused(RAGGED_WORDS, 0);
-    }
-    let n = long / 4;
-    if MOST_FACETS < n {
-        return Counted::Refused(TOO_MANY_CELLS, 0);
-    }
-    if room < n {
-        return Counted::Refused(TOO_SHORT, 0);
-    }
-    Counted::Count(n as u32)
 }
 
 // The count of an answer, 0 for a refusal.
@@ -127,13 +123,68 @@ fn count_of(said: Counted) -> usize
     }
 }
 
-// The records of a flat table, four numbers to a record, and how many they are. It refuses with 2, 3 and 12 as `answer` says, and then changes nothing; records past the count keep their values.
-pub fn fill(table: &[u32], records: &mut [FacetRec]) -> Counted
-    ensures { λ r. ⌜ Filled (now (table .entry)) r (now (records .entry)) (now (records .exit)) ⌝ }
+// How much of a flat list of `long` numbers is lent on, so that no more than `room` records come to stand there.
+fn shared(long: usize, room: usize) -> usize
+    ensures { λ r. ⌜ Shared long room r ⌝ }
 {
-    let said = answer(table.len(), records.len());
+    if room < long / 5 {
+        return room * 5;
+    }
+    long
+}
+
+// The facets, and in `flat` five numbers for each, where there are no more than `room` of them.
+fn numbers(
+    d: u32,
+    words: &[u32],
+    room: usize,
+    facets: &mut [u32],
+    flat: &mut [u32],
+    keys: &mut [u32],
+    rows: &mut [u32],
+    spare: &mut [u32],
+    counts: &mut [u32],
+) -> Counted
+    ensures { λ r.
+        ⌜ Numbers d (now (words .entry)) room r (now (facets .entry)) (now (facets .exit)) (now (flat .entry)) (now (flat .exit)) (now (keys .entry))
+        (now (keys .exit)) (now (rows .entry)) (now (rows .exit)) (now (spare .entry)) (now (spare .exit)) (now (counts .entry)) (now (counts .exit)) ⌝ }
+{
+    let long = shared(flat.len(), room);
+    skeleton::facet_records(
+        d,
+        words,
+        facets,
+        &mut flat[..long],
+        keys,
+        rows,
+        spare,
+        counts,
+    )
+}
+
+// The facets of a cell list, d vertices each, five numbers for each in `flat` as `skeleton::facet_records` has them, and a record for each in `records`. Says how many facets.
+// Refused as `skeleton::facet_records` is, 12 also where there are fewer records than facets. A refusal changes no facet, no number of `flat` and no record; records past the
+// count keep their values.
+pub fn records(
+    d: u32,
+    words: &[u32],
+    facets: &mut [u32],
+    flat: &mut [u32],
+    records: &mut [FacetRec],
+    keys: &mut [u32],
+    rows: &mut [u32],
+    spare: &mut [u32],
+    counts: &mut [u32],
+) -> Counted
+    ensures { λ r.
+        ⌜ Records d (now (words .entry)) r (now (facets .entry)) (now (facets .exit)) (now (flat .entry)) (now (flat .exit)) (now (records .entry))
+        (now (records .exit)) (now (keys .entry)) (now (keys .exit)) (now (rows .entry)) (now (rows .exit)) (now (spare .entry)) (now (spare .exit))
+        (now (counts .entry)) (now (counts .exit)) ⌝ }
+{
+    let room = records.len();
+    let said = numbers(d, words, room, facets, flat, keys, rows, spare, counts);
     let n = count_of(said);
-    fill_first(records, n, table);
+    fill_first(records, n, flat);
     said
 }
 

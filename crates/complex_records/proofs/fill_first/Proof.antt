@@ -29,27 +29,27 @@ abbrev Recs : Type 0
 Recs = List (R .Denot)
 
 abbrev Inv : List ℕ → Recs → ℕ → Recs → ℕ → Type 0
-Inv table records k rs i = (i ≤ k) × (rs ≡ firstRecords i table ++ drop i records)
+Inv flat records k rs i = (i ≤ k) × (rs ≡ firstRecords i flat ++ drop i records)
 
-start : (table : List ℕ) (records : Recs) → records ≡ firstRecords 0 table ++ drop 0 records
+start : (flat : List ℕ) (records : Recs) → records ≡ firstRecords 0 flat ++ drop 0 records
 unfolding firstRecords
-start table records = refl
+start flat records = refl
 
-module _ (table : List ℕ) (records : Recs) (k : ℕ) (rs : Recs) (i : ℕ) (room : k ≤ length records) (v : Inv table records k rs i) where
+module _ (flat : List ℕ) (records : Recs) (k : ℕ) (rs : Recs) (i : ℕ) (room : k ≤ length records) (v : Inv flat records k rs i) where
   long : length rs ≡ length records
-  long = ap length (v .1) ∙ length-append (firstRecords i table) (drop i records) ∙ omega (arith, first-length i table, length-drop i records)
+  long = ap length (v .1) ∙ length-append (firstRecords i flat) (drop i records) ∙ omega (arith, first-length i flat, length-drop i records)
 
-  asked : k * 4 ≤ length table → i < k → (i < length rs) × (i * 4 + 4 ≤ length table)
+  asked : k * 5 ≤ length flat → i < k → (i < length rs) × (i * 5 + 5 ≤ length flat)
   asked most l = (omega (arith, long), omega arith)
 
-  again : (rs′ : Recs) → i < k → rs′ ≡ set rs i (recordAt table i) → Inv table records k rs′ (i + 1)
-  again rs′ l e = (omega arith, e ∙ ap (λ (l : Recs). set l i (recordAt table i)) (v .1) ∙ written table records i (omega arith) ∙ ap (λ (j : ℕ). firstRecords j table ++ drop j records) (sym (add-one i)))
+  again : (rs′ : Recs) → i < k → rs′ ≡ set rs i (recordAt flat i) → Inv flat records k rs′ (i + 1)
+  again rs′ l e = (omega arith, e ∙ ap (λ (l : Recs). set l i (recordAt flat i)) (v .1) ∙ written flat records i (omega arith) ∙ ap (λ (j : ℕ). firstRecords j flat ++ drop j records) (sym (add-one i)))
 
-  all : k ≤ i → rs ≡ onto (firstRecords k table) records
-  all l = let e : i ≡ k = omega arith in v .1 ∙ ap (λ (j : ℕ). firstRecords j table ++ drop j records) e ∙ ap (λ (j : ℕ). firstRecords k table ++ drop j records) (sym (first-length k table))
+  all : k ≤ i → rs ≡ onto (firstRecords k flat) records
+  all l = let e : i ≡ k = omega arith in v .1 ∙ ap (λ (j : ℕ). firstRecords j flat ++ drop j records) e ∙ ap (λ (j : ℕ). firstRecords k flat ++ drop j records) (sym (first-length k flat))
 
 -- ---- the derivation
--- the table, with the rows of recs, i and the slice that is lent, and the slots of recs and of the call
+-- the flat, with the rows of recs, i and the slice that is lent, and the slots of recs and of the call
 abbrev In : Row → Row → Row → (Lfts 2 → Shares 2 → Life) → Life → Lfts 2 → Shares 2 → Cx
 In r₁ r₄ r₈ l₀ l₂ κs qs = record {
   locals = (0, any-gone tyUnit) ∷ (1, r₁) ∷ (2, sc-here N) ∷ (3, sslice U (nums 1) 1) ∷ (4, r₄) ∷ (5, any-gone tyBool) ∷ (6, any-gone tyUnit) ∷ (7, any-gone lent) ∷ (8, r₈) ∷ [];
@@ -91,18 +91,18 @@ derived 𝓤 H A W 𝓣 known =
     -- _0 = ()
     then W (put W sUnit oUnit 0 tt (gone W) refl (λ u. refl) (λ u. tt)) ▸ free W 2 (tyInt w64) (rm W N) ▸ free W 4 (tyInt w64) (rm W N) ▸ rets W)
     (fill-first-says .Pre) (fill-first-says .Post)
-    (λ κs qs a good pre bs. let records : Recs = now (a .0) in let k : ℕ = a .1 .0 in let table : List ℕ = now (a .1 .1 .0) in
+    (λ κs qs a good pre bs. let records : Recs = now (a .0) in let k : ℕ = a .1 .0 in let flat : List ℕ = now (a .1 .1 .0) in
     -- the model at the loop's head
     let here : Recs → ℕ → Mo (Hd κs qs) = λ rs i. (tt, (record { ptr = a .0 .ptr; name = a .0 .name; now = rs }, (k, (a .1 .1 .0, (i, (tt, (tt, (tt, (tt, tt))))))))) in
     -- the invariant holds at the start; a turn, by its test: the call's `requires`, and after the call the next i fits, the measure is less, and the invariant holds again; the exit
     (
-      ((records, 0), refl {a = here records 0}, (zero≤, start table records)),
+      ((records, 0), refl {a = here records 0}, (zero≤, start flat records)),
       λ vs inv. (
         tt,
         (
           λ more. let l : vs .1 < k = ltb-true (vs .1) k more in
-              λ γ. (refl {a = vint w64 (length (vs .0))}, (λ κs′. asked table records k (vs .0) (vs .1) (pre .0) inv (pre .1) l, λ g. (refl {a = γ}, λ e. (record { fits = omega arith }, (k - (vs .1 + 1), omega arith, ((g .2 .0, vs .1 + 1), refl {a = here (g .2 .0) (vs .1 + 1)}, again table records k (vs .0) (vs .1) (pre .0) inv (g .2 .0) l (g .5), refl {a = k - (vs .1 + 1)})))))),
-          λ done. ((ap (λ (j : ℕ). (a .0 .ptr, (a .0 .name, j))) {x = length (vs .0)} {y = length records} (long table records k (vs .0) (vs .1) (pre .0) inv), (tt, (refl {a = a .1 .1 .0}, tt))), all table records k (vs .0) (vs .1) (pre .0) inv (ltb-false (vs .1) k done)),
+              λ γ. (refl {a = vint w64 (length (vs .0))}, (λ κs′. asked flat records k (vs .0) (vs .1) (pre .0) inv (pre .1) l, λ g. (refl {a = γ}, λ e. (record { fits = omega arith }, (k - (vs .1 + 1), omega arith, ((g .2 .0, vs .1 + 1), refl {a = here (g .2 .0) (vs .1 + 1)}, again flat records k (vs .0) (vs .1) (pre .0) inv (g .2 .0) l (g .5), refl {a = k - (vs .1 + 1)})))))),
+          λ done. ((ap (λ (j : ℕ). (a .0 .ptr, (a .0 .name, j))) {x = length (vs .0)} {y = length records} (long flat records k (vs .0) (vs .1) (pre .0) inv), (tt, (refl {a = a .1 .1 .0}, tt))), all flat records k (vs .0) (vs .1) (pre .0) inv (ltb-false (vs .1) k done)),
         ),
       ),
     ))

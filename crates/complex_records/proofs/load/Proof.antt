@@ -19,8 +19,8 @@ derived : {M : Type 1} (𝓤 : URA M) (H : Heap 𝓤) (A : Atoms 𝓤) → Given
 derived 𝓤 H A W 𝓣 =
     t-fn-plain 𝓤 H A W 𝓣 1 (load-says .ps) (load-says .r) (tyInt w64 ∷ tyPtr ∷ val ∷ []) 0 (replicate 6 valueLocal) (code.function .body) (λ κs qs bs. _)
     (λ κs qs bs bd.
-    -- _3 = _2 * 16; _4 = offset _1.0 _3; _5 = *_4; _0 = _5
-    then W (op W N (mul unsigned) (oAt 2 (tyInt w64) (vint w64)) (oInt w64 16) 3 (rd W N, refl) tt (gone W) refl (λ u. refl) (λ u. tt)) ▸
+    -- _3 = _2 * 20; _4 = offset _1.0 _3; _5 = *_4; _0 = _5
+    then W (op W N (mul unsigned) (oAt 2 (tyInt w64) (vint w64)) (oInt w64 20) 3 (rd W N, refl) tt (gone W) refl (λ u. refl) (λ u. tt)) ▸
     then W (op W sPtr offset (oFld 1 (field 0 ∷ []) (shr 0) 0 ptrVal) (oAt 3 (tyInt w64) (vint w64)) 4 (reads-sslice-ptr 𝓤 H A W R (shr 0) 0 0 refl, refl) (rd W N, refl) (gone W) refl (λ u. refl) (λ u. tt)) ▸
     then W (get-rec W facet 1 4 5 0 (shr 0) (lease (κs .0) (qs .0)) (λ u. u .1 .1 .0) (λ x. x) (λ x. x) (as-is 𝓤 H A (sslice R (shr 0) 0)) (as-is 𝓤 H A (sc-here sPtr)) (gone W) refl tt refl refl) ▸
     free W 3 (tyInt w64) (rm W N) ▸ free W 4 tyPtr (rm W sPtr) ▸

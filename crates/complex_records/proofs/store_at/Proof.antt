@@ -22,9 +22,9 @@ derived : {M : Type 1} (𝓤 : URA M) (H : Heap 𝓤) (A : Atoms 𝓤) (W : Give
 derived 𝓤 H A W 𝓣 known =
     t-fn-plain 𝓤 H A W 𝓣 2 (store-at-says .ps) (store-at-says .r) (val ∷ tyInt w64 ∷ tyPtr ∷ []) 0 (replicate 7 valueLocal) (code.function .body) (λ κs qs bs. _)
     (λ κs qs bs bd.
-    -- _4 = record_at(_3, _2); _5 = _2 * 16; _6 = offset _1.0 _5; *_6 = _4; _0 = ()
+    -- _4 = record_at(_3, _2); _5 = _2 * 20; _6 = offset _1.0 _5; *_6 = _4; _0 = ()
     then W (call W record-at-says known (record { pos = 3; ty = nums 1; ref = λ x. x }, (vAt 2 (λ x. x), tt)) 4 (1 ∷ []) (spares-sslice 𝓤 H A W U (nums 1) 1, reads-sslice 𝓤 H A W U (nums 1) 1, refl, ((rd W N, refl), tt)) (gone W) (tt, tt) refl) ▸
-    then W (op W N (mul unsigned) (oAt 2 (tyInt w64) (vint w64)) (oInt w64 16) 5 (rd W N, refl) tt (gone W) refl (λ u. refl) (λ u. tt)) ▸
+    then W (op W N (mul unsigned) (oAt 2 (tyInt w64) (vint w64)) (oInt w64 20) 5 (rd W N, refl) tt (gone W) refl (λ u. refl) (λ u. tt)) ▸
     then W (op W sPtr offset (oFld 1 (field 0 ∷ []) (own 0) 0 ptrVal) (oAt 5 (tyInt w64) (vint w64)) 6 (reads-mslice-ptr 𝓤 H A W R (own 0) 0 0 refl, refl) (rd W N, refl) (gone W) refl (λ u. refl) (λ u. tt)) ▸
     then W (set-rec W facet 1 6 4 0 (own 0) (lease (κs .0) (qs .0)) (λ u. u .1 .1 .0) (λ x. x) (λ x. x) (λ x. x) (λ x. x) (as-is 𝓤 H A (mslice R (own 0) 0)) (as-is 𝓤 H A (sc-here sPtr)) (yields W facet) refl tt refl refl) ▸
     free W 4 val (rm-rec W facet) ▸ free W 5 (tyInt w64) (rm W N) ▸ free W 6 tyPtr (rm W sPtr) ▸
