@@ -1,13 +1,12 @@
 -- The work step by step: the facets that one pass found, their records, and what the order's words say of them. Assumes nothing.
 use mathlib.Core.Bool.{Bool, true, false}
-use mathlib.Core.List.{List, [], _∷_, _++_}
+use mathlib.Core.List.{List, [], _++_}
 use mathlib.Core.Path.{_≡_, refl, sym, ap, _∙_, subst}
-use Prim.Native.Nat.{ℕ, zero, suc, _+_, _-_, _*_, _/_, _%_, _<_, _≤_}
+use Prim.Native.Nat.{ℕ, zero, suc, _+_, _-_, _*_, _/_, _<_, _≤_}
 use native.Mathlib.Nat.{le-refl, mul-zero, mul-le-mul-left, div-lt-iff-lt-mul}
 use native.Mathlib.Numerals.{add-one}
 use native.Mathlib.Decide.{ℕ-discrete}
 use native.Mathlib.Omega.{arith}
-use lib.Dec.{eqb}
 use lib.ListN.{length, getD, take, drop, length-append, length-drop}
 use lib.Seq.{length-take-le, take-at}
 use borrow.Author.Tests.{eq-eqb, ne-eqb}
@@ -22,14 +21,13 @@ use Rattle.lists.proofs.Rows.{cut-length}
 use Rattle.sorting.specs.Gather.{rowsOf}
 use Rattle.sorting.proofs.Rows.{rowsOf-pos}
 use Rattle.complex.specs.Cells.{cellsOf}
-use Rattle.complex.specs.Facets.{cellAt, Cells, Crowded, slots}
-use Rattle.complex.specs.Room.{keyRoom}
+use Rattle.complex.specs.Facets.{Cells, Crowded, slots}
 use Rattle.complex.specs.Skeleton.{facetsOf, rowsWith}
 use Rattle.complex_cells.specs.WorkMade.{Made}
 use Rattle.complex_cells.proofs.Making.{few-corners}
 use Rattle.complex_cells.proofs.Named.{named-flat, named-many}
 use Rattle.complex_cells.proofs.Words.{Word}
-use Rattle.complex_mates.specs.Table.{MateTable, Meeting, Meet}
+use Rattle.complex_mates.specs.Table.{Meeting}
 use Rattle.complex_mates.proofs.Mated.{not-crowded}
 use Rattle.complex_mates.proofs.Meeting.{slots-most}
 use Rattle.complex_facets.specs.WorkClasses.{Pass, Found}
@@ -41,7 +39,7 @@ use Rattle.skeleton.proofs.Steps.{room-rows}
 use Rattle.ordering_words.specs.Order.{wordsBy, Orders}
 use Rattle.ordering_words.specs.WorkArrange.{Arranged}
 use Rattle.ordering_words.proofs.Lists.{made-again}
-use Rattle.ordering.specs.WorkAgree.{rowWord, Reading}
+use Rattle.ordering.specs.WorkAgree.{rowWord}
 use Rattle.ordering.specs.Promise.{Preparing, Ready}
 use Rattle.ordering.proofs.Agreeing.{row-word}
 use Rattle.ordering.proofs.Ends.{count-ready}

@@ -6,14 +6,13 @@ use Prim.Native.Nat.{ℕ, zero, suc, _+_, _*_, _<_, _≤_}
 use native.Mathlib.Nat.{le-refl, suc-mul}
 use native.Mathlib.Numerals.{add-one}
 use native.Mathlib.Omega.{arith}
-use lib.Dec.{eqb}
-use lib.ListN.{length, getD, take, drop, set, length-append, length-set, drop-of-length-le}
+use lib.ListN.{length, getD, take, drop, set, length-append, drop-of-length-le}
 use lib.Seq.{set-at, drop-cons, take-length, length-take-le}
 use borrow.Author.Tests.{eq-eqb, ne-eqb}
 use Rattle.lists.specs.Words.{sameWord, none}
-use Rattle.complex.specs.Skeleton.{facetsOf, rowsWith}
+use Rattle.complex.specs.Skeleton.{rowsWith}
 use Rattle.complex_cells.proofs.Words.{Word}
-use Rattle.complex_facets.specs.Records.{oneIf, signedOf, agreeOf, recordOf, eachRecord, recordsOf}
+use Rattle.complex_facets.specs.Records.{oneIf, signedOf, agreeOf, recordOf, eachRecord}
 use Rattle.ordering.specs.WorkAgree.{rowWord, Reading}
 use Rattle.ordering_records.specs.Work.{oneOr, agreeAt, Asking, tagged}
 

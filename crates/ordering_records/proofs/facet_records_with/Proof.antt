@@ -10,7 +10,7 @@ use Rattle.refusal.specs.declared.Room.{Room}
 use borrow.Author.Tests.{not-true, not-false}
 use lib.Seq.{length-take-le}
 use lib.ListN.{length}
-use mathlib.Core.Path.{_≡_, refl, sym, ap, _∙_}
+use mathlib.Core.Path.{refl, sym, ap, _∙_}
 use mathlib.Core.List.{[]}
 use borrow.Author.Needs.{needs}
 use Rattle.ordering_records.proofs.facet_records_with.Statement.{statement}

@@ -4,8 +4,8 @@ use Rattle.lists.proofs.Words.{tail-part}
 use lib.Seq.{length-take-le}
 use lib.ListN.{length, take, drop}
 use native.Mathlib.Omega.{arith}
-use Prim.Native.Nat.{ℕ, _*_, _-_, _<_, _≤_}
-use mathlib.Core.Path.{_≡_, sym}
+use Prim.Native.Nat.{_-_}
+use mathlib.Core.Path.{sym}
 use borrow.Author.Needs.{needs}
 use Rattle.ordering_records.proofs.hand_out.Statement.{statement}
 use Rattle.ordering_records.proofs.hand_out.Tie as tie

@@ -1,9 +1,9 @@
 -- `ordering_records::tag` meets its contract. The loop's invariant: the last numbers of the first i records are set. Assumes nothing.
 use Rattle.ordering_records.proofs.Tags.{tag-turn}
 use Rattle.ordering_records.specs.Work.{agreeAt, tagged}
-use lib.ListN.{length, getD, set, length-set}
+use lib.ListN.{length, getD, length-set}
 use native.Mathlib.Omega.{arith}
-use Prim.Native.Nat.{ℕ, _+_, _*_, _-_, _≤_, _<_}
+use Prim.Native.Nat.{ℕ, _-_, _≤_}
 use mathlib.Core.Path.{_≡_, refl, ap, _∙_}
 use borrow.Author.Needs.{needs}
 use Rattle.ordering_records.proofs.tag.Statement.{statement}

@@ -4,7 +4,7 @@ use Rattle.ordering.proofs.Steps.{making, arranging, at-fits, front-fits}
 use borrow.Author.Tests.{not-true, not-false}
 use lib.Seq.{length-take-le}
 use native.Mathlib.Omega.{arith}
-use mathlib.Core.Path.{_≡_, sym}
+use mathlib.Core.Path.{sym}
 use borrow.Author.Needs.{needs}
 use Rattle.ordering_records.proofs.work.Statement.{statement}
 use Rattle.ordering_records.proofs.work.Tie as tie
