@@ -1,0 +1,4 @@
+pub mod Tags
+pub mod Steps
+pub mod Determined
+pub mod Agreement
