@@ -82,8 +82,8 @@ CALL(refine_with, planner_refine_with(d, r, WORDS, order, norder, REFINED))
 CALL(refine_by_steps, planner_refine_by_steps(d, r, WORDS, REFINED))
 CALL(corners, planner_corners(d, r, OUT))
 CALL(corners_stepping, planner_corners_stepping(d, r, OUT))
-static uint64_t need_facets(void) {
-    for (int k = 0; k < MANY; k++) planner_need_facets(d, nwords, need);
+static uint64_t need_refine(void) {
+    for (int k = 0; k < MANY; k++) planner_need_refine(d, r, nwords, need);
     return 0;
 }
 
@@ -122,7 +122,7 @@ static const struct {
     {"orientation", orientation, peer_signs, 1}, {"orientation_looks", looks, 0, 1}, {"orient_by", orient_by, 0, 1}, {"ordering", ordering, 0, 1},
     {"induced_orientation", induced, 0, 1}, {"drop_cells", drop_cells, 0, 1}, {"incidence", incidence, 0, 1}, {"faces", faces, 0, 1}, {"boundary", boundary, 0, 1},
     {"matrix_market", matrix_market, 0, 1}, {"refine", refine, peer_refinement, 1}, {"refine_with", refine_with, 0, 1}, {"refine_by_steps", refine_by_steps, 0, 1},
-    {"corners", corners, 0, 1}, {"corners_stepping", corners_stepping, 0, 1}, {"need_facets", need_facets, 0, MANY},
+    {"corners", corners, 0, 1}, {"corners_stepping", corners_stepping, 0, 1}, {"need_refine", need_refine, 0, MANY},
 };
 
 static size_t numbers(uint32_t *list) {

@@ -433,6 +433,13 @@ void planner_need_boundary(uint32_t d, size_t n, size_t need[7]);            /* 
 void planner_need_matrix_market(uint32_t d, size_t n, size_t need[5]);       /* bytes, keys, rows, spare, counts; for every k */
 void planner_need_drop_cells(uint32_t d, size_t n, size_t need[6]);          /* kept, old, keys, rows, spare, counts */
 
+/* The four refinements by r: out_cells, out_words, parents, jacobians, wholes, birth_vertices, birth_weights, birth_shares, cells, along, pattern, keys, rows, spare, counts,
+ * sorted, firsts, buckets. */
+void planner_need_refine(uint32_t d, uint32_t r, size_t n, size_t need[18]);
+
+/* planner_corners, planner_corners_stepping: corners. */
+void planner_need_corners(uint32_t d, uint32_t r, size_t need[1]);
+
 /* Where births and pairs have so many numbers: bytes, keys, rows, spare, counts. */
 void planner_need_write_mesh(uint32_t d, size_t n, size_t births_len, size_t pairs_len, size_t need[5]);
 

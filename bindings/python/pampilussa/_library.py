@@ -70,9 +70,10 @@ NEEDS: Dict[str, int] = {
     "planner_need_cell_words": 5, "planner_need_triangulate_ordered": 6, "planner_need_edge_lengths_sq": 5, "planner_need_geojson": 5, "planner_need_chained_classes": 2,
     "planner_need_cells": 5, "planner_need_edges": 5, "planner_need_facets": 6, "planner_need_border": 5, "planner_need_orientation": 5, "planner_need_orient_by": 4,
     "planner_need_ordering": 5, "planner_need_induced_orientation": 4, "planner_need_incidence": 6, "planner_need_faces": 5, "planner_need_boundary": 7,
-    "planner_need_matrix_market": 5, "planner_need_drop_cells": 6, "planner_need_write_mesh": 5, "planner_need_read_mesh": 7,
+    "planner_need_matrix_market": 5, "planner_need_drop_cells": 6, "planner_need_refine": 18, "planner_need_corners": 1, "planner_need_write_mesh": 5,
+    "planner_need_read_mesh": 7,
 }
-TAKES = {"planner_need_write_mesh": "u32 size size size", "planner_need_read_mesh": "size"}
+TAKES = {"planner_need_refine": "u32 u32 size", "planner_need_corners": "u32 u32", "planner_need_write_mesh": "u32 size size size", "planner_need_read_mesh": "size"}
 SIGNATURES.update((name, TAKES.get(name, "u32 size") + " size&") for name in NEEDS)
 DTYPES = {"u8": np.uint8, "u32": np.uint32, "i32": np.int32, "f64": np.float64}
 NUMBERS = {"size": ctypes.c_size_t, "u32": ctypes.c_uint32, "i32": ctypes.c_int32, "f64": ctypes.c_double}

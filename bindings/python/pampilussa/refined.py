@@ -3,15 +3,15 @@ from typing import Any, NamedTuple, Optional, TYPE_CHECKING
 
 import numpy as np
 
-from . import _room
-from ._library import call, room, whole
-from .refused import MOST_CELLS, MOST_DIMENSION
+from ._library import call, needed, room, whole
+from .refused import MOST_DIMENSION
 
 if TYPE_CHECKING:
     from .complex import Complex
     from .mesh_file import Mesh
 
 NO_VERTEX = 0xFFFFFFFF
+FORM = MOST_DIMENSION ** 2          # numbers of a child's Jacobian, those past d * d zero
 
 
 class Births(NamedTuple):
@@ -56,13 +56,13 @@ class Refined:
         self.cells: np.ndarray = cells[:count * stride].reshape(count, stride)
         self.words: np.ndarray = words[:count * stride].reshape(count, stride)
         self.parents: np.ndarray = parents[:count]
-        self._forms = jacobians[:count * _room.FORM], wholes[:count * _room.FORM]
+        self._forms = jacobians[:count * FORM], wholes[:count * FORM]
         born = nvertices - coarse
         self.births = Births(*(x[:born * stride].reshape(born, stride) for x in (vertices, weights, shares)))
 
     def _square(self, flat: np.ndarray) -> np.ndarray:
         """A view of the flat list as one d by d matrix for each child."""
-        rows = flat.reshape(-1, _room.FORM)[:, :self.d * self.d]
+        rows = flat.reshape(-1, FORM)[:, :self.d * self.d]
         return rows.reshape(-1, self.d, self.d).swapaxes(1, 2)
 
     @property
@@ -95,7 +95,7 @@ class Refined:
         [[-1, 0], [1, 1]]
         """
         k = whole(number, "the child's number")
-        jacobian, form = np.zeros(_room.FORM), np.zeros(_room.FORM, np.int32)
+        jacobian, form = np.zeros(FORM), np.zeros(FORM, np.int32)
         parent = call("planner_child_of", k, self.parents, *self._forms, jacobian, form, short="there is no child %d; there are %d" % (k, len(self)))
         return Child(parent, self._square(jacobian)[0], self._square(form)[0])
 
@@ -138,21 +138,20 @@ class Refined:
 def corners(d: int, r: int) -> np.ndarray:
     """The pattern of one cell of dimension d refined by r: for each child, for each corner, the weights over the places of the cell's word, whole numbers over r."""
     d, r = whole(d, "d"), whole(r, "r")
-    most = min(r ** min(d, 3), MOST_CELLS) * (min(d, 3) + 1) ** 2 if r <= 64 else 0
-    out = np.empty(most, np.uint32)
+    out = np.empty(needed("corners", d, r)[0], np.uint32)
     count = call("planner_corners", d, r, out, d=d, r=r, words=[])
     return out[:count * (d + 1)].reshape(-1, d + 1, d + 1)
 
 
+RESULTS = (np.uint32, np.uint32, np.uint32, np.float64, np.int32, np.uint32, np.uint32, np.float64)
+
+
 def refine(d: int, words: np.ndarray, r: int, order: Optional[np.ndarray], how: str = "") -> Refined:
     """The words refined by r, along the cells' sorted vertices or along an order."""
-    n = _room.corners(d, words.size)
-    most = _room.children(d, n, r)
-    k = most * (d + 1)
-    lists = [np.empty(k, np.uint32), np.empty(k, np.uint32), np.empty(most, np.uint32), np.empty(most * _room.FORM), np.empty(most * _room.FORM, np.int32),
-             np.empty(k * (d + 1), np.uint32), np.empty(k * (d + 1), np.uint32), np.empty(k * (d + 1))]
+    need = needed("refine", d, r, words.size)
+    lists = [np.empty(n, kind) for n, kind in zip(need, RESULTS)]
     vertices = np.zeros(1, np.uint32)
     name, more = ("planner_refine", []) if order is None else ("planner_refine_with", [order])
     about = dict(d=d, words=words, r=r, **({} if order is None else {"order": order}))
-    count = call(name + how, d, r, words, *more, *lists, *room(_room.refined(d, n, r)), vertices, **about)
+    count = call(name + how, d, r, words, *more, *lists, *room(need[len(lists):]), vertices, **about)
     return Refined(d, r, int(words.max()) + 1, int(vertices[0]), lists, count)

@@ -27,9 +27,9 @@ pub fn corners_stepping(d: u32, r: u32) -> Result<Vec<Vec<u32>>, Refusal> {
 type Call = unsafe extern "C" fn(u32, u32, *mut u32, usize) -> u64;
 
 fn listed(d: u32, r: u32, call: Call) -> Result<Vec<Vec<u32>>, Refusal> {
-    let size = d.min(3) as usize + 1;
-    let children = (r.min(64) as usize).pow(d.min(3)).min(4096);
-    let mut list = vec![0u32; children * size * size];
+    let mut need = [0usize; 1];
+    unsafe { raw::planner_need_corners(d, r, need.as_mut_ptr()) };
+    let mut list = vec![0u32; need[0]];
     let count = said(unsafe { call(d, r, list.as_mut_ptr(), list.len()) })? as usize;
-    Ok(list.chunks(size).take(count).map(|corner| corner.to_vec()).collect())
+    Ok(list.chunks(d as usize + 1).take(count).map(|corner| corner.to_vec()).collect())
 }

@@ -53,6 +53,8 @@ extern "C" {
     pub fn planner_need_boundary(d: u32, n: usize, need: *mut usize);
     pub fn planner_need_matrix_market(d: u32, n: usize, need: *mut usize);
     pub fn planner_need_drop_cells(d: u32, n: usize, need: *mut usize);
+    pub fn planner_need_refine(d: u32, r: u32, n: usize, need: *mut usize);
+    pub fn planner_need_corners(d: u32, r: u32, need: *mut usize);
     pub fn planner_need_write_mesh(d: u32, n: usize, births_len: usize, pairs_len: usize, need: *mut usize);
     pub fn planner_need_read_mesh(bytes_len: usize, need: *mut usize);
     pub fn planner_drop_cells(d: u32, words: *const u32, words_len: usize, gone: *const u32, gone_len: usize, kept: *mut u32, kept_len: usize, old: *mut u32, old_len: usize, keys: *mut u32, keys_len: usize, rows: *mut u32, rows_len: usize, spare: *mut u32, spare_len: usize, counts: *mut u32, counts_len: usize, vertices: *mut u32) -> u64;

@@ -1,6 +1,5 @@
 //! Refinement: every cell is cut into R^d children.
 use crate::answer::said;
-use crate::complex::corners;
 use crate::{raw, Refusal};
 
 /// A child of a coarse cell.
@@ -84,22 +83,15 @@ pub fn refine_with_by_steps(d: u32, words: &[u32], order: &[u32], r: u32) -> Res
     refined(d, words, Some(order), r, true)
 }
 
-/// How many children there may be, at most the limit; r counts as 1 where it is refused.
-fn most_children(d: u32, n: usize, r: u32) -> usize {
-    let r = if (1..=64).contains(&r) { r as usize } else { 1 };
-    (n / (d as usize + 1) * r.pow(d.min(3))).min(4096)
-}
-
 fn refined(d: u32, words: &[u32], order: Option<&[u32]>, r: u32, by_steps: bool) -> Result<Refined, Refusal> {
-    let n = corners(d, words);
     let size = d as usize + 1;
-    let c = most_children(d, n, r);
-    let k = c * size;
-    let births = 4096 * size.min(4);
-    let (mut out_cells, mut out_words, mut parents) = (vec![0u32; k], vec![0u32; k], vec![0u32; c]);
-    let (mut jacobians, mut wholes) = (vec![0.0f64; 9 * c], vec![0i32; 9 * c]);
-    let (mut vertices, mut weights, mut shares) = (vec![0u32; births], vec![0u32; births], vec![0.0f64; births]);
-    let mut room = [n, n, size * k, 4 * n + 8 * k, n + k, n + k, n + k + 65, k, c, n + k].map(|n| vec![0u32; n]);
+    let mut need = [0usize; 18];
+    unsafe { raw::planner_need_refine(d, r, words.len(), need.as_mut_ptr()) };
+    let [cells, listed, parents, forms, whole_forms, born, weighed, shared, room @ ..] = need;
+    let (mut out_cells, mut out_words, mut parents) = (vec![0u32; cells], vec![0u32; listed], vec![0u32; parents]);
+    let (mut jacobians, mut wholes) = (vec![0.0f64; forms], vec![0i32; whole_forms]);
+    let (mut vertices, mut weights, mut shares) = (vec![0u32; born], vec![0u32; weighed], vec![0.0f64; shared]);
+    let mut room = room.map(|n| vec![0u32; n]);
     let [a, b, p, e, o, s, t, u, f, v] = &mut room;
     let mut total = [0u32];
     macro_rules! call {

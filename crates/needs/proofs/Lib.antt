@@ -1,4 +1,3 @@
 pub mod Laws
-pub mod Words
 pub mod Sizes
 pub mod Enough

@@ -25,6 +25,7 @@ use Rattle.complex_facets.specs.Sides.{tableOf}
 use Rattle.complex_facets.specs.Records.{recordNeed}
 use Rattle.skeleton.specs.Parts.{edgeNeed}
 use Rattle.skeleton.specs.Promise as skeleton
+use Rattle.skeleton.proofs.Sizes.{cells-most, corners-most, cells-fit, edges-fit, facets-fit, table-fits, border-fits}
 use Rattle.orientation.specs.declared.Coherence.{Coherence}
 use Rattle.orientation.specs.declared.Coherence.the-variants as Coherence
 use Rattle.orientation.specs.Promise as orientation
@@ -34,11 +35,9 @@ use Rattle.ordering.specs.declared.Ordered.the-variants as Ordered
 use Rattle.ordering.specs.Promise as ordering
 use Rattle.needs.specs.Needs.{worked}
 use Rattle.needs.specs.Enough.{Long, countedNumber, verdictNumber}
-use Rattle.needs.proofs.Sizes.{cells-most, corners-most, cells-fit}
 use Rattle.needs.proofs.Enough.{check-never, never, roomy-of, key-least, told}
 use Rattle.planner_needs.specs.Needs.{cellsNeed, edgesNeed, facetsNeed, borderNeed, signsNeed, plainNeed, orderedNeed, turnsNeed}
 use Rattle.planner_needs.specs.Enough.{coherenceNumber, orderedNumber}
-use Rattle.planner_needs.proofs.Sizes.{edges-fit, facets-fit, table-fits, border-fits}
 
 -- ---- how the calls end
 listed-end : (d : ℕ) (cs words : List (List ℕ)) (given : ℕ) → length (flat words) ≤ given → (r : Counted) (h : List ℕ) → skeleton.Ends [] d cs (skeleton.Gives words given) r h → countedNumber r ≡ tooShort → ⊥

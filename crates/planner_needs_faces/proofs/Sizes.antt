@@ -28,7 +28,8 @@ use Rattle.complex_boundary.proofs.Room.{largest-above}
 use Rattle.complex_dropped.specs.Kept.{cellNumber, staying, keptWords, oldNumbers}
 use Rattle.complex_dropped.proofs.Kept.{kept-long, kept-passed, dense}
 use Rattle.complex_dropped.proofs.Members.{keep-most}
-use Rattle.needs.proofs.Sizes.{flat-most, cells-most, corners-most, each-long, vertices-most}
+use Rattle.skeleton.proofs.Sizes.{cells-most, corners-most}
+use Rattle.needs.proofs.Sizes.{flat-most, each-long, vertices-most}
 use Rattle.planner_needs_faces.proofs.Counting.{index-most}
 
 -- ---- faces and entries

@@ -42,7 +42,7 @@ use Rattle.file_geojson.proofs.Ends.{file-long, mapped}
 use Rattle.needs.specs.Needs.{worked}
 use Rattle.needs.specs.Enough.{Long, countedNumber}
 use Rattle.needs.proofs.Laws.{worked-taken}
-use Rattle.needs.proofs.Sizes.{corners-most, order-most}
+use Rattle.skeleton.proofs.Sizes.{corners-most, order-most}
 use Rattle.needs.proofs.Enough.{passes-over, fine-never, never, roomy-of}
 use Rattle.planner_needs_grids.specs.Needs.{wordsNeed, triangulatedNeed, lengthsNeed, mapNeed}
 use Rattle.planner_needs_grids.specs.Enough.{triangulatedNumber}

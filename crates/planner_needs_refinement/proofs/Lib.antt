@@ -1,0 +1,4 @@
+pub mod Laws
+pub mod Sizes
+pub mod Enough
+pub mod Figures
