@@ -45,9 +45,9 @@ REFINED = [("1-D, 2,047 edges, R 2", (words_of(2047, O), 2), (words_of(511, O), 
            ("one tetrahedron, R 16", (SOLID, 16), (SOLID, 10), (SOLID, 6))]
 GRID_CALLS = ["reduce", "crossing", "swath", "nvertices", "is_orientation_preserving", "cell_words", "triangulate_ordered", "edge_lengths_sq", "edge_length_sq",
               "chained_nvertices", "chained_classes", "chained_closed_classes", "chained_cell_words"]
-LIST_CALLS = ["cells", "edges", "facets", "facet_records", "border", "orientation", "orientation_looks", "orient_by", "ordering", "induced_orientation", "drop_cells", "incidence", "faces", "boundary", "matrix_market"]
+LIST_CALLS = ["cells", "edges", "facets", "facet_records", "border", "orientation", "orientation_looks", "orient_by", "ordering", "facet_records_with", "induced_orientation", "drop_cells", "incidence", "faces", "boundary", "matrix_market"]
 REFINE_CALLS = ["refine", "refine_with"]
-NOT_IN_RUST = {"chained_nvertices", "chained_classes", "chained_closed_classes", "chained_cell_words", "facet_records", "crossing", "edge_length_sq", "orientation_looks", "drop_cells", "incidence", "faces", "boundary", "matrix_market", "corners", "corners_stepping", "refine_by_steps", "geojson", "need_refine"}
+NOT_IN_RUST = {"chained_nvertices", "chained_classes", "chained_closed_classes", "chained_cell_words", "facet_records", "facet_records_with", "crossing", "edge_length_sq", "orientation_looks", "drop_cells", "incidence", "faces", "boundary", "matrix_market", "corners", "corners_stepping", "refine_by_steps", "geojson", "need_refine"}
 BY_STEPS = [("one triangle, R 4", (TRIANGLE, 4), (TRIANGLE, 2), (TRIANGLE, 1)), ("one tetrahedron, R 4", (SOLID, 4), (SOLID, 2), (SOLID, 1))]
 STEP_CALLS = ["corners", "corners_stepping", "refine", "refine_by_steps", "need_refine"]
 BANDS = [("band 2048 x 1", grid(2048, P, 1, O), grid(512, P, 1, O), grid(128, P, 1, O)), ("band 64 x 32", grid(64, P, 32, O), grid(32, P, 16, O), grid(16, P, 8, O))]

@@ -71,6 +71,7 @@ CALL(orientation, planner_orientation(d, WORDS, signs, MOST, ROOM))
 CALL(looks, planner_orientation_looks(d, WORDS, signs, MOST, ROOM, &total))
 CALL(orient_by, planner_orient_by(d, WORDS, signs, nsigns, ROOM))
 CALL(ordering, planner_ordering(d, WORDS, order, norder, OUT, ROOM))
+CALL(facet_records_with, planner_facet_records_with(d, WORDS, order, norder, OUT, more, MOST, ROOM))
 CALL(induced, planner_induced_orientation(d, WORDS, order, norder, ROOM))
 CALL(drop_cells, planner_drop_cells(d, WORDS, second, nwords / (d + 1) / 2, OUT, more, MOST, ROOM, &total))
 CALL(incidence, planner_incidence(d, WORDS, OUT, more, MOST, ROOM))
@@ -120,6 +121,7 @@ static const struct {
     {"chained_classes", chained_classes, 0, 1}, {"chained_closed_classes", chained_closed, 0, 1}, {"chained_cell_words", chained_words, 0, 1}, {"geojson", geojson, 0, 1},
     {"cells", cells, peer_cell_list, 1}, {"edges", edges, peer_edge_list, 1}, {"facets", facets, peer_facet_list, 1}, {"facet_records", facet_records, 0, 1}, {"border", border, peer_border_list, 1},
     {"orientation", orientation, peer_signs, 1}, {"orientation_looks", looks, 0, 1}, {"orient_by", orient_by, 0, 1}, {"ordering", ordering, 0, 1},
+    {"facet_records_with", facet_records_with, 0, 1},
     {"induced_orientation", induced, 0, 1}, {"drop_cells", drop_cells, 0, 1}, {"incidence", incidence, 0, 1}, {"faces", faces, 0, 1}, {"boundary", boundary, 0, 1},
     {"matrix_market", matrix_market, 0, 1}, {"refine", refine, peer_refinement, 1}, {"refine_with", refine_with, 0, 1}, {"refine_by_steps", refine_by_steps, 0, 1},
     {"corners", corners, 0, 1}, {"corners_stepping", corners_stepping, 0, 1}, {"need_refine", need_refine, 0, MANY},

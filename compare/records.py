@@ -1,6 +1,6 @@
 """records.py LIBRARY ORACLE SEED COUNT: the facet records of every small cell list, of those around the limits and of COUNT random ones. Facets and their cells come from the
 Rust; an induced sign is worked out from the vertex that the cell has and the facet has not, by how many of the cell's vertices are smaller; the border is the records with no
-other cell, against planner_border."""
+other cell, against planner_border. With an order, right or wrong, agreement is the facet's vertices as the words list them."""
 import random
 import sys
 
@@ -24,17 +24,32 @@ def mark(cell, facet):
     return 1 + sum(v < left for v in cell) % 2
 
 
+def kept(word, facet):
+    return [v for v in word if v in facet]
+
+
 def records(j, c):
     facets, flat, border = [], [], []
+    order = inputs.order_for(j.rnd, c.d, c.cells) if c.fine else [j.rnd.randrange(5) for _ in range(j.rnd.randrange(9))]
+    by = m.order_of(c.d, c.cells, order) if c.fine else None
+    agree = []
     if c.fine:
         for f, cs in facets_of(c):
             facets += f
             sides = [(x, mark(c.cells[x], f)) for x in cs] + [(m.NO_VERTEX, 0)]
             flat += [v for side in sides[:2] for v in side] + [1]
             border += [] if len(cs) > 1 else [f]
+            agree.append(int(by is None or len({tuple(kept(by[x], f)) for x in cs}) == 1))
         listed = [f for f, r in c.rows.items() if len(r) == 1]
         j.agree("border by the records", border, listed)
     j.call("planner_facet_records", [c.d], [("u32", c.ws)], ["u32", "u32"], c.want(value=len(flat) // 5, results=[("u32", facets), ("u32", flat)]))
+    if by is not None:
+        j.agree("agreement by the records", all(agree), m.agrees(c.cells, c.rows, by))
+    flat[4::5] = agree
+    w = c.want((16, 0) if c.fine and by is None else None, value=len(flat) // 5, results=[("u32", facets), ("u32", flat)])
+    if c.need:
+        w.need = calls.order_need(c.d, len(c.ws))
+    j.call("planner_facet_records_with", [c.d], [("u32", c.ws), ("u32", order)], ["u32", "u32"], w)
 
 
 def main():

@@ -39,7 +39,7 @@ pub use chained::ClassVertex;
 pub use complex::{border, cells, edges, facets, induced_orientation, ordering, orient_by, orientation, Facet, Ordered, Side};
 pub use dropped::{drop_cells, Kept};
 pub use incidence::{boundary, faces, incidence, matrix_market, Entry};
-pub use facet_records::{facet_records, FacetRecord, SignedSide};
+pub use facet_records::{facet_records, facet_records_with, FacetRecord, SignedSide};
 pub use orientation::{orientation_looks, Coherence};
 pub use grid::{Axis, EdgeLength, Gluing, GluedVertex, Grid, GridVertex, Triangulated};
 pub use mesh_file::{read_mesh, write_mesh, BornVertex, Mesh};

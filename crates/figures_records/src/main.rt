@@ -30,18 +30,33 @@ fn shown(n: u32) -> u8 {
     digit(n)
 }
 
-fn five(records: &[u32; 40], at: usize) {
-    if at <= 35 {
-        let bytes = [
-            b' ',
-            shown(records[at]),
-            shown(records[at + 1]),
-            shown(records[at + 2]),
-            shown(records[at + 3]),
-            shown(records[at + 4]),
-        ];
-        io::write_all(1, &bytes);
+fn five(records: &[u32], at: usize) {
+    if at < records.len() {
+        if 5 <= records.len() - at {
+            let bytes = [
+                b' ',
+                shown(records[at]),
+                shown(records[at + 1]),
+                shown(records[at + 2]),
+                shown(records[at + 3]),
+                shown(records[at + 4]),
+            ];
+            io::write_all(1, &bytes);
+        }
     }
+}
+
+fn show(said: Counted, records: &[u32]) {
+    let n = number(said);
+    let f = count(said);
+    let bytes = [digit(n / 10), digit(n), b' ', digit(f / 10), digit(f)];
+    io::write_all(1, &bytes);
+    five(records, 0);
+    five(records, 5);
+    five(records, 10);
+    five(records, 15);
+    five(records, 20);
+    io::write_all(1, b"\n");
 }
 
 // The records of a list of words.
@@ -62,16 +77,29 @@ fn records(d: u32, words: &[u32]) {
         &mut spare,
         &mut counts,
     );
-    let n = number(said);
-    let f = count(said);
-    let bytes = [digit(n / 10), digit(n), b' ', digit(f / 10), digit(f)];
-    io::write_all(1, &bytes);
-    five(&records, 0);
-    five(&records, 5);
-    five(&records, 10);
-    five(&records, 15);
-    five(&records, 20);
-    io::write_all(1, b"\n");
+    show(said, &records);
+}
+
+// The records of a list of words, by the words of an order.
+fn records_with(d: u32, words: &[u32], order: &[u32]) {
+    let mut facets = [77u32; 32];
+    let mut records = [77u32; 60];
+    let mut keys = [7u32; 80];
+    let mut rows = [7u32; 32];
+    let mut spare = [7u32; 32];
+    let mut counts = [7u32; 32];
+    let said = ordering_records::facet_records_with(
+        d,
+        words,
+        order,
+        &mut facets,
+        &mut records,
+        &mut keys,
+        &mut rows,
+        &mut spare,
+        &mut counts,
+    );
+    show(said, &records);
 }
 
 fn main() {
@@ -93,4 +121,14 @@ fn main() {
     records(2, &[0u32, 1, 2, 0, 2, 3, 0, 3, 4, 0, 4, 5, 0, 5, 6]);
     // words 0,0,1
     records(2, &[0u32, 0, 1]);
+    // two triangles, whose words read the edge 12 in two sequences
+    records_with(2, &[0u32, 1, 2, 1, 2, 3], &[0u32, 1, 2, 3, 2, 1]);
+    // the Moebius band of 3 x 1 with its own words: they differ on the edge 03 alone
+    records_with(
+        2,
+        &[0u32, 1, 4, 0, 3, 4, 1, 2, 5, 1, 4, 5, 2, 3, 0, 2, 5, 0],
+        &[0u32, 1, 4, 0, 3, 4, 1, 2, 5, 1, 4, 5, 2, 3, 0, 2, 5, 0],
+    );
+    // one word too few
+    records_with(2, &[0u32, 1, 2, 1, 2, 3], &[0u32, 1, 2]);
 }
