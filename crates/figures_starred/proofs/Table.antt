@@ -24,4 +24,4 @@ none h = omega arith
 pub table : All starred
 unfolding checkOf firstWhere foundAt badSet some axisOf product restAt reflectedBy numberTo fromDigits gridCells met cellsOf cut inOrder place placed comesBefore decides sortWord insert insertBy wordIf wordOf byCell
 table =
-    (refl, (refl, (band-ordered, (band-oriented, (refl, (refl, (refl, (ring-oriented, (ring-ordered, (refl, (refl, (refl, (refl, (refl, ((λ given. outside (λ i. none (i .least))), (refl, (refl, (refl, (refl, (refl, (refl, (ring-prints, tt))))))))))))))))))))))
+    (refl, (refl, (band-ordered, ((refl, refl), ((refl, refl), (band-oriented, (refl, (refl, (refl, (ring-oriented, (ring-ordered, (refl, (refl, (refl, (refl, (refl, ((λ given. outside (λ i. none (i .least))), (refl, (refl, (refl, (refl, (refl, (refl, (ring-prints, tt))))))))))))))))))))))))

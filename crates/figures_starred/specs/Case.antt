@@ -3,10 +3,12 @@ use mathlib.Core.List.{List, [], _∷_, map}
 use mathlib.Core.Path.{_≡_}
 use Prim.Native.Nat.{ℕ, suc}
 use lib.IntN.{ℤ}
-use lib.ListN.{length, replicate}
+use lib.ListN.{length, getD, replicate}
 use Rattle.refusal.specs.declared.Answer.{Answer}
 use Rattle.lists.specs.Rows.{flat}
 use Rattle.lists.specs.Tables.{upto}
+use Rattle.lists.specs.Words.{without}
+use Rattle.complex.specs.Facets.{cellAt, facetAt}
 use Rattle.orientation.specs.declared.Coherence.{Coherence}
 use Rattle.orientation.specs.Promise as Orientation
 use Rattle.quotient.specs.declared.Grid.{Grid}
@@ -37,6 +39,8 @@ pub data Case : Type 0 where
   oriented : Grid → Coherence → List ℤ → Case
   -- what `triangulate_ordered` says of it, and the words that it hands out as an order
   ordered : Grid → Triangulated → List (List ℕ) → Case
+  -- cell and position: the facet without that position, and the sequence in which the cell's word lists its vertices
+  reads : Grid → ℕ → ℕ → List ℕ → List ℕ → Case
   -- dimension, R and word: the births, each by its weights at the vertices
   births : ℕ → ℕ → List ℕ → List (List ℕ) → Case
   -- the children's words and the refined cells
@@ -57,6 +61,7 @@ Holds (has-words g ws) = wordsOf g ≡ ws
 Holds (has-cells g cs) = gluedCells g ≡ cs
 Holds (oriented g r signs) = Orientation.Ends (g .d) (gluedCells g) (length (gluedCells g)) r signs
 Holds (ordered g r ws) = Order.Ends g (Order.cellsLength g) (Order.cellsLength g) r (record { cells = flat (gluedCells g); order = flat ws })
+Holds (reads g c i f r) = (facetAt (cellAt (gluedCells g) c) i ≡ f) × (without (getD (cellAt (gluedCells g) c) i 0) (cellAt (Order.wordsByCell g) c) ≡ r)
 Holds (births d R w bs) = Refine.births d R (suc d) (w ∷ []) ≡ bs
 Holds (child-words d R w ws) = refinedWords d R (suc d) (w ∷ []) ≡ ws
 Holds (child-cells d R w cs) = refinedCells d R (suc d) (w ∷ []) ≡ cs

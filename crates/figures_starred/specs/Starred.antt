@@ -15,7 +15,7 @@ use Rattle.quotient.specs.Shape.{noAxis}
 use Rattle.bandsum_line.specs.Grammar.{lineFeed, letterO, letterP, unitSides}
 use Rattle.grid_order.specs.declared.Triangulated.the-variants as Triangulated
 use Rattle.refine_results.specs.declared.Refinement.the-variants as Refinement
-use Rattle.figures_starred.specs.Case.{Case, checked, reduced, has-words, has-cells, oriented, ordered, births, child-words, child-cells, one-child, refused, prints}
+use Rattle.figures_starred.specs.Case.{Case, checked, reduced, has-words, has-cells, oriented, ordered, reads, births, child-words, child-cells, one-child, refused, prints}
 
 abbrev grid : ℕ → Axis → Axis → Grid
 grid d a b = record { d = d; first = a; second = b; third = noAxis; sides = unitSides }
@@ -47,6 +47,8 @@ starred =
     reduced band (0 ∷ 1 ∷ 2 ∷ 3 ∷ 3 ∷ 4 ∷ 5 ∷ 0 ∷ [])
     ∷ has-words band ((0 ∷ 1 ∷ 4 ∷ []) ∷ (0 ∷ 3 ∷ 4 ∷ []) ∷ (1 ∷ 2 ∷ 5 ∷ []) ∷ (1 ∷ 4 ∷ 5 ∷ []) ∷ (2 ∷ 3 ∷ 0 ∷ []) ∷ (2 ∷ 5 ∷ 0 ∷ []) ∷ [])
     ∷ ordered band (Triangulated.Unordered 6) []
+    ∷ reads band 0 1 (0 ∷ 3 ∷ []) (3 ∷ 0 ∷ [])
+    ∷ reads band 2 2 (0 ∷ 3 ∷ []) (0 ∷ 3 ∷ [])
     ∷ oriented band (Coherence.OneSided 15) []
     ∷ reduced ring (0 ∷ 1 ∷ 2 ∷ 0 ∷ 3 ∷ 4 ∷ 5 ∷ 3 ∷ [])
     ∷ has-words ring ((0 ∷ 1 ∷ 4 ∷ []) ∷ (0 ∷ 3 ∷ 4 ∷ []) ∷ (1 ∷ 2 ∷ 5 ∷ []) ∷ (1 ∷ 4 ∷ 5 ∷ []) ∷ (2 ∷ 0 ∷ 3 ∷ []) ∷ (2 ∷ 5 ∷ 3 ∷ []) ∷ [])

@@ -28,6 +28,7 @@ use Rattle.grid_mesh.specs.Words.{gluedCells}
 use Rattle.grid_mesh.proofs.Steps.{words-many}
 use Rattle.grid_order.specs.Promise.{ownWords, wordsByCell, HandsOut}
 use Rattle.grid_mesh.proofs.Turns.{some-found}
+use Rattle.grid_laws.specs.Counts.{CellsForBoxes, HandsOutExactly}
 use Rattle.grid_laws.proofs.Apart.{cells-many, many-apart}
 use Rattle.grid_mesh.proofs.Words.{wordNo, words-each, own-words, glued-are, word-is}
 use Rattle.grid_mesh.proofs.Twice.{two-words}
@@ -53,17 +54,34 @@ module _ (g : Grid) (fine : checkOf g ≡ Fine) where
       many-apart (suc (g .d)) (wordsOf g) (words-each g fine) (ap length (sym (glued-are g fine)) ∙ e ∙ sym (words-many g fine)) x y h (omega (arith, words-many g fine))
       (ap sortWord (word-is g fine x (omega arith)) ∙ q ∙ ap sortWord (sym (word-is g fine y l)))
 
+  -- ---- the grid's words as the promises read them: each has d + 1 vertices, and sorted they are the cells
+  own-each : Each (λ v. length v ≡ suc (g .d)) (ownWords g)
+  own-each = subst (λ (ws : List Word). Each (λ v. length v ≡ suc (g .d)) ws) (sym (own-words g fine)) (words-each g fine)
+
+  own-cells : inOrder (suc (g .d)) (ownWords g) ≡ gluedCells g
+  own-cells = ap (inOrder (suc (g .d))) (own-words g fine) ∙ sym (glued-are g fine)
+
+  -- an order is handed out exactly where no two words sort to one cell and all facets agree
+  pub hands-out-exactly : HandsOutExactly g
+  hands-out-exactly =
+      record {
+        only = λ h. (many-apart (suc (g .d)) (ownWords g) own-each (ap length own-cells ∙ sym (h .order .many)), h .agree);
+        all =
+            λ apart a.
+            record {
+              order = same-order (suc (g .d)) (gluedCells g) (ownWords g) (omega arith) own-each (sym (cells-many (suc (g .d)) (ownWords g) own-each apart) ∙ ap length own-cells) own-cells;
+              agree = a;
+            };
+      }
+
   -- ---- where 7 is not given
   -- d! cells for each box
-  pub cells-number : (Crowded (g .d) (gluedCells g) → ⊥) → length (gluedCells g) ≡ factorial (g .d) * product (cellsOn g) (g .d)
+  pub cells-number : (Crowded (g .d) (gluedCells g) → ⊥) → CellsForBoxes g
   cells-number free = apart-many (λ x y h l e. free (two-words g fine x y h l e))
 
   -- the words are one for each cell
   pub words-order : (Crowded (g .d) (gluedCells g) → ⊥) → IsOrder (gluedCells g) (ownWords g)
-  words-order free =
-      same-order (suc (g .d)) (gluedCells g) (ownWords g) (omega arith) (subst (λ (ws : List Word). Each (λ v. length v ≡ suc (g .d)) ws) (sym (own-words g fine)) (words-each g fine))
-      (ap length (own-words g fine) ∙ words-many g fine ∙ sym (cells-number free))
-      (ap (inOrder (suc (g .d))) (own-words g fine) ∙ sym (glued-are g fine))
+  words-order free = same-order (suc (g .d)) (gluedCells g) (ownWords g) (omega arith) own-each (ap length (own-words g fine) ∙ words-many g fine ∙ sym (cells-number free)) own-cells
 
   -- an order is handed out exactly if they agree on every facet
   pub agree-hands-out : (Crowded (g .d) (gluedCells g) → ⊥) → AgreeOnFacets (g .d) (gluedCells g) (wordsByCell g) → HandsOut g
@@ -102,5 +120,5 @@ module _ (g : Grid) (fine : checkOf g ≡ Fine) where
       (pair-or-not (cellCount g))
 
 -- where no axis with a non-empty set is itself reflected there are d! cells for each box
-pub untangled-number : (g : Grid) → checkOf g ≡ Fine → Untangled g → length (gluedCells g) ≡ factorial (g .d) * product (cellsOn g) (g .d)
+pub untangled-number : (g : Grid) → checkOf g ≡ Fine → Untangled g → CellsForBoxes g
 untangled-number g fine u = cells-number g fine (untangled-never-seven g fine u)

@@ -26,7 +26,7 @@ use Rattle.quotient.specs.Reduce.{vertexOf}
 use Rattle.grid_words.proofs.Corners.{dim}
 use Rattle.grid_words.proofs.Flat.{to-tab, of-tab}
 use Rattle.grid_lengths.specs.Edges.{firstEnd, secondEnd, edgesEach, visitsOf, fromAt, toAt, edgesOf}
-use Rattle.grid_lengths.proofs.Measuring.{place-in, cell-in, corner-at, ends-below}
+use Rattle.grid_lengths.proofs.Measuring.{each-few, end-rise, place-in, cell-in, corner-at, ends-below}
 use Rattle.grid_lengths.proofs.Gathered.{two-sorted}
 use Rattle.grid_mesh.specs.Words.{gluedCells}
 use Rattle.skeleton.proofs.Laws.{edges-rising, edges-from, edges-has}
@@ -51,16 +51,8 @@ edge-at d i j h l m =
     (at-below 4 (λ d. allBelow (suc d) (λ j. allBelow j (λ i. ltb (edgeNo i j) (edgesEach d) && (eqb (firstEnd (edgeNo i j)) i && eqb (secondEnd (edgeNo i j)) j)))) edge-test d (suc-le-suc h)) j (suc-le-suc l)) i m in
     (ltb-true _ _ (first-of a (b && c) e), eqb-true _ _ (first-of b c (second-of a (b && c) e)), eqb-true _ _ (second-of b c (second-of a (b && c) e)))
 
-ends-test : allBelow 6 (λ e. ltb (firstEnd e) (secondEnd e)) ≡ true
-ends-test = refl
-
-few-test : allBelow 4 (λ d. ltb (edgesEach d) 7) ≡ true
-few-test = refl
-
 ends-apart : (d e : ℕ) → d ≤ 3 → e < edgesEach d → firstEnd e < secondEnd e
-ends-apart d e h l =
-    let m : edgesEach d < 7 = ltb-true _ _ (at-below 4 (λ d. ltb (edgesEach d) 7) few-test d (suc-le-suc h)) in
-    ltb-true _ _ (at-below 6 (λ e. ltb (firstEnd e) (secondEnd e)) ends-test e (omega arith))
+ends-apart d e h l = end-rise e (omega (arith, each-few d h))
 
 -- ---- two numbers of a rising word stand in it one after the other
 two-in : (w : List ℕ) (a b : ℕ) → Rises w → Mem a w → Mem b w → (a ≡ b → ⊥) → (i : ℕ) × (j : ℕ) × (i < j) × (j < length w) × (getD w i 0 ≡ min a b) × (getD w j 0 ≡ max a b)

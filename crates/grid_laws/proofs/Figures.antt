@@ -1,12 +1,9 @@
 -- Figures of the laws. 3×3 with each axis twisted over the other: 18 words and 17 cells, and a facet in three cells; so the premise of the count is needed. 3×1 with axis
 -- 0 periodic: 6 cells, 12 edges, a border of 6. Assumes nothing.
 use mathlib.Core.Path.{_≡_, refl, sym, _∙_}
-use mathlib.Core.Bool.{false}
 use mathlib.Core.Logic.{⊎-elim}
 use Prim.Native.Nat.{ℕ}
 use native.Mathlib.Omega.{arith}
-use lib.IntN.{pos}
-use lib.Ieee.{fin}
 use lib.ListN.{length}
 use Rattle.lists.specs.Rows.{cut}
 use Rattle.lists.specs.Words.{foundAt, firstWhere}
@@ -16,45 +13,28 @@ use Rattle.complex.specs.Cells as Complex
 use Rattle.complex.specs.Facets.{Crowded}
 use Rattle.lists.specs.Tables.{tab}
 use Rattle.complex.specs.Skeleton.{inColex, numbers, keep, borderOf}
-use Rattle.quotient.specs.declared.Glue.{Glue}
-use Rattle.quotient.specs.declared.Glue.the-variants.{Open, Periodic, Twisted}
-use Rattle.quotient.specs.declared.Axis.{Axis}
+use Rattle.quotient.specs.declared.Glue.the-variants.{Open, Periodic}
 use Rattle.quotient.specs.declared.Grid.{Grid}
 use Rattle.quotient.specs.Fold.{product, some}
-use Rattle.quotient.specs.Shape.{noAxis, axisOf, badSet, checkOf, cellCount}
+use Rattle.quotient.specs.Shape.{axisOf, badSet, checkOf, cellCount}
 use Rattle.quotient.specs.Reduce.{restAt, reflectedBy, numberTo}
 use Rattle.quotient.specs.Points.{fromDigits}
 use Rattle.refusal.specs.declared.Answer.the-variants.{Fine}
 use Rattle.grid_words.specs.Cells.{met, gridCells}
 use Rattle.grid_lengths.specs.Edges.{edgesOf}
 use Rattle.grid_mesh.specs.Words.{gluedCells}
+use Rattle.grid_laws.specs.Tangled.{axis, plane, tangled, TangledWords, TangledCells}
 use Rattle.grid_laws.proofs.Count.{as-many-or-seven}
-
-abbrev axis : ℕ → Glue → Axis
-axis n g = record { count = n; glue = g }
-
-abbrev plane : Axis → Axis → Grid
-plane a b =
-    record {
-      d = 2;
-      first = a;
-      second = b;
-      third = noAxis;
-      sides = record { first = fin false 1 (pos 0); second = fin false 1 (pos 0); third = fin false 1 (pos 0) };
-    }
-
-abbrev tangled : Grid
-tangled = plane (axis 3 (Twisted 2)) (axis 3 (Twisted 1))
 
 tangled-taken : checkOf tangled ≡ Fine
 unfolding checkOf badSet some firstWhere foundAt product axisOf
 tangled-taken = refl
 
-pub tangled-words : cellCount tangled ≡ 18
+pub tangled-words : TangledWords
 unfolding product axisOf
 tangled-words = refl
 
-pub tangled-cells : length (gluedCells tangled) ≡ 17
+pub tangled-cells : TangledCells
 unfolding Complex.cellsOf cut gridCells met inOrder place placed comesBefore decides sortWord insert insertBy fromDigits product restAt reflectedBy numberTo axisOf
 tangled-cells = refl
 

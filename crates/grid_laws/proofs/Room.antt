@@ -16,6 +16,7 @@ use Rattle.ordering.specs.Promise.{orderNeed}
 use Rattle.grid_order.specs.Promise.{orderRoom}
 use Rattle.grid_lengths.specs.Edges.{edgesEach}
 use Rattle.grid_lengths.specs.Lengths.{lengthsNeed}
+use Rattle.grid_laws.specs.Counts.{KeepsBound}
 use Rattle.skeleton.proofs.Steps.{room-most}
 use Rattle.skeleton.proofs.Laws.{sum, need-bound}
 
@@ -28,13 +29,13 @@ ends-most : (d : ℕ) → d ≤ 3 → edgesEach d * 2 ≤ suc d * 3
 ends-most d h = leb-true (edgesEach d * 2) (suc d * 3) (at-below 4 (λ d. leb (edgesEach d * 2) (suc d * 3)) refl d (suc-le-suc h))
 
 -- the calls `cell_words`, `triangulate_ordered` and `edge_lengths_sq` on a grid that is taken
-pub words-bound : (g : Grid) → checkOf g ≡ Fine → sum (gridNeed g) ≤ 32 * cornersOf g + 16384
+pub words-bound : (g : Grid) → checkOf g ≡ Fine → KeepsBound g (gridNeed g)
 words-bound g fine = need-bound (g .d) (cornersOf g) (dim g fine)
 
-pub ordered-bound : (g : Grid) → checkOf g ≡ Fine → sum (orderRoom g) ≤ 32 * cornersOf g + 16384
+pub ordered-bound : (g : Grid) → checkOf g ≡ Fine → KeepsBound g (orderRoom g)
 ordered-bound g fine = order-bound (g .d) (cornersOf g) (dim g fine)
 
-pub lengths-bound : (g : Grid) → sidesCheckOf g ≡ Fine → sum (lengthsNeed g) ≤ 32 * cornersOf g + 16384
+pub lengths-bound : (g : Grid) → sidesCheckOf g ≡ Fine → KeepsBound g (lengthsNeed g)
 lengths-bound g fine =
     omega (
       arith,
