@@ -148,7 +148,11 @@ def orient_by(j, c):
 YES = 1 << 31          # added to a count where the order agrees, or is handed out
 
 
-def order_need(d, n):
+def order_need(n):
+    return [7 * n, n, n, n]
+
+
+def triangulated_need(d, n):
     return [max(1, d) * n + 2 * n, n, n, n]
 
 
@@ -156,7 +160,7 @@ def ordering(j, c):
     if not c.fine:
         w = c.want()
         if c.need:
-            w.need = order_need(c.d, len(c.ws))
+            w.need = order_need(len(c.ws))
         order = [j.rnd.randrange(5) for _ in range(j.rnd.randrange(9))]
         j.call("planner_ordering", [c.d], [("u32", c.ws), ("u32", order)], ["u32"], w)
         j.call("planner_induced_orientation", [c.d], [("u32", c.ws), ("u32", order)], [], w)
@@ -172,10 +176,10 @@ def ordering(j, c):
         f = j.rust.fields("order %s %s" % (c.line, text(order, c.d + 1)))
         j.agree("order", [flat(by), agree, bool(induced)], [words(f["words"]), f["consistent"] == "yes", f["induced"] != "none"] if f and f["try"] == "yes" else None)
     w = c.want(late, value=len(c.cells) + (YES if agree else 0), results=[("u32", flat(by or []))])
-    w.need = order_need(c.d, len(c.ws))
+    w.need = order_need(len(c.ws))
     j.call("planner_ordering", [c.d], [("u32", c.ws), ("u32", order)], ["u32"], w)
     w = c.want(late, value=induced)
-    w.need = order_need(c.d, len(c.ws))
+    w.need = order_need(len(c.ws))
     j.call("planner_induced_orientation", [c.d], [("u32", c.ws), ("u32", order)], [], w)
 
 
@@ -361,7 +365,7 @@ def triangulate_ordered(j, g):
             j.agree("order of " + g.text, bool(order), g.rust["ordering"] == "yes")
             if not g.rust["tri"].startswith("panic"):
                 j.agree("triangulate_ordered of " + g.text, order, [] if g.rust["tri"] == "none" else words(g.rust["tri"]))
-        want = Want(None, order_need(g.d, len(g.words) * (g.d + 1)), g.late, value=len(g.cells) + (YES if order else 0),
+        want = Want(None, triangulated_need(g.d, len(g.words) * (g.d + 1)), g.late, value=len(g.cells) + (YES if order else 0),
                     results=[("u32", flat(g.cells)), ("u32", order)])
     j.call("planner_triangulate_ordered", [g.d], [("u32", g.axes)], ["u32", "u32"], want)
 

@@ -246,7 +246,7 @@ uint64_t planner_orient_by(
 
 /* The order's words by cell: to each cell its word, at the cell's place. planner_count is the number of cells, planner_yes tells whether on every facet of two cells both
  * words list the facet's vertices in one sequence; d+1 times as many numbers as cells are needed of listed. Refused: 1, 2, 3, 4, 6, 5, 12 (working lists), 7, 16, 12
- * (listed). Working lists: keys (max(1, d) + 2) * n, rows n, spare n, counts n. */
+ * (listed). Working lists: keys 7 * n, rows n, spare n, counts n. */
 uint64_t planner_ordering(
     uint32_t d, const uint32_t *words, size_t n, const uint32_t *order, size_t order_len, uint32_t *listed, size_t listed_len, uint32_t *keys, size_t keys_len,
     uint32_t *rows, size_t rows_len, uint32_t *spare, size_t spare_len, uint32_t *counts, size_t counts_len);
@@ -261,7 +261,7 @@ uint64_t planner_facet_records_with(
     size_t counts_len);
 
 /* 1 exactly if the signs of the order's words are coherent, else 0; a word's sign is + when an even number of swaps sorts it. In dimension 0 always 0. Refused: 1, 2, 3,
- * 4, 6, 5, 12 (working lists), 7, 16. Working lists: keys (max(1, d) + 2) * n, rows n, spare n, counts n. */
+ * 4, 6, 5, 12 (working lists), 7, 16. Working lists: keys 7 * n, rows n, spare n, counts n. */
 uint64_t planner_induced_orientation(
     uint32_t d, const uint32_t *words, size_t n, const uint32_t *order, size_t order_len, uint32_t *keys, size_t keys_len, uint32_t *rows, size_t rows_len,
     uint32_t *spare, size_t spare_len, uint32_t *counts, size_t counts_len);

@@ -13,7 +13,7 @@ use Rattle.quotient.proofs.Taken.{sides-taken}
 use Rattle.grid_words.proofs.Corners.{dim}
 use Rattle.grid_mesh.specs.Words.{cornersOf, gridNeed}
 use Rattle.ordering.specs.Promise.{orderNeed}
-use Rattle.grid_order.specs.Promise.{orderRoom}
+use Rattle.grid_order.specs.Promise.{triangulatedRoom, orderRoom}
 use Rattle.grid_lengths.specs.Edges.{edgesEach}
 use Rattle.grid_lengths.specs.Lengths.{lengthsNeed}
 use Rattle.grid_laws.specs.Counts.{KeepsBound}
@@ -21,8 +21,11 @@ use Rattle.skeleton.proofs.Steps.{room-most}
 use Rattle.skeleton.proofs.Laws.{sum, need-bound}
 
 -- a call on an order of words with n corners
-pub order-bound : (d n : ℕ) → d ≤ 3 → sum (orderNeed d n) ≤ 32 * n + 16384
-order-bound d n h = omega (arith, room-most d n h)
+pub order-bound : (n : ℕ) → sum (orderNeed n) ≤ 32 * n + 16384
+order-bound n = omega arith
+
+triangulated-bound : (d n : ℕ) → d ≤ 3 → sum (triangulatedRoom d n) ≤ 32 * n + 16384
+triangulated-bound d n h = omega (arith, room-most d n h)
 
 -- at most three ends of edges for each corner
 ends-most : (d : ℕ) → d ≤ 3 → edgesEach d * 2 ≤ suc d * 3
@@ -33,7 +36,7 @@ pub words-bound : (g : Grid) → checkOf g ≡ Fine → KeepsBound g (gridNeed g
 words-bound g fine = need-bound (g .d) (cornersOf g) (dim g fine)
 
 pub ordered-bound : (g : Grid) → checkOf g ≡ Fine → KeepsBound g (orderRoom g)
-ordered-bound g fine = order-bound (g .d) (cornersOf g) (dim g fine)
+ordered-bound g fine = triangulated-bound (g .d) (cornersOf g) (dim g fine)
 
 pub lengths-bound : (g : Grid) → sidesCheckOf g ≡ Fine → KeepsBound g (lengthsNeed g)
 lengths-bound g fine =

@@ -1,13 +1,15 @@
 -- The ways out of `triangulate_ordered`. Assumes nothing.
 use mathlib.Core.List.{List, _++_}
 use mathlib.Core.Path.{_≡_, refl, ap, _∙_, subst}
-use Prim.Native.Nat.{ℕ, _+_, _-_, _≤_}
+use Prim.Native.Nat.{ℕ, zero, suc, _+_, _-_, _*_, _<_, _≤_}
+use native.Mathlib.Nat.{suc-mul, mul-le-mul-left, mul-le-mul-right}
 use native.Mathlib.Omega.{arith}
 use lib.ListN.{length, take, drop}
 use lib.Seq.{length-take-le}
 use Rattle.refusal.specs.declared.Answer.the-variants as Answer
 use Rattle.refusal.specs.declared.Room.{Room}
 use Rattle.refusal.specs.Table.{tooShort}
+use Rattle.refusal.specs.Limits.{mostDimension, rowMost, manyCorners}
 use Rattle.refusal.specs.Lent.{untouched, lengths, Roomy}
 use Rattle.refusal.specs.Call.{Comes, refused, cramped, ended}
 use Rattle.refusal.proofs.Parts.{parts-cleared}
@@ -20,6 +22,17 @@ use Rattle.grid_order.specs.declared.Triangulated.{Triangulated}
 use Rattle.grid_order.specs.declared.Triangulated.the-variants.{Refused}
 use Rattle.grid_order.specs.Promise.{orderRoom, nothing, Ends, TriangulateOrdered}
 use Rattle.grid_order.specs.Work.{Working, Worked}
+
+-- the room asked for is small
+room-most : (d n : ℕ) → keyRoom d n ≤ suc d * n
+room-most zero n = omega (arith, suc-mul 0 n)
+room-most (suc d) n = omega (arith, suc-mul (suc d) n)
+
+pub need-bound : (d n : ℕ) → d ≤ mostDimension → n < manyCorners → keyRoom d n < rowMost * manyCorners
+need-bound d n h l = omega (arith, room-most d n, mul-le-mul-right n (suc-le h), mul-le-mul-left rowMost l)
+  where
+    suc-le : d ≤ mostDimension → suc d ≤ rowMost
+    suc-le h = omega arith
 
 -- the keys' last part begins where the facet rows end
 pub twice-fits : (g : Grid) (n : Room) → n ≡ orderRoom g → n .rows + n .rows ≤ n .keys

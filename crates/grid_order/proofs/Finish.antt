@@ -39,7 +39,6 @@ use Rattle.grid_mesh.proofs.Steps.{meeting, corners-few}
 use Rattle.ordering_words.specs.Order.{wordOf}
 use Rattle.ordering.specs.WorkAgree.{Agreeing}
 use Rattle.ordering_words.proofs.Lists.{cut-front, front-at}
-use Rattle.ordering.proofs.Steps.{need-bound}
 use Rattle.ordering_words.proofs.Orders.{word-found, by-cell-at, by-cell-rows}
 use Rattle.grid_order.specs.declared.Triangulated.{Triangulated}
 use Rattle.grid_order.specs.declared.Triangulated.the-variants.{Ordered, Unordered, Refused}
@@ -47,6 +46,7 @@ use Rattle.grid_order.specs.Promise.{ownWords, wordsByCell, cellsLength,
 use Rattle.grid_order.specs.Promise.Ends.{crowded, short as ends-short, short-order as ends-short-order, ordered as ends-ordered, unordered as ends-unordered}
 use Rattle.grid_order.specs.Work.{Laying, Laid, Decided, Handing, Out, HandedOut, Working, Worked}
 use Rattle.grid_order.specs.Work.Out.{short, short-order, ordered, unordered}
+use Rattle.grid_order.proofs.Entry.{need-bound}
 use Rattle.grid_order.proofs.Steps.{first-word, agree-yes, agree-no}
 
 -- cells that stay in the front are made again

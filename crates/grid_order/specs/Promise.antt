@@ -8,13 +8,13 @@ use Rattle.refusal.specs.Table.{crowdedFacet, tooShort}
 use Rattle.refusal.specs.Lent.{onto, lengths, Cleared}
 use Rattle.refusal.specs.Call.{Comes}
 use Rattle.lists.specs.Rows.{rows, flat}
+use Rattle.complex.specs.Room.{keyRoom}
 use Rattle.complex.specs.Facets.{Crowded}
 use Rattle.quotient.specs.declared.Grid.{Grid}
 use Rattle.quotient.specs.Shape.{checkOf}
 use Rattle.grid_words.specs.Cells.{flatWords}
 use Rattle.grid_mesh.specs.Words.{gluedCells, cornersOf}
 use Rattle.ordering_words.specs.Order.{IsOrder, AgreeOnFacets, byCell}
-use Rattle.ordering.specs.Promise.{orderNeed}
 use Rattle.grid_order.specs.declared.Triangulated.{Triangulated}
 use Rattle.grid_order.specs.declared.Triangulated.the-variants.{Ordered, Unordered, Refused}
 
@@ -30,9 +30,12 @@ pub record HandsOut (g : Grid) : Type 0 where
   pub order : IsOrder (gluedCells g) (ownWords g)
   pub agree : AgreeOnFacets (g .d) (gluedCells g) (wordsByCell g)
 
--- what the call needs of its working lists
+-- what the call needs of its working lists, for words with n corners: in keys the facet rows, the words by cell and the cells
+abbrev pub triangulatedRoom : ℕ → ℕ → Room
+triangulatedRoom d n = record { keys = keyRoom d n + n + n; rows = n; spare = n; counts = n }
+
 abbrev pub orderRoom : Grid → Room
-orderRoom g = orderNeed (g .d) (cornersOf g)
+orderRoom g = triangulatedRoom (g .d) (cornersOf g)
 
 -- how many numbers the cells have
 abbrev pub cellsLength : Grid → ℕ

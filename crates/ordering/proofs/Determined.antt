@@ -55,6 +55,6 @@ module _ (d : ℕ) (cs : List (List ℕ)) (order : List ℕ) (given : ℕ) (free
 -- two exits of one call agree in everything
 pub ordering-one : (d : ℕ) (ws order : List ℕ) (r r′ : Ordered) (by b b′ keys k k′ rows o o′ spare p p′ counts c c′ : List ℕ) → Ordering d ws order r by b keys k rows o spare p counts c → Ordering d ws order r′ by b′ keys k′ rows o′ spare p′ counts c′ → (r ≡ r′) × (b ≡ b′) × (k ≡ k′) × (o ≡ o′) × (p ≡ p′) × (c ≡ c′)
 ordering-one d ws order r r′ by b b′ keys k k′ rows o o′ spare p p′ counts c c′ x y =
-    let w = comes-one Refused [] (answerOf d ws) (orderNeed d (length ws)) (lengths keys rows spare counts) (Ends d (cellsOf d ws) order (length by)) (ends-one d (cellsOf d ws) order (length by)) (x .comes) (y .comes) in
+    let w = comes-one Refused [] (answerOf d ws) (orderNeed (length ws)) (lengths keys rows spare counts) (Ends d (cellsOf d ws) order (length by)) (ends-one d (cellsOf d ws) order (length by)) (x .comes) (y .comes) in
     let z = cleared-one (x .used) (y .used) keys k k′ rows o o′ spare p p′ counts c c′ (w .2) (x .room) (y .room) in
     (w .0, x .result ∙ ap (λ (h : List ℕ). onto h by) (w .1) ∙ sym (y .result), z .0, z .1, z .2, z .3)

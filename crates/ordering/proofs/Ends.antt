@@ -12,9 +12,8 @@ use Rattle.refusal.specs.declared.Counted.{Counted}
 use Rattle.refusal.specs.declared.Counted.the-variants as Counted
 use Rattle.refusal.specs.Table.{crowdedFacet, badOrder, tooShort}
 use Rattle.refusal.specs.Lent.{onto}
-use Rattle.refusal.specs.Limits.{rowMost, manyCorners}
+use Rattle.refusal.specs.Limits.{manyCorners}
 use Rattle.lists.specs.Rows.{flat}
-use Rattle.complex.specs.Room.{keyRoom}
 use Rattle.complex.specs.Cells.{cellsOf}
 use Rattle.complex.specs.Facets.{slots}
 use Rattle.lists.specs.Words.{none}
@@ -28,7 +27,6 @@ use Rattle.ordering.specs.WorkAgree.{AgreesAt, Clash, Agreeing}
 use Rattle.ordering.specs.Promise.{Preparing, Ready, Prepared, Ends, Worked}
 use Rattle.ordering.specs.Promise.Prepared.{crowded as prepared-crowded, unordered as prepared-unordered, ready as prepared-ready}
 use Rattle.ordering.specs.Promise.Ends.{crowded as ends-crowded, unordered as ends-unordered, short as ends-short, agreed as ends-agreed, differs as ends-differs}
-use Rattle.ordering.proofs.Steps.{need-bound}
 use Rattle.ordering.proofs.Agreeing.{words-long, agrees, disagrees}
 
 -- what a count says
@@ -75,8 +73,8 @@ module _ (d at : ℕ) (ws keys₀ rows₀ spare₀ counts₀ : List ℕ) (w : Pr
   pub end-fits : at + count * (d + 1) ≤ length keys
   end-fits = omega (arith, size-most, w .keys-long, w .start)
 
-  pub end-small : at + count * (d + 1) < suc rowMost * manyCorners
-  end-small = omega (arith, size-small, w .start, need-bound d (length ws) (w .passed .small) short)
+  pub end-small : at + count * (d + 1) < 6 * manyCorners
+  end-small = omega (arith, size-small, w .start, short)
 
   pub at-fits : at ≤ length keys
   at-fits = omega (arith, w .keys-long, w .start)

@@ -1,7 +1,7 @@
 -- The ways out of `ordering`. Assumes nothing.
 use mathlib.Core.List.{List, [], _++_}
 use mathlib.Core.Path.{_≡_, refl, ap, _∙_, subst}
-use Prim.Native.Nat.{ℕ}
+use Prim.Native.Nat.{ℕ, _*_}
 use lib.ListN.{length, take, drop}
 use lib.Seq.{length-take-le}
 use Rattle.refusal.specs.declared.Answer.the-variants as Answer
@@ -12,7 +12,6 @@ use Rattle.refusal.specs.Call.{Comes, refused, cramped, ended}
 use Rattle.refusal.proofs.Parts.{parts-cleared}
 use Rattle.lists.specs.Zero.{AllZero}
 use Rattle.complex.specs.Check.{answerOf}
-use Rattle.complex.specs.Room.{keyRoom}
 use Rattle.complex.proofs.Fine.{fine-passed}
 use Rattle.complex.specs.Cells.{cellsOf}
 use Rattle.ordering.specs.declared.Ordered.{Ordered}
@@ -20,7 +19,7 @@ use Rattle.ordering.specs.declared.Ordered.the-variants.{Refused}
 use Rattle.ordering.specs.Promise.{orderNeed, Preparing, Ends, Ordering, Worked}
 
 -- the parts that are lent on are of just the lengths that are needed
-pub preparing : (d : ℕ) (ws keys rows spare counts : List ℕ) → answerOf d ws ≡ Answer.Fine → (n : Room) → n ≡ orderNeed d (length ws) → Roomy n (lengths keys rows spare counts) → (at : ℕ) → at ≡ keyRoom d (length ws) → Preparing d at ws (take (n .keys) keys) (take (n .rows) rows) (take (n .spare) spare) (take (n .counts) counts)
+pub preparing : (d : ℕ) (ws keys rows spare counts : List ℕ) → answerOf d ws ≡ Answer.Fine → (n : Room) → n ≡ orderNeed (length ws) → Roomy n (lengths keys rows spare counts) → (at : ℕ) → at ≡ length ws * 5 → Preparing d at ws (take (n .keys) keys) (take (n .rows) rows) (take (n .spare) spare) (take (n .counts) counts)
 preparing d ws keys rows spare counts e n q h at f =
     record {
       passed = fine-passed d ws e;
@@ -36,7 +35,7 @@ module _ (d : ℕ) (ws order out keys rows spare counts : List ℕ) where
   out-refused n p e =
       record { handed = []; used = untouched; comes = refused e; result = refl; room = record { of-keys = refl; of-rows = refl; of-spare = refl; of-counts = refl } }
 
-  pub out-cramped : answerOf d ws ≡ Answer.Fine → (n : Room) → n ≡ orderNeed d (length ws) → (Roomy n (lengths keys rows spare counts) → ⊥) → Ordering d ws order (Refused tooShort 0) out out keys keys rows rows spare spare counts counts
+  pub out-cramped : answerOf d ws ≡ Answer.Fine → (n : Room) → n ≡ orderNeed (length ws) → (Roomy n (lengths keys rows spare counts) → ⊥) → Ordering d ws order (Refused tooShort 0) out out keys keys rows rows spare spare counts counts
   out-cramped e n q f =
       record {
         handed = [];
@@ -46,7 +45,7 @@ module _ (d : ℕ) (ws order out keys rows spare counts : List ℕ) where
         room = record { of-keys = refl; of-rows = refl; of-spare = refl; of-counts = refl };
       }
 
-  module _ (e : answerOf d ws ≡ Answer.Fine) (n : Room) (q : n ≡ orderNeed d (length ws)) (h : Roomy n (lengths keys rows spare counts)) where
+  module _ (e : answerOf d ws ≡ Answer.Fine) (n : Room) (q : n ≡ orderNeed (length ws)) (h : Roomy n (lengths keys rows spare counts)) where
     pub out-ended : (r : Ordered) (out′ : List ℕ) (k o s c : List ℕ) → Worked d ws order r out out′ → AllZero (take (n .keys) keys) k (take (n .rows) rows) o (take (n .spare) spare) s (take (n .counts) counts) c →
         Ordering d ws order r out out′ keys (k ++ drop (n .keys) keys) rows (o ++ drop (n .rows) rows) spare (s ++ drop (n .spare) spare) counts (c ++ drop (n .counts) counts)
     out-ended r out′ k o s c w z =

@@ -27,7 +27,7 @@ module _ (d : ℕ) (ws order keys rows spare counts : List ℕ) where
   wound-out-refused n p e =
       record { used = untouched; comes = refused e; room = record { of-keys = refl; of-rows = refl; of-spare = refl; of-counts = refl } }
 
-  pub wound-out-cramped : answerOf d ws ≡ Answer.Fine → (n : Room) → n ≡ orderNeed d (length ws) → (Roomy n (lengths keys rows spare counts) → ⊥) → Induced d ws order (Refused tooShort 0) keys keys rows rows spare spare counts counts
+  pub wound-out-cramped : answerOf d ws ≡ Answer.Fine → (n : Room) → n ≡ orderNeed (length ws) → (Roomy n (lengths keys rows spare counts) → ⊥) → Induced d ws order (Refused tooShort 0) keys keys rows rows spare spare counts counts
   wound-out-cramped e n q f =
       record {
         used = untouched;
@@ -35,7 +35,7 @@ module _ (d : ℕ) (ws order keys rows spare counts : List ℕ) where
         room = record { of-keys = refl; of-rows = refl; of-spare = refl; of-counts = refl };
       }
 
-  module _ (e : answerOf d ws ≡ Answer.Fine) (n : Room) (q : n ≡ orderNeed d (length ws)) (h : Roomy n (lengths keys rows spare counts)) where
+  module _ (e : answerOf d ws ≡ Answer.Fine) (n : Room) (q : n ≡ orderNeed (length ws)) (h : Roomy n (lengths keys rows spare counts)) where
     pub wound-out-ended : (r : Verdict) (k o s c : List ℕ) → Wound d (cellsOf d ws) order r tt → AllZero (take (n .keys) keys) k (take (n .rows) rows) o (take (n .spare) spare) s (take (n .counts) counts) c →
         Induced d ws order r keys (k ++ drop (n .keys) keys) rows (o ++ drop (n .rows) rows) spare (s ++ drop (n .spare) spare) counts (c ++ drop (n .counts) counts)
     wound-out-ended r k o s c w z =
@@ -75,7 +75,7 @@ module _ (d : ℕ) (cs : List (List ℕ)) (order : List ℕ) (free : Crowded d c
 -- two exits of one call agree in everything
 pub induced-one : (d : ℕ) (ws order : List ℕ) (r r′ : Verdict) (keys k k′ rows o o′ spare p p′ counts c c′ : List ℕ) → Induced d ws order r keys k rows o spare p counts c → Induced d ws order r′ keys k′ rows o′ spare p′ counts c′ → (r ≡ r′) × ((k ≡ k′) × (o ≡ o′) × (p ≡ p′) × (c ≡ c′))
 induced-one d ws order r r′ keys k k′ rows o o′ spare p p′ counts c c′ x y =
-    let w = comes-one Refused tt (answerOf d ws) (orderNeed d (length ws)) (lengths keys rows spare counts) (Wound d (cellsOf d ws) order) (wound-one d (cellsOf d ws) order) (x .comes) (y .comes) in (
+    let w = comes-one Refused tt (answerOf d ws) (orderNeed (length ws)) (lengths keys rows spare counts) (Wound d (cellsOf d ws) order) (wound-one d (cellsOf d ws) order) (x .comes) (y .comes) in (
       w .0,
       cleared-one (x .used) (y .used) keys k k′ rows o o′ spare p p′ counts c c′ (w .2) (x .room) (y .room),
     )

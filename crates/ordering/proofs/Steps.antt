@@ -3,28 +3,25 @@ use mathlib.Core.Bool.{Bool, true, false}
 use mathlib.Core.List.{List, [], _∷_, _++_, append-nil}
 use mathlib.Core.Path.{_≡_, refl, sym, ap, _∙_, subst}
 use Prim.Native.Nat.{ℕ, zero, suc, _+_, _-_, _*_, _<_, _≤_}
-use native.Mathlib.Nat.{le-refl, suc-mul, mul-le-mul-left, mul-le-mul-right}
 use native.Mathlib.Omega.{arith}
 use lib.ListN.{length, getD, take, drop, length-append, length-drop, drop-of-length-le}
 use lib.Seq.{length-take-le, take-at, drop-at}
 use Rattle.refusal.specs.declared.Counted.the-variants as Counted
 use Rattle.refusal.specs.Table.{crowdedFacet, badOrder}
-use Rattle.refusal.specs.Limits.{mostDimension, rowMost, manyCorners}
 use Rattle.lists.specs.Rows.{cut, rows, flat}
 use Rattle.lists.proofs.Flat.{flat-cut}
 use Rattle.lists.proofs.Rows.{cut-length}
 use Rattle.lists.proofs.Words.{tail-part}
-use Rattle.complex.specs.Room.{keyRoom}
 use Rattle.complex.specs.Cells.{cellsOf}
 use Rattle.complex.specs.Facets.{Cells, Crowded}
 use Rattle.complex_mates.specs.Table.{MateTable, Meeting}
 use Rattle.complex_cells.specs.WorkMade.{Making, Made}
 use Rattle.complex_mates.proofs.Mated.{not-crowded}
-use Rattle.orientation.specs.Work.{Working}
-use Rattle.orientation.proofs.Steps.{meeting}
+use Rattle.complex_facets.specs.WorkAcross.{Keeping, Linked}
+use Rattle.orientation.proofs.Steps.{keeping}
 use Rattle.ordering_words.specs.Order.{wordsBy, byCell, Orders}
 use Rattle.ordering_words.specs.WorkArrange.{Arranging, Arranged}
-use Rattle.ordering.specs.Promise.{Preparing, Ready, Prepared, crowded, unordered, ready}
+use Rattle.ordering.specs.Promise.{Preparing, Ready, Prepared, crowded, unordered, ready, Joined}
 use Rattle.ordering_words.proofs.Lists.{made-again}
 
 module _ (d at : ℕ) (ws keys rows₀ spare counts : List ℕ) (w : Preparing d at ws keys rows₀ spare counts) where
@@ -68,9 +65,9 @@ module _ (d at : ℕ) (ws keys rows₀ spare counts : List ℕ) (w : Preparing d
       pub front-fits : at ≤ length (take at keys′ ++ (ys ++ drop (length keys′ - at) (drop at keys′)))
       front-fits = omega (arith, length-append (take at keys′) (ys ++ drop (length keys′ - at) (drop at keys′)), length-take-le at keys′ at-fits)
 
-      pub meets : Meeting d m (length ws) (take at (take at keys′ ++ (ys ++ drop (length keys′ - at) (drop at keys′)))) rows″ spare″ counts″
-      meets =
-          meeting d ws (take at (take at keys′ ++ (ys ++ drop (length keys′ - at) (drop at keys′)))) rows″ spare″ counts″
+      pub keeps : Keeping d m (length ws) (take at (take at keys′ ++ (ys ++ drop (length keys′ - at) (drop at keys′)))) rows″ spare″ counts″
+      keeps =
+          keeping d ws (take at (take at keys′ ++ (ys ++ drop (length keys′ - at) (drop at keys′)))) rows″ spare″ counts″
           (record {
             passed = w .passed;
             keys-long = length-take-le at (take at keys′ ++ (ys ++ drop (length keys′ - at) (drop at keys′))) front-fits ∙ w .start;
@@ -79,6 +76,9 @@ module _ (d at : ℕ) (ws keys rows₀ spare counts : List ℕ) (w : Preparing d
             counts-long = omega (arith, w .counts-long);
           })
           m (take at (take at keys′ ++ (ys ++ drop (length keys′ - at) (drop at keys′)))) rows″ spare″ counts″ refl refl refl refl a″
+
+      pub meets : Meeting d m (length ws) (take at (take at keys′ ++ (ys ++ drop (length keys′ - at) (drop at keys′)))) rows″ spare″ counts″
+      meets = keeps .meeting
 
       cells-many : length (cellsOf d ws) ≡ m
       cells-many = ap length (sym (a .same)) ∙ cut-length (suc d) m rows′
@@ -122,13 +122,25 @@ module _ (d at : ℕ) (ws keys rows₀ spare counts : List ℕ) (w : Preparing d
                 most = rw cells-many (a .most);
               }))
 
--- the room asked for is small
-room-most : (d n : ℕ) → keyRoom d n ≤ suc d * n
-room-most zero n = omega (arith, suc-mul 0 n)
-room-most (suc d) n = omega (arith, suc-mul (suc d) n)
+      -- the same by the cell across each row
+      module _ (p other flip : List ℕ) (lp : length p ≡ length (take at (take at keys′ ++ (ys ++ drop (length keys′ - at) (drop at keys′))))) where
+        pub joined-crowded : (keys‴ : List ℕ) → Crowded d (cut (suc d) m rows″) → Joined d at (length ws) (cellsOf d ws) order keys‴ other flip (Counted.Refused crowdedFacet 0)
+        joined-crowded keys‴ x =
+            record { mates = other; prepared = prepared-crowded p other lp keys‴ x; linked = λ n e. let z : _≡_ {A = ℕ} 0 1 = cc in absurd (omega arith) }
 
-pub need-bound : (d n : ℕ) → d ≤ mostDimension → n < manyCorners → keyRoom d n < rowMost * manyCorners
-need-bound d n h l = omega (arith, room-most d n, mul-le-mul-right n (suc-le h), mul-le-mul-left rowMost l)
-  where
-    suc-le : d ≤ mostDimension → suc d ≤ rowMost
-    suc-le h = omega arith
+        module _ (t : Linked d (cut (suc d) m rows″) other flip) where
+          pub joined-unordered : (keys‴ : List ℕ) → ok ≡ false → Joined d at (length ws) (cellsOf d ws) order keys‴ other flip (Counted.Refused badOrder 0)
+          joined-unordered keys‴ e =
+              record {
+                mates = t .mates;
+                prepared = prepared-unordered p (t .mates) lp (t .table) keys‴ e;
+                linked = λ n f. let z : _≡_ {A = ℕ} 0 1 = cc in absurd (omega arith);
+              }
+
+          pub joined-ready : ok ≡ true → Joined d at (length ws) (cellsOf d ws) order (p ++ drop at (take at keys′ ++ (ys ++ drop (length keys′ - at) (drop at keys′)))) other flip (Counted.Count m)
+          joined-ready e =
+              record {
+                mates = t .mates;
+                prepared = prepared-ready p (t .mates) lp (t .table) e;
+                linked = λ n f. subst (λ (cs : List (List ℕ)). Linked d cs other flip) (a″ .same) t;
+              }

@@ -15,18 +15,18 @@ use Rattle.lists.specs.Rows.{flat}
 use Rattle.multiindex.specs.Sort.{inversions}
 use Rattle.multiindex.specs.Sign.{Sign, induced}
 use Rattle.complex.specs.Check.{answerOf, Passed}
-use Rattle.complex.specs.Room.{keyRoom}
 use Rattle.complex.specs.Cells.{cellsOf}
 use Rattle.complex.specs.Facets.{cellAt, Crowded}
 use Rattle.complex_mates.specs.Table.{MateTable}
+use Rattle.complex_facets.specs.WorkAcross.{Linked}
 use Rattle.orientation_signs.specs.Signs.{Coherent}
 use Rattle.ordering.specs.declared.Ordered.{Ordered}
 use Rattle.ordering.specs.declared.Ordered.the-variants.{Agree, Differ, Refused}
 use Rattle.ordering_words.specs.Order.{wordsBy, Orders, AgreeOnFacets}
 
--- what a call on an order needs of its working lists, where n is the number of corners of the words
-abbrev pub orderNeed : ℕ → ℕ → Room
-orderNeed d n = record { keys = keyRoom d n + n + n; rows = n; spare = n; counts = n }
+-- what a call on an order needs of its working lists, where n is the number of corners of the words: in keys the facets' records, the words by cell and the cells
+abbrev pub orderNeed : ℕ → Room
+orderNeed n = record { keys = n * 5 + n + n; rows = n; spare = n; counts = n }
 
 -- a word's sign: + for an even number of pairs out of order
 abbrev pub wordSign : List ℕ → Sign
@@ -35,8 +35,8 @@ wordSign w = induced (inversions w)
 -- what the work asks of its lists, of just the lengths that are needed; the keys' last part begins at `at`
 pub record Preparing (d at : ℕ) (ws keys rows spare counts : List ℕ) : Type 0 where
   pub passed : Passed d ws
-  pub start : at ≡ keyRoom d (length ws)
-  pub keys-long : length keys ≡ keyRoom d (length ws) + length ws + length ws
+  pub start : at ≡ length ws * 5
+  pub keys-long : length keys ≡ length ws * 5 + length ws + length ws
   pub rows-long : length rows ≡ length ws
   pub spare-long : length spare ≡ length ws
   pub counts-long : length counts ≡ length ws
@@ -57,6 +57,12 @@ pub data Prepared (d at n : ℕ) (cs : List (List ℕ)) (order keys rows : List 
   unordered : (Crowded d cs → ⊥) → (Orders d cs order → ⊥) → Prepared d at n cs order keys rows (Counted.Refused badOrder 0)
   ready : Ready d at n cs order keys rows → Prepared d at n cs order keys rows (Counted.Count (length cs))
 
+-- the same, where in place of the mates the cell across each facet row and whether signs differ there are at hand
+pub record Joined (d at n : ℕ) (cs : List (List ℕ)) (order keys other flip : List ℕ) (r : Counted) : Type 0 where
+  pub mates : List ℕ
+  pub prepared : Prepared d at n cs order keys mates r
+  pub linked : (m : ℕ) → r ≡ Counted.Count m → Linked d cs other flip
+
 -- how `ordering` ends, once its words are checked and there is room: 7, 16, 12, or the order's words by cell. `given` is the length of the result list.
 pub data Ends (d : ℕ) (cs : List (List ℕ)) (order : List ℕ) (given : ℕ) : Ordered → List ℕ → Type 0 where
   -- a facet in three or more cells
@@ -74,7 +80,7 @@ pub data Ends (d : ℕ) (cs : List (List ℕ)) (order : List ℕ) (given : ℕ) 
 pub record Ordering (d : ℕ) (ws order : List ℕ) (r : Ordered) (by by′ keys keys′ rows rows′ spare spare′ counts counts′ : List ℕ) : Type 0 where
   pub handed : List ℕ
   pub used : Room
-  pub comes : Comes Refused [] (answerOf d ws) (orderNeed d (length ws)) (lengths keys rows spare counts) (Ends d (cellsOf d ws) order (length by)) r handed used
+  pub comes : Comes Refused [] (answerOf d ws) (orderNeed (length ws)) (lengths keys rows spare counts) (Ends d (cellsOf d ws) order (length by)) r handed used
   pub result : by′ ≡ onto handed by
   pub room : Cleared used keys keys′ rows rows′ spare spare′ counts counts′
 
@@ -96,5 +102,5 @@ pub data Wound (d : ℕ) (cs : List (List ℕ)) (order : List ℕ) : Verdict →
 -- the promise of `induced_orientation`
 pub record Induced (d : ℕ) (ws order : List ℕ) (r : Verdict) (keys keys′ rows rows′ spare spare′ counts counts′ : List ℕ) : Type 0 where
   pub used : Room
-  pub comes : Comes Verdict.Refused tt (answerOf d ws) (orderNeed d (length ws)) (lengths keys rows spare counts) (Wound d (cellsOf d ws) order) r tt used
+  pub comes : Comes Verdict.Refused tt (answerOf d ws) (orderNeed (length ws)) (lengths keys rows spare counts) (Wound d (cellsOf d ws) order) r tt used
   pub room : Cleared used keys keys′ rows rows′ spare spare′ counts counts′

@@ -2,12 +2,13 @@
 // vertices in one sequence.
 // Follows `CellOrdering`: `try_new`, `is_face_consistent`, `induced_orientation` (crates/simplicial/src/topology/ordering.rs).
 //
-// What the working lists hold, one phase after the other; the keys' last part begins where the facet rows end:
-//   keys, first part   sorted words     -                      facet rows     the cell across each slot
+// What the working lists hold, one phase after the other; the keys' last part begins where the facets' records end. `ordering` ends with the third phase, and
+// `induced_orientation` with the fourth:
+//   keys, first part   sorted words     -                      facet rows     records of the facets
 //   keys, last part    -                words by cell, cells   the same       the same
-//   rows               cells            cells                  mates          mates
+//   rows               cells            cells                  mates          the cell across each slot
 //   spare              first rows       first rows             first rows     whether signs differ across each slot
-//   counts             buckets          classes                classes        the words' signs
+//   counts             buckets          classes                classes        facets of rows, then the words' signs
 use refusal::Answer;
 use refusal::BAD_ORDER;
 use refusal::CROWDED_FACET;
@@ -16,12 +17,12 @@ use refusal::Room;
 use refusal::TOO_SHORT;
 use refusal::Verdict;
 ghost use mathlib.Core.Path.{_≡_};
-ghost use Prim.Native.Nat.{_<_, _≤_};
+ghost use Prim.Native.Nat.{_<_};
 ghost use lib.ListN.{length};
-ghost use Rattle.refusal.specs.Limits.{mostDimension, manyCorners};
+ghost use Rattle.refusal.specs.Limits.{manyCorners};
 ghost use Rattle.lists.specs.Zero.{AllZero};
 ghost use Rattle.complex.specs.Cells.{cellsOf};
-ghost use Rattle.ordering.specs.Promise.{orderNeed, Preparing, Prepared, Worked, Wound, Ordering, Induced};
+ghost use Rattle.ordering.specs.Promise.{orderNeed, Preparing, Prepared, Joined, Worked, Wound, Ordering, Induced};
 
 pub mod agreement;
 
@@ -116,11 +117,11 @@ fn order_cleared(
 }
 
 // What a call on an order needs of its working lists.
-pub fn need(d: usize, len: usize) -> Room
-    requires { ⌜ (d ≤ mostDimension) × (len < manyCorners) ⌝ }
-    ensures { λ r. ⌜ r ≡ orderNeed d len ⌝ }
+pub fn need(len: usize) -> Room
+    requires { ⌜ len < manyCorners ⌝ }
+    ensures { λ r. ⌜ r ≡ orderNeed len ⌝ }
 {
-    let base = complex::need(d, len);
+    let base = complex_facets::need(len);
     Room {
         keys: base.keys + len + len,
         rows: len,
@@ -152,9 +153,9 @@ pub fn ordering(
     }
     let dim = d as usize;
     let len = words.len();
-    let base = complex::need(dim, len);
+    let base = complex_facets::need(len);
     let at = base.keys;
-    let need = need(dim, len);
+    let need = need(len);
     let have = Room {
         keys: keys.len(),
         rows: rows.len(),
@@ -181,6 +182,33 @@ pub fn ordering(
     )
 }
 
+// The cells, the order's words by cell, and the cell across each facet with whether signs differ there, by the facets' records: how many cells, or 7 or 16.
+fn join(
+    d: usize,
+    at: usize,
+    words: &[u32],
+    order: &[u32],
+    keys: &mut [u32],
+    rows: &mut [u32],
+    spare: &mut [u32],
+    counts: &mut [u32],
+) -> Counted
+    requires { ⌜ Preparing d at (now words) (now keys) (now rows) (now spare) (now counts) ⌝ }
+    ensures { λ r.
+        ⌜ Joined d at (length (now (words .entry))) (cellsOf d (now (words .entry))) (now (order .entry)) (now (keys .exit)) (now (rows .exit)) (now (spare .exit)) r ⌝ }
+{
+    let len = words.len();
+    let m = complex_cells::cells(d, words, keys, rows, spare, counts);
+    let fits = ordering_words::arrange(d, m, len, order, &mut keys[at..], rows, spare, counts);
+    if !complex_facets::links(d, m, len, &mut keys[..at], rows, spare, counts) {
+        return Counted::Refused(CROWDED_FACET, 0);
+    }
+    if !fits {
+        return Counted::Refused(BAD_ORDER, 0);
+    }
+    Counted::Count(m as u32)
+}
+
 // The work of `induced_orientation`, in working lists of just the sizes that are needed. Nothing is promised of them.
 fn wound_work(
     d: usize,
@@ -195,13 +223,13 @@ fn wound_work(
     requires { ⌜ Preparing d at (now words) (now keys) (now rows) (now spare) (now counts) ⌝ }
     ensures { λ r. ⌜ Wound d (cellsOf d (now (words .entry))) (now (order .entry)) r tt ⌝ }
 {
-    let prepared = prepare(d, at, words, order, keys, rows, spare, counts);
-    match prepared {
+    let joined = join(d, at, words, order, keys, rows, spare, counts);
+    match joined {
         Counted::Refused(number, place) => Verdict::Refused(number, place),
         Counted::Count(m) => {
             let count = lists::wide(m);
             agreement::word_marks(d + 1, count, &keys[at..], counts);
-            if !orientation_by::coherent_as(d, count, rows, &mut keys[..at], spare, counts) {
+            if !orientation_by::coherent_over(d, count, rows, spare, counts) {
                 return Verdict::No;
             }
             Verdict::Yes
@@ -252,9 +280,9 @@ pub fn induced_orientation(
     }
     let dim = d as usize;
     let len = words.len();
-    let base = complex::need(dim, len);
+    let base = complex_facets::need(len);
     let at = base.keys;
-    let need = need(dim, len);
+    let need = need(len);
     let have = Room {
         keys: keys.len(),
         rows: rows.len(),

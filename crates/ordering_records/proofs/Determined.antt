@@ -29,5 +29,5 @@ records-with-one d ws order r r′ facets s s′ records t t′ keys k k′ rows
     let w =
     call-one ([], []) d (GivesRecords d cs order (length facets) (length records))
     (along-one ([], []) d cs order (GivesBoth (facetsOf d cs) (recordsOf d cs (wordsBy d cs order)) (length facets) (length records)) (both-one (facetsOf d cs) (recordsOf d cs (wordsBy d cs order)) (length facets) (length records)))
-    (orderNeed d (length ws)) ws r r′ (a .handed) (b .handed) keys k k′ rows o o′ spare p p′ counts c c′ (a .call) (b .call) in
+    (orderNeed (length ws)) ws r r′ (a .handed) (b .handed) keys k k′ rows o o′ spare p p′ counts c c′ (a .call) (b .call) in
     (w .0, a .result ∙ ap (λ (l : List ℕ × List ℕ). onto (l .0) facets) (w .1) ∙ sym (b .result), a .sides ∙ ap (λ (l : List ℕ × List ℕ). onto (l .1) records) (w .1) ∙ sym (b .sides), w .2)

@@ -35,7 +35,6 @@ use Rattle.complex_facets.specs.Records.{keptOf, oneIf, agreeOf, recordsOf}
 use Rattle.complex_facets.specs.WorkRecords.{fives, Recording}
 use Rattle.complex_facets.proofs.Recording.{records-are}
 use Rattle.skeleton.specs.Promise.{GivesBoth, words-short, table-short, both-listed, crowded, rest}
-use Rattle.skeleton.proofs.Steps.{room-rows}
 use Rattle.ordering_words.specs.Order.{wordsBy, Orders}
 use Rattle.ordering_words.specs.WorkArrange.{Arranged}
 use Rattle.ordering_words.proofs.Lists.{made-again}
@@ -201,10 +200,9 @@ module _ (d at : ℕ) (ws keys rows₀ spare counts : List ℕ) (w : Preparing d
   a″ = made-again d ws m rows′ rows″ a (b .kept)
 
   pub passing : Meeting d m (length ws) (take at keys″) rows″ spare″ counts″ × (m * slots d * d < 4294967296)
-  passing = (
-    steps.meets d at ws keys rows₀ spare counts w m keys′ rows′ spare′ counts′ lk lr ls lc a order fits ys rows″ spare″ counts″ ly lr″ ls″ lc″ b,
-    omega (arith, room-rows d m (length ws) (a .most), steps.need-bound d (length ws) (w .passed .small) (omega (arith, a .corners))),
-  )
+  passing =
+      let k = steps.keeps d at ws keys rows₀ spare counts w m keys′ rows′ spare′ counts′ lk lr ls lc a order fits ys rows″ spare″ counts″ ly lr″ ls″ lc″ b in
+      (k .meeting, k .narrow)
 
   module _ (ok : Bool) (f : ℕ) (p rows‴ spare‴ counts‴ : List ℕ) (lp : length p ≡ length (take at keys″)) (c : Found d (cut (suc d) m rows″) ok f p spare‴ counts‴ rows‴) where
     -- 7
@@ -249,7 +247,7 @@ module _ (d at : ℕ) (ws keys rows₀ spare counts : List ℕ) (w : Preparing d
             good = subst (λ (cs : List Word). Cells d cs) (a .same) (a .cells);
             most = omega (arith, c .yes e .classes .most, facet-rows, a .most);
             start = omega (arith, keys-long, w .keys-long, w .start);
-            small = omega (arith, w .start, steps.need-bound d (length ws) (w .passed .small) (omega (arith, a .corners)));
+            small = omega (arith, w .start, a .corners);
             long = omega (arith, keys-long, w .keys-long, w .start, ap (λ (x : ℕ). m * x) (add-one d), a .most);
             pass = subst (λ (l : List ℕ). Pass d (cellsOf d ws) f l spare‴ counts‴ rows‴) (sym (take-at p (drop at keys″) at p-long)) (subst (λ (cs : List Word). Pass d cs f p spare‴ counts‴ rows‴) (a″ .same) (c .yes e));
             ready = the-ready y;

@@ -26,6 +26,6 @@ GivesRecords d cs order given given′ = Along ([], []) d cs order (GivesBoth (f
 -- the promise of `facet_records_with`: r is what it says, and a list with ′ is what it holds at exit
 pub record RecordsWith (d : ℕ) (ws order : List ℕ) (r : Counted) (facets facets′ records records′ keys keys′ rows rows′ spare spare′ counts counts′ : List ℕ) : Type 0 where
   pub handed : List ℕ × List ℕ
-  pub call : Call ([], []) (orderNeed d (length ws)) (GivesRecords d (cellsOf d ws) order (length facets) (length records)) d ws r handed keys keys′ rows rows′ spare spare′ counts counts′
+  pub call : Call ([], []) (orderNeed (length ws)) (GivesRecords d (cellsOf d ws) order (length facets) (length records)) d ws r handed keys keys′ rows rows′ spare spare′ counts counts′
   pub result : facets′ ≡ onto (handed .0) facets
   pub sides : records′ ≡ onto (handed .1) records

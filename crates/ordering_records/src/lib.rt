@@ -1,7 +1,7 @@
 // The facets of a cell list with an order, one record for each: what `skeleton::facet_records` hands out, and whether the order's words agree on the facet.
 // The port added it: the Rust asks a facet for its cells (`Facet::adjacent_cells`) and works out signs and agreement where they are needed.
 //
-// What the working lists hold, one phase after the other; the keys' last part begins where the facet rows end:
+// What the working lists hold, one phase after the other; the keys' last part begins where the facets' records would end:
 //   keys, first part   sorted words     -                      facet rows
 //   keys, last part    -                words by cell, cells   the same
 //   rows               cells            cells                  mates
@@ -182,9 +182,9 @@ pub fn facet_records_with(
     }
     let dim = d as usize;
     let len = words.len();
-    let base = complex::need(dim, len);
+    let base = complex_facets::need(len);
     let at = base.keys;
-    let need = ordering::need(dim, len);
+    let need = ordering::need(len);
     let have = Room {
         keys: keys.len(),
         rows: rows.len(),

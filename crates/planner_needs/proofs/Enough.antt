@@ -120,16 +120,16 @@ module _ (d : ℕ) (ws keys rows spare counts : List ℕ) {keys′ rows′ spare
       (λ p. let k = told d ws plainNeed (length keys ∷ length rows ∷ length spare ∷ length counts ∷ []) l p in by-end d (cellsOf d ws) signs)
       (a .comes) t
 
-  pub ordering-enough : (order : List ℕ) {out out′ : List ℕ} {r : Ordered} → ordering.Ordering d ws order r out out′ keys keys′ rows rows′ spare spare′ counts counts′ → Long (orderedNeed d (worked d (length ws))) (length out ∷ length keys ∷ length rows ∷ length spare ∷ length counts ∷ []) → orderedNumber r ≡ tooShort → ⊥
+  pub ordering-enough : (order : List ℕ) {out out′ : List ℕ} {r : Ordered} → ordering.Ordering d ws order r out out′ keys keys′ rows rows′ spare spare′ counts counts′ → Long (orderedNeed (worked d (length ws))) (length out ∷ length keys ∷ length rows ∷ length spare ∷ length counts ∷ []) → orderedNumber r ≡ tooShort → ⊥
   ordering-enough order {out = out} a l t =
-      never Ordered.Refused orderedNumber (λ n p. refl) [] (answerOf d ws) (check-never d ws) (Passed d ws) (fine-passed d ws) (ordering.orderNeed d (length ws)) (lengths keys rows spare counts) (ordering.Ends d (cellsOf d ws) order (length out))
-      (λ p. let k = told d ws (orderedNeed d) (length out ∷ length keys ∷ length rows ∷ length spare ∷ length counts ∷ []) l p in roomy-of (ordering.orderNeed d (length ws)) _ _ _ _ (k .1))
-      (λ p. let k = told d ws (orderedNeed d) (length out ∷ length keys ∷ length rows ∷ length spare ∷ length counts ∷ []) l p in ordered-end d (cellsOf d ws) order (length out) (omega (arith, k .0, corners-most d ws p)))
+      never Ordered.Refused orderedNumber (λ n p. refl) [] (answerOf d ws) (check-never d ws) (Passed d ws) (fine-passed d ws) (ordering.orderNeed (length ws)) (lengths keys rows spare counts) (ordering.Ends d (cellsOf d ws) order (length out))
+      (λ p. let k = told d ws orderedNeed (length out ∷ length keys ∷ length rows ∷ length spare ∷ length counts ∷ []) l p in roomy-of (ordering.orderNeed (length ws)) _ _ _ _ (k .1))
+      (λ p. let k = told d ws orderedNeed (length out ∷ length keys ∷ length rows ∷ length spare ∷ length counts ∷ []) l p in ordered-end d (cellsOf d ws) order (length out) (omega (arith, k .0, corners-most d ws p)))
       (a .comes) t
 
-  pub induced-enough : (order : List ℕ) {r : Verdict} → ordering.Induced d ws order r keys keys′ rows rows′ spare spare′ counts counts′ → Long (turnsNeed d (worked d (length ws))) (length keys ∷ length rows ∷ length spare ∷ length counts ∷ []) → verdictNumber r ≡ tooShort → ⊥
+  pub induced-enough : (order : List ℕ) {r : Verdict} → ordering.Induced d ws order r keys keys′ rows rows′ spare spare′ counts counts′ → Long (turnsNeed (worked d (length ws))) (length keys ∷ length rows ∷ length spare ∷ length counts ∷ []) → verdictNumber r ≡ tooShort → ⊥
   induced-enough order a l t =
-      never Verdict.Refused verdictNumber (λ n p. refl) tt (answerOf d ws) (check-never d ws) (Passed d ws) (fine-passed d ws) (ordering.orderNeed d (length ws)) (lengths keys rows spare counts) (ordering.Wound d (cellsOf d ws) order)
-      (λ p. let k = told d ws (turnsNeed d) (length keys ∷ length rows ∷ length spare ∷ length counts ∷ []) l p in roomy-of (ordering.orderNeed d (length ws)) _ _ _ _ (k))
-      (λ p. let k = told d ws (turnsNeed d) (length keys ∷ length rows ∷ length spare ∷ length counts ∷ []) l p in wound-end d (cellsOf d ws) order)
+      never Verdict.Refused verdictNumber (λ n p. refl) tt (answerOf d ws) (check-never d ws) (Passed d ws) (fine-passed d ws) (ordering.orderNeed (length ws)) (lengths keys rows spare counts) (ordering.Wound d (cellsOf d ws) order)
+      (λ p. let k = told d ws turnsNeed (length keys ∷ length rows ∷ length spare ∷ length counts ∷ []) l p in roomy-of (ordering.orderNeed (length ws)) _ _ _ _ (k))
+      (λ p. let k = told d ws turnsNeed (length keys ∷ length rows ∷ length spare ∷ length counts ∷ []) l p in wound-end d (cellsOf d ws) order)
       (a .comes) t

@@ -25,8 +25,8 @@ orientation-made d n m w = ap (λ (x : ℕ). m / x ∷ m * 5 ∷ m ∷ m ∷ m �
 pub orient-by-made : (d n m : ℕ) → Worked d n m → _≡_ {A = List ℕ} (m * 5 ∷ m ∷ m ∷ m ∷ []) (plainNeed (worked d n))
 orient-by-made d n m w = ap plainNeed (w .is)
 
-pub ordering-made : (d n m k : ℕ) → Worked d n m → k ≡ keyRoom d m → _≡_ {A = List ℕ} (m ∷ (k + m + m) ∷ m ∷ m ∷ m ∷ []) (orderedNeed d (worked d n))
-ordering-made d n m k w e = ap (λ (k : ℕ). m ∷ (k + m + m) ∷ m ∷ m ∷ m ∷ []) e ∙ ap (orderedNeed d) (w .is)
+pub ordering-made : (d n m : ℕ) → Worked d n m → _≡_ {A = List ℕ} (m ∷ (m * 5 + m + m) ∷ m ∷ m ∷ m ∷ []) (orderedNeed (worked d n))
+ordering-made d n m w = ap orderedNeed (w .is)
 
-pub induced-orientation-made : (d n m k : ℕ) → Worked d n m → k ≡ keyRoom d m → _≡_ {A = List ℕ} ((k + m + m) ∷ m ∷ m ∷ m ∷ []) (turnsNeed d (worked d n))
-induced-orientation-made d n m k w e = ap (λ (k : ℕ). (k + m + m) ∷ m ∷ m ∷ m ∷ []) e ∙ ap (turnsNeed d) (w .is)
+pub induced-orientation-made : (d n m : ℕ) → Worked d n m → _≡_ {A = List ℕ} ((m * 5 + m + m) ∷ m ∷ m ∷ m ∷ []) (turnsNeed (worked d n))
+induced-orientation-made d n m w = ap turnsNeed (w .is)

@@ -32,9 +32,9 @@ abbrev pub plainNeed : ℕ → List ℕ
 plainNeed n = lists (recordNeed n)
 
 -- the words of an order by cell
-abbrev pub orderedNeed : ℕ → ℕ → List ℕ
-orderedNeed d n = n ∷ lists (orderNeed d n)
+abbrev pub orderedNeed : ℕ → List ℕ
+orderedNeed n = n ∷ lists (orderNeed n)
 
 -- the signs of an order's words: no result list
-abbrev pub turnsNeed : ℕ → ℕ → List ℕ
-turnsNeed d n = lists (orderNeed d n)
+abbrev pub turnsNeed : ℕ → List ℕ
+turnsNeed n = lists (orderNeed n)

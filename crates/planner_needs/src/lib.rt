@@ -70,19 +70,19 @@ pub extern "C" fn planner_need_orient_by(d: u32, n: usize, need: &mut [usize; 4]
 // planner_ordering: listed, keys, rows, spare, counts.
 #[no_mangle]
 pub extern "C" fn planner_need_ordering(d: u32, n: usize, need: &mut [usize; 5])
-    ensures { λ _. ⌜ now (need .exit) ≡ orderedNeed d (worked d n) ⌝ }
+    ensures { λ _. ⌜ now (need .exit) ≡ orderedNeed (worked d n) ⌝ }
 {
     let m = corners(d, n);
-    let k = key_room(d, m);
+    let k = m * 5;
     *need = [m, k + m + m, m, m, m];
 }
 
 // planner_induced_orientation: keys, rows, spare, counts.
 #[no_mangle]
 pub extern "C" fn planner_need_induced_orientation(d: u32, n: usize, need: &mut [usize; 4])
-    ensures { λ _. ⌜ now (need .exit) ≡ turnsNeed d (worked d n) ⌝ }
+    ensures { λ _. ⌜ now (need .exit) ≡ turnsNeed (worked d n) ⌝ }
 {
     let m = corners(d, n);
-    let k = key_room(d, m);
+    let k = m * 5;
     *need = [k + m + m, m, m, m];
 }

@@ -20,7 +20,6 @@ use Rattle.refusal.specs.Table.{badDimension, tooManyCells, tooManyVertices, sh
 use Rattle.refusal.specs.Lent.{Roomy, lengths}
 use Rattle.sorting.proofs.Sorts.{length-upto}
 use Rattle.complex.specs.Room.{needOf}
-use Rattle.ordering.specs.Promise.{orderNeed}
 use Rattle.grid_sides.specs.Counts.{firstBad}
 use Rattle.quotient.specs.declared.Grid.{Grid}
 use Rattle.quotient.specs.Shape.{badReflection, shortAxis, shapeCheck, checkOf, sidesCheckOf, cellCount, verticesOf}

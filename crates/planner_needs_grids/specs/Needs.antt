@@ -8,7 +8,7 @@ use Rattle.quotient.specs.declared.Grid.{Grid}
 use Rattle.quotient.specs.Shape.{checkOf, countedAfter}
 use Rattle.grid_mesh.specs.Words.{cornersOf}
 use Rattle.grid_chained.specs.Shape.{shapeOf}
-use Rattle.ordering.specs.Promise.{orderNeed}
+use Rattle.grid_order.specs.Promise.{triangulatedRoom}
 use Rattle.needs.specs.Needs.{lists}
 
 -- each where the grid's words have n corners: the words, in either mode
@@ -17,7 +17,7 @@ wordsNeed d n = n ∷ lists (needOf d n)
 
 -- a grid's cells, and an order of them
 abbrev pub triangulatedNeed : ℕ → ℕ → List ℕ
-triangulatedNeed d n = n ∷ n ∷ lists (orderNeed d n)
+triangulatedNeed d n = n ∷ n ∷ lists (triangulatedRoom d n)
 
 -- the lengths of a grid's edges: two ends for each edge of each cell
 abbrev pub lengthsNeed : ℕ → ℕ → List ℕ

@@ -114,7 +114,7 @@ fn more_width(kind: u64, d: u32, said: u64) -> u32 {
 pub(crate) fn list(kind: u64, d: u32, first: &[u32], second: &[u32]) {
     let mut out = [7u32; 384];
     let mut more = [7u32; 512];
-    let mut keys = [7u32; 768];
+    let mut keys = [7u32; 896];
     let mut rows = [7u32; 384];
     let mut spare = [7u32; 384];
     let mut counts = [7u32; 384];

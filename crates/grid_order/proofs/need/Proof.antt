@@ -9,8 +9,8 @@ use Rattle.refusal.specs.Limits.{manyCorners}
 use Rattle.refusal.specs.declared.Room.{Room}
 use Rattle.grid_mesh.proofs.Steps.{corners-few, corners-are}
 use Rattle.grid_words.proofs.Corners.{dim}
-use Rattle.ordering.specs.Promise.{orderNeed}
-use Rattle.ordering.proofs.Steps.{need-bound}
+use Rattle.grid_order.specs.Promise.{triangulatedRoom}
+use Rattle.grid_order.proofs.Entry.{need-bound}
 use Rattle.grid_order.proofs.need.Statement.{statement}
 use Rattle.grid_order.proofs.need.Tie as tie
 
@@ -49,8 +49,8 @@ returns c =
     let g = s .args .grid in
     let len = c .before .before .cells .result * (g .d + 1) in
     let e = ap (λ (r : Room). r .keys) (c .before .need .ensures) in
-    let f : _≡_ {A = Room} (record { keys = c .before .need .result .keys + len + len; rows = len; spare = len; counts = len }) (orderNeed (g .d) len) = ap (λ (k : ℕ). record { keys = k + len + len; rows = len; spare = len; counts = len }) e in
-    f ∙ ap (λ (n : ℕ). orderNeed (g .d) n) (corners-are g (s .pre) _ (c .before .before .cells .ensures))
+    let f : _≡_ {A = Room} (record { keys = c .before .need .result .keys + len + len; rows = len; spare = len; counts = len }) (triangulatedRoom (g .d) len) = ap (λ (k : ℕ). record { keys = k + len + len; rows = len; spare = len; counts = len }) e in
+    f ∙ ap (λ (n : ℕ). triangulatedRoom (g .d) n) (corners-are g (s .pre) _ (c .before .before .cells .ensures))
 
 pub need-spec : {M : Type 1} → statement M
 need-spec = tie.close (tie.spec cast-d cells-requires add-len mul-len need-requires add-t5 add-t6 returns)

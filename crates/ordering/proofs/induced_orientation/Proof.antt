@@ -14,7 +14,7 @@ use Rattle.ordering.proofs.induced_orientation.Tie as tie
 use Rattle.ordering.proofs.induced_orientation.Reads as reads
 use Rattle.ordering.proofs.induced_orientation.Lts as lts
 use Rattle.complex.proofs.check_cells.Reads as check-cells-reads
-use Rattle.complex.proofs.need.Reads as complex-need-reads
+use Rattle.complex_facets.proofs.need.Reads as complex-need-reads
 use Rattle.ordering.proofs.need.Reads as need-reads
 use Rattle.refusal.proofs.has_room.Reads as has-room-reads
 use Rattle.ordering.proofs.wound_cleared.Reads as wound-cleared-reads
@@ -32,10 +32,10 @@ enum-told : tie.Need-enum-told
 enum-told c = search needs
 
 need-requires : tie.Need-need-requires
-need-requires c κs = let p = fine-passed (c .before .before .before .before .before .before .before .before .before .args .d) (c .before .before .before .before .before .before .before .before .before .args .words .now) (sym (c .before .before .check-cells .ensures) ∙ c .enum-told .given .1) in (p .small, few-corners (c .before .before .before .before .before .before .before .before .before .args .d) (c .before .before .before .before .before .before .before .before .before .args .words .now) p)
+need-requires c κs = let p = fine-passed (c .before .before .before .before .before .before .before .before .before .args .d) (c .before .before .before .before .before .before .before .before .before .args .words .now) (sym (c .before .before .check-cells .ensures) ∙ c .enum-told .given .1) in few-corners (c .before .before .before .before .before .before .before .before .before .args .d) (c .before .before .before .before .before .before .before .before .before .args .words .now) p
 
 need-requires-2 : tie.Need-need-requires-2
-need-requires-2 c κs = let p = fine-passed (c .before .before .before .before .before .before .before .before .before .before .args .d) (c .before .before .before .before .before .before .before .before .before .before .args .words .now) (sym (c .before .before .before .check-cells .ensures) ∙ c .before .enum-told .given .1) in (p .small, few-corners (c .before .before .before .before .before .before .before .before .before .before .args .d) (c .before .before .before .before .before .before .before .before .before .before .args .words .now) p)
+need-requires-2 c κs = let p = fine-passed (c .before .before .before .before .before .before .before .before .before .before .args .d) (c .before .before .before .before .before .before .before .before .before .before .args .words .now) (sym (c .before .before .before .check-cells .ensures) ∙ c .before .enum-told .given .1) in few-corners (c .before .before .before .before .before .before .before .before .before .before .args .d) (c .before .before .before .before .before .before .before .before .before .before .args .words .now) p
 
 has-room-requires : tie.Need-has-room-requires
 has-room-requires c κs = search needs

@@ -6,21 +6,20 @@ use native.Mathlib.Omega.{arith}
 use borrow.Author.Needs.{needs}
 use lib.ListN.{length, getD, take, drop, set, replicate, length-set}
 use Rattle.refusal.specs.declared.Room.{Room}
-use Rattle.ordering.proofs.Steps.{need-bound}
 use Rattle.ordering.proofs.need.Statement.{statement}
 use Rattle.ordering.proofs.need.Tie as tie
 use Rattle.ordering.proofs.need.Reads as reads
 use Rattle.ordering.proofs.need.Lts as lts
-use Rattle.complex.proofs.need.Reads as need-reads
+use Rattle.complex_facets.proofs.need.Reads as need-reads
 
 need-requires : tie.Need-need-requires
 need-requires c κs = search needs
 
-add-t4 : tie.Need-add-t4
-add-t4 c = omega (arith, need-bound (c .before .before .args .d) (c .before .before .args .len) (c .before .before .pre .0) (omega (arith, c .before .before .pre .1)), ap (λ (r : Room). r .keys) (c .before .need .ensures))
+add-t3 : tie.Need-add-t3
+add-t3 c = omega (arith, c .before .before .pre, ap (λ (r : Room). r .keys) (c .before .need .ensures))
 
-add-t5 : tie.Need-add-t5
-add-t5 c = omega (arith, need-bound (c .before .before .args .d) (c .before .before .args .len) (c .before .before .pre .0) (omega (arith, c .before .before .pre .1)), ap (λ (r : Room). r .keys) (c .before .need .ensures))
+add-t4 : tie.Need-add-t4
+add-t4 c = omega (arith, c .before .before .pre, ap (λ (r : Room). r .keys) (c .before .need .ensures))
 
 returns : tie.Need-returns
 returns c = let e = ap (λ (r : Room). r .keys) (c .before .need .ensures) in cc
@@ -30,6 +29,6 @@ need-spec =
     tie.close
     (tie.spec
     need-requires
+    add-t3
     add-t4
-    add-t5
     returns)
