@@ -48,7 +48,7 @@ def records(j, c):
     flat[4::5] = agree
     w = c.want((16, 0) if c.fine and by is None else None, value=len(flat) // 5, results=[("u32", facets), ("u32", flat)])
     if c.need:
-        w.need = calls.order_need(c.d, len(c.ws))
+        w.need = calls.order_need(len(c.ws))
     j.call("planner_facet_records_with", [c.d], [("u32", c.ws), ("u32", order)], ["u32", "u32"], w)
 
 

@@ -253,7 +253,7 @@ uint64_t planner_ordering(
 
 /* The facets, d vertices each, in colex order, and for each a record of five numbers as planner_facet_records has it, but the last is 1 only where the order's words of its
  * cells list its vertices in one sequence, else 0; it is 1 where the facet lies in one cell. Returns how many facets there are; d times as many numbers are needed of facets,
- * 5 times as many of records. Refused: 1, 2, 3, 4, 6, 5, 12 (working lists), 7, 16, 12 (facets, records). Working lists: keys (max(1, d) + 2) * n, rows n, spare n,
+ * 5 times as many of records. Refused: 1, 2, 3, 4, 6, 5, 12 (working lists), 7, 16, 12 (facets, records). Working lists: keys 7 * n, rows n, spare n,
  * counts n. */
 uint64_t planner_facet_records_with(
     uint32_t d, const uint32_t *words, size_t n, const uint32_t *order, size_t order_len, uint32_t *facets, size_t facets_len, uint32_t *records,

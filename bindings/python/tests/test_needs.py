@@ -29,12 +29,12 @@ def told(d, n):
     """By call, result lists first."""
     n = worked(d, n)
     k = max(1, d) * n
-    plain, ordered, signed = [k, n, n, n], [k + 2 * n, n, n, n], [5 * n, n, n, n]
+    plain, ordered, signed, laid = [k, n, n, n], [7 * n, n, n, n], [5 * n, n, n, n], [k + 2 * n, n, n, n]
     keys, rows = faces(d, n)
     of_faces = [keys, rows, rows, rows]
     return {
         "cells": [n] + plain, "cell_words": [n] + plain, "edges": [k, 2 * k, k, k, k], "facets": [d * n, 4 * n] + plain, "border": [d * n] + plain,
-        "orientation": [n // (d + 1)] + signed, "orient_by": signed, "ordering": [n] + ordered, "induced_orientation": ordered, "triangulate_ordered": [n, n] + ordered,
+        "orientation": [n // (d + 1)] + signed, "orient_by": signed, "ordering": [n] + ordered, "induced_orientation": ordered, "triangulate_ordered": [n, n] + laid,
         "edge_lengths_sq": [d * n] * 5, "geojson": [43 + 276 * (n // (d + 1))] + plain, "chained_classes": [n, n], "incidence": [n + 1, n] + plain,
         "faces": [rows] + of_faces, "boundary": [rows] * 3 + of_faces, "matrix_market": [83 + 34 * rows] + of_faces, "drop_cells": [n, n] + plain,
     }
