@@ -35,7 +35,7 @@
 #include <stddef.h>
 #include <stdint.h>
 
-#define PLANNER_VERSION "0.1.0"
+#define PLANNER_VERSION "0.2.0"
 
 #ifdef __cplusplus
 extern "C" {

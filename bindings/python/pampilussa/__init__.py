@@ -16,7 +16,7 @@ from .refined import Birth, Births, Child, NO_VERTEX, Refined, corners
 from .refused import Refused
 
 __all__ = ["Birth", "Births", "Boundary", "Child", "Clash", "Complex", "Crossing", "Facets", "Grid", "Mesh", "NO_CELL", "NO_VERTEX", "Order", "Refined", "Refused", "corners", "read_mesh", "refine", "write_mesh"]
-__version__ = "0.1.0"
+__version__ = "0.2.0"
 
 
 def refine(words: "Complex", r: int, order: object = None) -> Refined:
