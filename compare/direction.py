@@ -23,7 +23,7 @@ class Planner:
 
     def signs(self, d, ws):
         """the signs of planner_orientation, or None"""
-        lists = [("u32", ws), ("i32", [0] * (len(ws) // (d + 1)))] + [("u32", [0] * n) for n in calls.need(d, len(ws))]
+        lists = [("u32", ws), ("i32", [0] * (len(ws) // (d + 1)))] + [("u32", [0] * n) for n in calls.record_need(len(ws))]
         answer, after = self.port.call("planner_orientation", [d], lists)
         number, count = said(answer)
         return None if number else after[1][:count]
@@ -42,7 +42,7 @@ class Planner:
         return out[0][:(d + 1) * count], out[2][:count], out[4][:9 * count]
 
     def agreed(self, d, ws, signs):
-        lists = [("u32", ws), ("i32", signs)] + [("u32", [0] * n) for n in calls.need(d, len(ws))]
+        lists = [("u32", ws), ("i32", signs)] + [("u32", [0] * n) for n in calls.record_need(len(ws))]
         return said(self.port.call("planner_orient_by", [d], lists)[0])
 
 

@@ -67,12 +67,12 @@ def one(j, d, ws):
 
 def signs_stay(j, d, ws, cells, gone, new):
     """the kept signs of a mesh with coherent signs, asked of planner_orient_by: the new cells stand in the order of the old ones"""
-    room = [("u32", [0] * n) for n in calls.need(d, len(ws))]
+    room = [("u32", [0] * n) for n in calls.record_need(len(ws))]
     answer, after = j.port.call("planner_orientation", [d], [("u32", ws), ("i32", [0] * len(cells))] + room)
     if answer >> 32:
         return
     left = [s for c, s in enumerate(after[1]) if c not in gone]
-    j.call("planner_orient_by", [d], [("u32", new), ("i32", left)], [], Want(None, calls.need(d, len(new)), None, int(d > 0)))
+    j.call("planner_orient_by", [d], [("u32", new), ("i32", left)], [], Want(None, calls.record_need(len(new)), None, int(d > 0)))
 
 
 def main():

@@ -73,7 +73,7 @@ int LLVMFuzzerTestOneInput(const uint8_t *data, size_t size) {
     if (size < 3) return 0;
     uint32_t d = data[0] % 6;
     size_t n = size - 3 > 160 ? 160 : size - 3, k = d + 1;
-    size_t need[4] = {(d ? d : 1) * n, n, n, n}, have[4];
+    size_t need[4] = {5 * n, n, n, n}, have[4];
     for (int i = 0; i < 4; i++) have[i] = need[i] + 2;
     int cramped = data[1] & 128 && n;
     if (cramped) have[data[1] % 4] = need[data[1] % 4] - 1;

@@ -21,8 +21,8 @@ KINDS = {"planner_torus": 1, "planner_klein": 2, "planner_moebius": 3, "planner_
          "planner_ordering": 13, "planner_induced_orientation": 14, "planner_cell_words": 15, "planner_triangulate_ordered": 16, "planner_orient_by": 17,
          "planner_edge_lengths_sq": 18, "planner_edge_length_sq": 19}
 MOST = 128                    # numbers in a list that `replay` reads
-ROOM = {"planner_orientation": [384, 128, 128, 128], "planner_orient_by": [384, 128, 128, 128], "planner_edge_lengths_sq": [648] * 4}     # its working lists
-OTHER_ROOM = [768, 384, 384, 384]
+ROOM = {"planner_orientation": [640, 128, 128, 128], "planner_orient_by": [640, 128, 128, 128], "planner_edge_lengths_sq": [648] * 4}     # its working lists
+OTHER_ROOM = [896, 384, 384, 384]
 SEVEN = {"u32": 7, "f64": m.bits(7.0)}                # what stands in a list before the call
 # document 01's figures, and grids around them: d, axes, sides
 FIGURES = [(2, [3, 514, 1, 0], (3, 1)), (2, [3, 256, 1, 0], (3, 1)), (2, [2, 256, 1, 0], (2, 1)), (2, [3, 0, 0, 0], (3, 1)), (3, [3, 514, 3, 516, 1, 0], (3, 3, 1)),
