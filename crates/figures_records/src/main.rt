@@ -84,7 +84,7 @@ fn records(d: u32, words: &[u32]) {
 fn records_with(d: u32, words: &[u32], order: &[u32]) {
     let mut facets = [77u32; 32];
     let mut records = [77u32; 60];
-    let mut keys = [7u32; 80];
+    let mut keys = [7u32; 128];
     let mut rows = [7u32; 32];
     let mut spare = [7u32; 32];
     let mut counts = [7u32; 32];
