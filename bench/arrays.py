@@ -61,8 +61,8 @@ def main():
         words = grid.words()
         mesh = pa.Complex(words)
         points = np.arange(len(reduced(grid)), dtype=np.uint32)
-        jobs = [("cells", lambda: pa.Complex(words).cells, lambda: cells(words)), ("edges", lambda: mesh.edges, lambda: edges(words)),
-                ("border", lambda: mesh.border, lambda: border(words)), ("all points reduced", lambda: grid.reduce(points), lambda: reduced(grid))]
+        jobs = [("cells", lambda: pa.Complex(words).cells, lambda: cells(words)), ("edges", lambda: mesh.edges(), lambda: edges(words)),
+                ("border", lambda: mesh.border(), lambda: border(words)), ("all points reduced", lambda: grid.reduce(points), lambda: reduced(grid))]
         for job, ours, theirs in jobs:
             if not np.array_equal(ours(), theirs()):
                 sys.exit("%s of %s differ" % (job, name))
