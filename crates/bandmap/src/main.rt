@@ -3,6 +3,8 @@
 // Whether the band is drawn is asked of the call itself with no bytes lent: where it says 12 for the bytes, nothing else is amiss. The file may have a megabyte, so it is
 // then printed part by part, a feature at a time (proofs of `file_geojson_laws`: the parts one after another are the file). The buffer of the line holds the longest one
 // and one byte more: what follows cannot change the answer, and is not read.
+#![tactic(auto)]
+
 ghost use Rattle.std.specs.Prelude.{◌≡◌, true, ◌<◌};
 ghost use Rattle.refusal.specs.declared.Answer.TheVariants.{Fine};
 ghost use Rattle.quotient.specs.Shape.{check_of, cell_count};
@@ -10,7 +12,9 @@ ghost use Rattle.file_geojson.specs.Kind.{band_grid, latitudes_fit, Mapped};
 
 use bandmap_line::MapLine;
 use file_geojson::{file, kind};
-use libc::STDOUT_FILENO;
+
+const STDOUT_FILENO: i32 = 1;
+
 use quotient::Grid;
 use refusal::{Answer, Counted, Room, TOO_SHORT};
 

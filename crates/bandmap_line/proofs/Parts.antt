@@ -12,11 +12,11 @@ use mir.Facts.{to_z-of_z}
 use mir.Syntax.{w32}
 use borrow.Author.Tests.{lt-ltb, le-ltb, ltb-true}
 use Rattle.quotient.specs.declared.Grid.{Grid}
-use Rattle.bandsum_line.specs.Grammar.{Front, nothing, front, and_then, after, space, count_from}
+use Rattle.bandsum_line.specs.Grammar.{Front, nothing, front, and_then, after, count_from}
 use Rattle.bandsum_line.specs.WorkParts.{begins}
 use Rattle.bandsum_line.proofs.Front.{after-here, after-not}
 use Rattle.bandmap_line.specs.declared.MapLine.TheVariants.{Taken}
-use Rattle.bandmap_line.specs.Grammar.{minus, three_digits, degrees_from, below_zero, above_zero, latitude_from, spaced_from}
+use Rattle.bandmap_line.specs.Grammar.{three_digits, degrees_from, below_zero, above_zero, latitude_from, spaced_from}
 
 -- ---- degrees
 module _ (x : List ℕ) where

@@ -8,8 +8,7 @@ use lib.IntN.{ℤ}
 use lib.ListN.{length, get_or, drop}
 use borrow.Author.Tests.{le-leb, lt-leb}
 use Rattle.quotient.specs.declared.Grid.{Grid}
-use Rattle.bandsum_line.specs.Grammar.{Front, nothing, front, is_digit, grid_from, line_ends}
-use Rattle.bandmap_line.specs.declared.MapLine.{MapLine}
+use Rattle.bandsum_line.specs.Grammar.{nothing, front, is_digit, grid_from, line_ends}
 use Rattle.bandmap_line.specs.declared.MapLine.TheVariants.{Taken, Refused}
 use Rattle.bandmap_line.specs.Grammar.{spaced_from, with_north, with_south, with_grid, read_map}
 

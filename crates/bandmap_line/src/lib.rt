@@ -4,6 +4,8 @@
 // A latitude has an optional minus, at most three digits, no 0 before others, and is not -0. Each part of the line has a function that begins at a position and says what
 // it read and where it stopped, or that nothing of the kind stands there. Whatever the bytes are, `read` answers: with the grid and the latitudes, or with 1 where the
 // first digit is no grid's dimension, or with 17. Whether the latitudes fit is not asked here.
+#![tactic(auto)]
+
 ghost use Rattle.std.specs.Prelude.{◌≡◌, drop};
 ghost use Rattle.bandsum_line.specs.Grammar.{and_then};
 ghost use Rattle.bandsum_line.specs.WorkParts.{number_read_of};
@@ -14,14 +16,14 @@ use bandsum_line::{GridRead, Number};
 use quotient::Grid;
 
 // What `read` says: the grid with south and north, or the refusal with its number and place.
-#[derive(Drop)]
+#[derive(Clone, Copy)]
 pub enum MapLine {
     Taken(Grid, i32, i32),
     Refused(u32, u32),
 }
 
 // A latitude, and where it stopped.
-#[derive(Drop)]
+#[derive(Clone, Copy)]
 pub enum Latitude {
     Nothing,
     Upto(i32, usize),

@@ -1,4 +1,6 @@
 // One line in, six lines or the one line of a refusal out. The buffer holds the longest line and one byte more: what follows cannot change the answer, and is not read.
+#![tactic(auto)]
+
 const ENOUGH: usize = bandsum_line::LONGEST + 1;
 
 fn main() {

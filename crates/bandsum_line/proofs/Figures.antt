@@ -1,11 +1,10 @@
 -- Lines and what they say, computed from the grammar that the contracts cite. Assumes nothing.
 use mathlib.Core.Path.{◌≡◌, refl}
-use mathlib.Core.List.{List, [], ◌∷◌, map}
+use mathlib.Core.List.{[], ◌∷◌, map}
 use Prim.Native.Nat.{ℕ}
 use Rattle.quotient.specs.declared.Glue.{Glue}
 use Rattle.quotient.specs.declared.Glue.TheVariants.{Open, Periodic, Twisted}
 use Rattle.quotient.specs.declared.Axis.{Axis}
-use Rattle.bandsum_line.specs.declared.Line.{Line}
 use Rattle.bandsum_line.specs.declared.Line.TheVariants.{Taken, Refused}
 use Rattle.bandsum_line.specs.Grammar.{and_then, after, digits_from, count_from, set_from, glue_from, glued_from, axis_from, axis_at, grid_from, line_ends, ended, read_line, unit_sides}
 

@@ -1,26 +1,21 @@
 -- Each part of the line read at a position of the bytes: what its definition says where a byte stands there, and where none does. Assumes nothing.
-use mathlib.Core.Path.{◌≡◌, refl, sym, ap, subst, ◌∙◌}
-use mathlib.Core.Bool.{Bool, true, false, cond, ◌&&◌}
+use mathlib.Core.Path.{◌≡◌, refl, sym, ◌∙◌}
+use mathlib.Core.Bool.{true, false}
 use mathlib.Core.List.{List, [], ◌∷◌}
-use Prim.Native.Nat.{ℕ, zero, suc, ◌+◌, ◌-◌, ◌≤◌, ◌<◌, ◌^◌, ◌*◌}
+use Prim.Native.Nat.{ℕ, ◌+◌, ◌-◌, ◌≤◌, ◌<◌}
 use native.Mathlib.Numerals.{add-one}
 use native.Mathlib.Omega.{arith}
-use lib.ListN.{length, get_or, drop, length-drop, drop_of_length-le}
+use lib.ListN.{length, get_or, drop, drop_of_length-le}
 use lib.Seq.{drop-cons}
-use lib.Dec.{leb, ltb, eqb}
+use lib.Dec.{eqb}
 use native.Mathlib.Decide.{dec_lt}
 use mathlib.Core.Bool.{false≢true}
 use borrow.Author.Tests.{eq-eqb, ne_eqb, lt-ltb, le-ltb}
 use Rattle.quotient.specs.declared.Glue.{Glue}
 use Rattle.quotient.specs.declared.Glue.TheVariants.{Open, Periodic, Twisted}
 use Rattle.quotient.specs.declared.Axis.{Axis}
-use Rattle.quotient.specs.declared.Grid.{Grid}
-use Rattle.quotient.specs.Fold.{member}
 use Rattle.quotient.specs.Shape.{no_axis}
-use Rattle.refusal.specs.Table.{bad_dimension, unreadable}
-use Rattle.bandsum_line.specs.declared.Line.{Line}
-use Rattle.bandsum_line.specs.declared.Line.TheVariants.{Taken, Refused}
-use Rattle.bandsum_line.specs.Grammar.{Front, nothing, front, is_digit, is_axis_digit, and_then, after, digits_from, count_from, set_from, glue_from, glued_from, axis_from, axis_at, grid_from, line_ends, ended, read_line, unit_sides, space}
+use Rattle.bandsum_line.specs.Grammar.{Front, nothing, front, is_digit, and_then, after, digits_from, count_from, set_from, glue_from, glued_from, axis_from, axis_at, grid_from, line_ends, unit_sides}
 use Rattle.bandsum_line.specs.WorkParts.{begins}
 
 module _ (bs : List ℕ) (at : ℕ) where

@@ -1,15 +1,14 @@
 -- Digits one by one: the numbers and the sets that they say so far, and the line from its first digit on. Assumes nothing.
 use mathlib.Core.Path.{◌≡◌, refl, sym, ap, subst, ◌∙◌}
-use mathlib.Core.Bool.{Bool, true, false, cond, ◌&&◌, false≢true}
+use mathlib.Core.Bool.{Bool, true, false, ◌&&◌, false≢true}
 use mathlib.Core.List.{List, [], ◌∷◌}
 use Prim.Native.Nat.{ℕ, zero, suc, ◌+◌, ◌-◌, ◌≤◌, ◌<◌, ◌^◌, ◌*◌, ◌/◌, ◌%◌}
 use native.Mathlib.Omega.{arith}
 use lib.ListN.{length, get_or, drop}
-use lib.Dec.{leb, ltb, eqb}
+use lib.Dec.{leb}
 use borrow.Author.Tests.{leb-true, le-leb, lt-leb, eqb-false}
 use Rattle.quotient.specs.declared.Grid.{Grid}
 use Rattle.quotient.specs.Fold.{member}
-use Rattle.bandsum_line.specs.declared.Line.{Line}
 use Rattle.bandsum_line.specs.declared.Line.TheVariants.{Taken, Refused}
 use Rattle.bandsum_line.specs.Grammar.{Front, nothing, front, is_digit, is_axis_digit, digits_from, set_from, grid_from, line_ends, ended, read_line}
 use Rattle.bandsum_line.proofs.Front.{here, gone}

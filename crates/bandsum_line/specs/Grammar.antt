@@ -1,5 +1,5 @@
 -- The line that the program reads (document 01, "Figures to check by"), as a grammar over its bytes: each `..From` takes its part off the front. Assumes nothing.
-use Rattle.std.specs.Prelude.{ℕ, zero, suc, ◌+◌, ◌*◌, ◌-◌, ◌^◌, Bool, true, false, cond, ◌&&◌, List, [], ◌∷◌, leb, ltb, eqb, pos, Float}
+use Rattle.std.specs.Prelude.{ℕ, zero, suc, ◌+◌, ◌*◌, ◌-◌, ◌^◌, Bool, false, cond, ◌&&◌, List, [], ◌∷◌, leb, ltb, eqb, pos}
 use Rattle.std.specs.Float.{fin}
 use Rattle.grid_sides.specs.declared.Sides.{Sides}
 use Rattle.quotient.specs.declared.Glue.{Glue}

@@ -3,6 +3,8 @@
 //
 // Each part of the line has a function that begins at a position and says what it read and where it stopped, or that nothing of the kind stands there. Whatever the
 // bytes are, `read` answers: with the grid, or with 1 where the first digit is no grid's dimension, or with 17.
+#![tactic(auto)]
+
 ghost use Rattle.std.specs.Prelude.{◌≡◌, ℕ, ◌<◌, ◌^◌, drop};
 ghost use Rattle.bandsum_line.specs.Grammar.{is_digit, is_axis_digit, line_ends, digits_from, count_from, set_from, glue_from, glued_from, axis_from, axis_at, grid_from, read_line};
 ghost use Rattle.bandsum_line.specs.WorkParts.{begins, number_read_of, set_of, gluing_of, axis_read_of, grid_read_of};
@@ -11,42 +13,42 @@ use grid_sides::Sides;
 use quotient::{Axis, Glue, Grid};
 
 // What `read` says: the grid, or the refusal with its number and place.
-#[derive(Drop)]
+#[derive(Clone, Copy)]
 pub enum Line {
     Taken(Grid),
     Refused(u32, u32),
 }
 
 // A number, and where it stopped.
-#[derive(Drop)]
+#[derive(Clone, Copy)]
 pub enum Number {
     Nothing,
     Upto(u32, usize),
 }
 
 // A set of axes as a mask, and where it stopped.
-#[derive(Drop)]
+#[derive(Clone, Copy)]
 pub enum AxisSet {
     Nothing,
     Upto(u8, usize),
 }
 
 // How an axis is glued, and where that stopped.
-#[derive(Drop)]
+#[derive(Clone, Copy)]
 pub enum Gluing {
     Nothing,
     Upto(Glue, usize),
 }
 
 // An axis, and where it stopped.
-#[derive(Drop)]
+#[derive(Clone, Copy)]
 pub enum AxisRead {
     Nothing,
     Upto(Axis, usize),
 }
 
 // A grid, and where it stopped.
-#[derive(Drop)]
+#[derive(Clone, Copy)]
 pub enum GridRead {
     Nothing,
     Upto(Grid, usize),

@@ -1,8 +1,7 @@
 -- Document 01's six lines for `2 3 P 1 O`, and `refused 8`, computed from the definitions that the contracts cite. Assumes nothing.
 use mathlib.Core.Path.{◌≡◌, refl}
 use mathlib.Core.Bool.{true}
-use mathlib.Core.List.{List, [], ◌∷◌, ◌++◌}
-use Prim.Native.Nat.{ℕ}
+use mathlib.Core.List.{[], ◌∷◌, ◌++◌}
 use Rattle.text.specs.Decimal.{digits_down, decimal_down}
 use Rattle.bandsum_lines.specs.Lines.{cells_word, vertices_word, edges_word, border_word, sides_word, refused_word, ordered_line, lines_of, refused_line}
 

@@ -1,5 +1,7 @@
 // What the program `bandsum` prints: six lines on a grid, or the one line of a refusal.
 // The port added it, with the program.
+#![tactic(auto)]
+
 ghost use Rattle.std.specs.Prelude.{◌≡◌};
 ghost use Rattle.text.specs.Adds.{holding};
 ghost use Rattle.bandsum_lines.specs.Lines.{lines_of, refused_line};
@@ -8,7 +10,7 @@ use text::Text;
 
 // The six things that are told of a grid: how many cells, vertices and edges it has after gluing, how many facets lie in one cell, 2 where the gluing preserves
 // orientation and else 1, and whether an order was handed out.
-#[derive(Drop)]
+#[derive(Clone, Copy)]
 pub struct Summary {
     pub cells: u32,
     pub vertices: u32,

@@ -3,6 +3,8 @@
 //
 // A grid that is taken has at most 4,096 cells of four corners, so CORNERS numbers hold its words, its cells or its order. LISTED hold its edges (six a cell, two
 // numbers each) or its border (four facets a cell, three numbers each). With lists of these lengths no call meets 12.
+#![tactic(auto)]
+
 ghost use Rattle.std.specs.Prelude.{◌≡◌, length};
 ghost use Rattle.refusal.specs.declared.Answer.TheVariants.{Fine};
 ghost use Rattle.refusal.specs.Told.{count_of};
@@ -38,7 +40,7 @@ pub const EDGE_KEYS: usize = 2 * LISTED;
 pub const RECORD_KEYS: usize = 5 * CORNERS;
 
 // What is told of a grid, or the refusal with its number and place.
-#[derive(Drop)]
+#[derive(Clone, Copy)]
 pub enum Sum {
     Told(Summary),
     Refused(u32, u32),

@@ -1,7 +1,6 @@
 -- Document 01's figures for the check of a cell list, computed. Assumes nothing.
 use mathlib.Core.Path.{◌≡◌, refl}
-use mathlib.Core.List.{List, [], ◌∷◌}
-use Prim.Native.Nat.{ℕ}
+use mathlib.Core.List.{[], ◌∷◌}
 use Rattle.refusal.specs.declared.Answer.TheVariants.{Fine, Refused}
 use Rattle.lists.specs.Words.{among, has_repeat, largest_of, found_at, first_where}
 use Rattle.lists.specs.Rows.{cut}

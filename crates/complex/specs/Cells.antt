@@ -1,5 +1,5 @@
 -- Document 01: a cell is its word sorted; cells stand in colex order (compare last vertices, then the ones before) without duplicates. Assumes nothing.
-use Rattle.std.specs.Prelude.{Bool, true, false, List, [], ◌∷◌, ℕ, zero, suc, ◌+◌, ◌/◌, length, get_or, take, drop, ltb, eqb}
+use Rattle.std.specs.Prelude.{Bool, true, false, List, [], ◌∷◌, ℕ, zero, suc, ◌+◌, get_or, ltb, eqb}
 use Rattle.multiindex.specs.Sort.{sort_word}
 use Rattle.lists.specs.Rows.{rows}
 

@@ -1,5 +1,7 @@
 // The check of a cell list: a flat list of words of d+1 vertex numbers each.
 // Follows what `Simplex::new`, `Skeleton::new` and `Complex::from_cells` assert (crates/simplicial/src/topology/simplex.rs, skeleton.rs, complex.rs).
+#![tactic(auto)]
+
 ghost use Rattle.std.specs.Prelude.{◌≡◌, ℕ, ◌+◌, ◌*◌, ◌<◌, ◌≤◌, length, get_or, eqb};
 ghost use Rattle.refusal.specs.Limits.{most_dimension, most_vertices, many_corners};
 ghost use Rattle.lists.specs.Words.{among, has_repeat, largest_of, first_where, marked};

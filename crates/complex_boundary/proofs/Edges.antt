@@ -1,13 +1,13 @@
 -- The faces of dimension 1 are the edges. Assumes nothing.
 use mathlib.Core.List.{List, [], ◌∷◌, ◌++◌}
 use mathlib.Core.Path.{◌≡◌, refl, sym, ap, ◌∙◌, subst}
-use mathlib.Core.Logic.{◌⊎◌, inl, inr, ⊎_elim}
-use Prim.Native.Nat.{ℕ, zero, suc, ◌+◌, ◌<◌, ◌≤◌}
+use mathlib.Core.Logic.{◌⊎◌, inl, ⊎_elim}
+use Prim.Native.Nat.{ℕ, zero, suc, ◌+◌, ◌<◌}
 use native.Mathlib.Nat.{eq-or-lt_of_le}
 use native.Mathlib.Omega.{arith}
 use lib.ListN.{length, get_or}
-use Rattle.complex.specs.Skeleton.{in_colex, pairs_of, all_pairs, edges_of}
-use Rattle.complex_cells.proofs.Words.{Word, Each, In, each_of, each_in, in-at, at_in}
+use Rattle.complex.specs.Skeleton.{pairs_of, all_pairs, edges_of}
+use Rattle.complex_cells.proofs.Words.{Word, In, each_of, each_in, in-at, at_in}
 use Rattle.complex_edges.proofs.Members.{pair-in, in_pair}
 use Rattle.complex_edges.proofs.Members as edges
 use Rattle.complex_faces.specs.Faces.{each_then, places_of, sub_word, chosen, all_chosen, faces_of}

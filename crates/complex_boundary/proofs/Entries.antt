@@ -3,33 +3,32 @@ use mathlib.Core.Bool.{Bool, true, false}
 use mathlib.Core.List.{List, [], ◌∷◌, ◌++◌, map, map-append, append-nil, append_assoc}
 use mathlib.Core.Path.{◌≡◌, refl, sym, ap, ◌∙◌, subst}
 use Prim.Native.Nat.{ℕ, zero, suc, ◌+◌, ◌-◌, ◌*◌, ◌/◌, ◌%◌, ◌<◌, ◌≤◌}
-use native.Mathlib.Nat.{suc-mul, zero-mul, add-zero, mod-lt, div-lt_iff_lt-mul, div-add-mod'}
+use native.Mathlib.Nat.{suc-mul, zero-mul, add-zero, mod-lt, div-lt_iff_lt-mul}
 use native.Mathlib.Numerals.{add-one}
 use native.Mathlib.Omega.{arith}
-use lib.ListN.{length, get_or, take, drop, set, length-append, length-map}
+use lib.ListN.{length, get_or, drop, set, length-map}
 use lib.Seq.{drop-cons, set_at, append_snoc}
 use lib.IntN.{ℤ, pos, negsuc}
 use Rattle.refusal.specs.declared.Counted.{Counted}
 use Rattle.refusal.specs.declared.Counted.TheVariants.{Count, Refused}
 use Rattle.refusal.specs.Table.{crowded_facet, too_short}
-use Rattle.refusal.specs.Lent.{onto}
 use Rattle.lists.specs.Tables.{tab}
 use Rattle.lists.proofs.Tables.{length-tab, tab-ext, tab-more}
 use Rattle.lists.specs.Rows.{cut}
 use Rattle.lists.proofs.Rows.{cut-length, row_in, row-div, row-mod}
 use Rattle.multiindex.specs.Sign.{Sign, plus, minus, opposite, induced, sign_number}
 use Rattle.complex.specs.Cells.{cells_of}
-use Rattle.complex.specs.Facets.{facet_at, cell_at, Cells, slots}
+use Rattle.complex.specs.Facets.{facet_at}
 use Rattle.complex.specs.Skeleton.{facet_row_of, facets_of}
-use Rattle.complex_cells.proofs.Words.{Word, Each}
-use Rattle.skeleton.specs.Promise.{Ends, crowded, rest}
+use Rattle.complex_cells.proofs.Words.{Word}
+use Rattle.skeleton.specs.Promise.{crowded, rest}
 use Rattle.skeleton.specs.Work.{Sound}
 use Rattle.complex_faces.specs.Faces.{faces_of}
 use Rattle.complex_faces.specs.Entries.{Entry, number_of, entry_at, entries_at, entries_below, entries_of, signs_in, faces_in, cofaces_in}
 use Rattle.complex_faces.proofs.Laws.{facets-of-faces}
 use Rattle.complex_faces.proofs.Shape.{cells-each, faces-cells}
 use Rattle.complex_descent.specs.Down.{Classed}
-use Rattle.complex_boundary.specs.Promise.{Within, outside, inside, GivesEntries, signs_short, faces_short, cofaces_short, entries_listed}
+use Rattle.complex_boundary.specs.Promise.{outside, inside, GivesEntries, signs_short, faces_short, cofaces_short, entries_listed}
 use Rattle.complex_boundary.specs.Work.{Reached, EntryLists, EntriesHanded, EntriesWorked}
 
 -- ---- lists written from the front

@@ -1,12 +1,12 @@
 -- The room that is needed is enough for the faces of every dimension. Assumes nothing.
-use mathlib.Core.List.{List, [], ◌∷◌, ◌++◌}
-use mathlib.Core.Path.{◌≡◌, refl, sym, ap, ◌∙◌, subst}
+use mathlib.Core.List.{List, [], ◌∷◌}
+use mathlib.Core.Path.{◌≡◌, refl, sym, ap, ◌∙◌}
 use mathlib.Core.Logic.{⊎_elim}
-use Prim.Native.Nat.{ℕ, zero, suc, ◌+◌, ◌-◌, ◌*◌, ◌/◌, ◌<◌, ◌≤◌, max, suc-le-suc}
-use native.Mathlib.Nat.{eq-or-lt_of_le, mul_comm, mul_assoc, mul-le-mul_left, mul-le-mul_right, le_trans, div-le_self}
+use Prim.Native.Nat.{ℕ, zero, suc, ◌+◌, ◌-◌, ◌*◌, ◌/◌, ◌<◌, ◌≤◌, suc-le-suc}
+use native.Mathlib.Nat.{eq-or-lt_of_le, mul_comm, mul_assoc, mul-le-mul_right, le_trans, div-le_self}
 use native.Mathlib.Numerals.{add-one}
 use native.Mathlib.Omega.{arith}
-use lib.ListN.{length, get_or, length-append}
+use lib.ListN.{get_or}
 use mathlib.Core.Bool.{Bool, true, ◌&&◌}
 use lib.Dec.{eqb, leb}
 use borrow.Author.Tests.{eqb-true, leb-true}
@@ -15,7 +15,6 @@ use Rattle.refusal.specs.declared.Room.{Room}
 use Rattle.multiindex.proofs.Tables.{at-below, first_of, second-of}
 use Rattle.complex.specs.Room.{key_room}
 use Rattle.complex_faces.specs.Faces.{each_then, places_of}
-use Rattle.complex_descent.specs.Down.{per_cell}
 use Rattle.complex_boundary.specs.Need.{most_up_to, face_rows, face_keys, face_need}
 
 pub largest-above : (f : ℕ → ℕ) (n e : ℕ) → e ≤ n → f e ≤ most_up_to f n

@@ -1,38 +1,34 @@
 -- The steps of the calls: what each inner call asks follows from what the calls before it gave. Assumes nothing.
 use mathlib.Core.Bool.{Bool, true, false}
-use mathlib.Core.List.{List, [], ◌∷◌, ◌++◌}
+use mathlib.Core.List.{List, []}
 use mathlib.Core.Path.{◌≡◌, refl, sym, ap, ◌∙◌, subst}
-use Prim.Native.Nat.{ℕ, zero, suc, ◌+◌, ◌-◌, ◌*◌, ◌/◌, ◌<◌, ◌≤◌}
-use native.Mathlib.Nat.{mul_comm, mul_assoc, mul-le-mul_left, mul-le-mul_right, le_of_mul-le-mul_right, mul-suc}
+use Prim.Native.Nat.{ℕ, suc, ◌+◌, ◌-◌, ◌*◌, ◌/◌, ◌<◌, ◌≤◌}
+use native.Mathlib.Nat.{mul_comm, mul_assoc, mul-le-mul_left, mul-le-mul_right, le_of_mul-le-mul_right}
 use native.Mathlib.Numerals.{add-one}
 use native.Mathlib.Omega.{arith}
-use lib.ListN.{length, get_or, take, drop}
+use lib.ListN.{length, take}
 use Rattle.refusal.specs.declared.Counted.{Counted}
-use Rattle.refusal.specs.declared.Counted.TheVariants.{Count, Refused}
+use Rattle.refusal.specs.declared.Counted.TheVariants.{Refused}
 use Rattle.refusal.specs.Limits.{most_cells}
-use Rattle.refusal.specs.Table.{crowded_facet, too_short, bad_faces}
-use Rattle.refusal.specs.Lent.{onto, lengths, Roomy}
+use Rattle.refusal.specs.Table.{crowded_facet, bad_faces}
 use Rattle.lists.specs.Rows.{flat, cut, rows as rows_of_lem}
 use Rattle.lists.proofs.Flat.{flat-cut}
-use Rattle.lists.proofs.Rows.{cut-length}
-use Rattle.complex.specs.Check.{Passed}
-use Rattle.complex.specs.Cells.{in_order, cells_of}
-use Rattle.complex.specs.Facets.{Cells, slots}
+use Rattle.complex.specs.Cells.{cells_of}
+use Rattle.complex.specs.Facets.{Cells}
 use Rattle.complex.specs.Room.{key_room, need_of}
 use Rattle.complex_cells.specs.WorkMade.{Made}
 use Rattle.complex_cells.proofs.Words.{Word, Rising}
 use Rattle.complex_cells.proofs.Order.{Colex, order-rising}
 use Rattle.complex_cells.proofs.Making.{whole_words}
-use Rattle.complex_mates.specs.Table.{Meeting}
-use Rattle.skeleton.specs.Promise.{Gives, Ends, crowded, rest}
+use Rattle.skeleton.specs.Promise.{crowded, rest}
 use Rattle.skeleton.specs.Work.{Working, Sound, Handed}
 use Rattle.complex_faces.specs.Faces.{faces_of}
 use Rattle.complex_faces.proofs.Shape.{cells-each, faces-top}
 use Rattle.complex_descent.specs.Down.{per_cell, Wide, Descending}
 use Rattle.complex_descent.proofs.Steps.{meeting, narrow, fits, few, faces-many}
-use Rattle.complex_boundary.specs.Need.{most_up_to, face_rows, face_keys, face_need}
-use Rattle.complex_boundary.specs.Promise.{Within, outside, inside}
-use Rattle.complex_boundary.specs.Work.{Reaching, Reached, FacesWorked}
+use Rattle.complex_boundary.specs.Need.{face_rows, face_keys, face_need}
+use Rattle.complex_boundary.specs.Promise.{outside, inside}
+use Rattle.complex_boundary.specs.Work.{Reached, FacesWorked}
 use Rattle.complex_boundary.proofs.Room.{largest-above, most_rows, most_keys, rows-most, keys-most}
 
 -- ---- room

@@ -5,7 +5,7 @@ use Rattle.refusal.specs.declared.Counted.TheVariants.{Count, Refused}
 use Rattle.refusal.specs.Table.{too_short, bad_faces}
 use Rattle.refusal.specs.Lent.{onto}
 use Rattle.complex.specs.Cells.{cells_of}
-use Rattle.skeleton.specs.Promise.{Gives, Ends, Call}
+use Rattle.skeleton.specs.Promise.{Gives, Call}
 use Rattle.complex_faces.specs.Faces.{faces_of}
 use Rattle.complex_faces.specs.Entries.{Entry, entries_of, signs_in, faces_in, cofaces_in}
 use Rattle.complex_boundary.specs.Need.{face_need}

@@ -5,6 +5,8 @@
 //   rows     cells, mates                 faces of each dimension          faces, row numbers
 //   spare    first rows                   first rows                       first rows
 //   counts   buckets, classes             buckets, classes                 the facet of each row
+#![tactic(auto)]
+
 ghost use Rattle.std.specs.Prelude.{List, ◌++◌, ◌≡◌, ℕ, suc, ◌+◌, ◌-◌, ◌*◌, ◌/◌, ◌%◌, ◌<◌, ◌≤◌, length, get_or, drop, pos, negsuc};
 ghost use Rattle.refusal.specs.Limits.{most_dimension, many_corners};
 ghost use Rattle.lists.specs.Tables.{tab};

@@ -1,23 +1,23 @@
 -- The cells, from the words sorted, their rows sorted, and the distinct ones gathered. Assumes nothing.
-use mathlib.Core.Bool.{Bool, true, false}
-use mathlib.Core.List.{List, [], ◌∷◌, ◌++◌}
-use mathlib.Core.Path.{◌≡◌, refl, sym, ap, ◌∙◌, subst}
-use mathlib.Core.Logic.{◌⊎◌, inl, inr, ⊎_elim}
+use mathlib.Core.Bool.{false}
+use mathlib.Core.List.{List, [], ◌++◌}
+use mathlib.Core.Path.{◌≡◌, sym, ap, ◌∙◌, subst}
+use mathlib.Core.Logic.{inl, inr}
 use Prim.Native.Nat.{ℕ, zero, suc, ◌+◌, ◌-◌, ◌*◌, ◌/◌, ◌%◌, ◌<◌, ◌≤◌, ◌^◌}
-use native.Mathlib.Nat.{suc-mul, zero-mul, mul-le-mul_right, div-add-mod', mod-lt, div-lt_iff_lt-mul, le_refl, le_trans, lt_of_le_of_lt, add-zero}
+use native.Mathlib.Nat.{suc-mul, zero-mul, mul-le-mul_right, div-add-mod', mod-lt, div-lt_iff_lt-mul, le_refl, le_trans}
 use native.Mathlib.Numerals.{add-one}
 use native.Mathlib.Omega.{arith}
 use lib.ListN.{length, get_or, take, drop, length-append, length-drop}
-use lib.Seq.{ext_get_or, length-take-le, get_or-take, get_or-drop, take_at, drop_at, take-append-le, drop-append-le, drop-append-add, drop-drop}
+use lib.Seq.{ext_get_or, length-take-le, get_or-take, take_at, drop-append-add, drop-drop}
 use Rattle.lists.proofs.Laws.{front-part}
 use Rattle.sorting.specs.Bucket.{cell}
-use Rattle.lists.proofs.Members.{All, Pairs, All-of, All-at, Pairs-at}
-use Rattle.sorting.specs.Order.{ColexLt, SameRow, Table}
+use Rattle.lists.proofs.Members.{All, All-of, All-at, Pairs-at}
+use Rattle.sorting.specs.Order.{ColexLt, Table}
 use Rattle.sorting.proofs.Colex.{row-cell, row-length, same_row}
 use Rattle.sorting.specs.Distinct.{Distinct}
 use Rattle.sorting.specs.Gather.{rows_of}
-use Rattle.sorting.proofs.Rows.{RowIn, rows_of-cell, pos-room}
-use Rattle.lists.specs.Words.{has_repeat, largest_of}
+use Rattle.sorting.proofs.Rows.{RowIn, rows_of-cell}
+use Rattle.lists.specs.Words.{has_repeat}
 use Rattle.lists.proofs.Words.{below-largest}
 use Rattle.refusal.specs.Limits.{many_corners}
 use Rattle.complex.specs.Check.{Passed}
@@ -27,7 +27,7 @@ use Rattle.multiindex.proofs.WordsLaws.{words-length}
 use Rattle.lists.specs.Rows.{cut, row}
 use Rattle.complex.specs.Cells.{in_order, cells_of}
 use Rattle.lists.proofs.Rows.{cut-length, cut_at}
-use Rattle.complex.specs.Facets.{cell_at, Cells}
+use Rattle.complex.specs.Facets.{Cells}
 use Rattle.complex_cells.specs.WorkMade.{Made}
 use Rattle.complex_cells.proofs.Words.{Word, Each, Rising, In, each_of, in-at, at_in, rising-by, one_list}
 use Rattle.complex_cells.proofs.Order.{Colex, colex-irr, colex-trans, order-rising, order_from, order-has}

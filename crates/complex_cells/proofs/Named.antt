@@ -5,17 +5,16 @@ use mathlib.Core.Logic.{◌⊎◌, inl, inr, ⊎_elim}
 use Prim.Native.Nat.{ℕ, zero, suc, ◌+◌, ◌*◌, ◌<◌, ◌≤◌}
 use native.Mathlib.Nat.{suc-mul, mul-le-mul_right, le_refl}
 use native.Mathlib.Omega.{arith}
-use lib.ListN.{length, get_or, take, drop}
+use lib.ListN.{length, get_or, take}
 use lib.Seq.{length-take-le, get_or-take}
 use Rattle.lists.specs.Rows.{flat, row}
 use Rattle.sorting.specs.Bucket.{cell}
-use Rattle.sorting.specs.Order.{SameRow}
 use Rattle.sorting.specs.Gather.{rows_of}
 use Rattle.sorting.specs.Distinct.{Distinct}
 use Rattle.sorting.proofs.Colex.{row-length, same_row}
 use Rattle.complex.specs.Cells.{place}
 use Rattle.complex.specs.Skeleton.{in_colex}
-use Rattle.complex_cells.specs.WorkNamed.{row_list, Naming, Named}
+use Rattle.complex_cells.specs.WorkNamed.{row_list, Named}
 use Rattle.complex_cells.proofs.Words.{Word, Each, Rising, In, each_of, each_in, in-at, at_in, rising-by, one_list}
 use Rattle.complex_cells.proofs.Order.{Colex, colex-irr, colex-trans, place-from, place-old, place-new, place-rising}
 use Rattle.complex_cells.proofs.Making.{colex-row}

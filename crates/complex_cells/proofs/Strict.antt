@@ -1,16 +1,13 @@
 -- A word with no number twice, sorted, rises; its numbers are the word's. Assumes nothing.
 use mathlib.Core.Bool.{Bool, true, false}
-use mathlib.Core.List.{List, [], ◌∷◌, ◌++◌}
-use mathlib.Core.Path.{◌≡◌, refl, sym, ap, ◌∙◌, subst}
-use mathlib.Core.Logic.{◌⊎◌, inl, inr, ⊎_elim}
-use Prim.Native.Nat.{ℕ, zero, suc, ◌+◌, ◌*◌, ◌<◌, ◌≤◌, max}
-use native.Mathlib.Decide.{ℕ_discrete, dec_lt}
+use mathlib.Core.List.{List, [], ◌∷◌}
+use mathlib.Core.Path.{◌≡◌, refl}
+use Prim.Native.Nat.{ℕ, ◌<◌}
 use native.Mathlib.Omega.{arith}
 use lib.Dec.{ltb, eqb}
-use lib.ListN.{length, get_or, take, drop}
-use borrow.Author.Tests.{ltb-true, ltb-false, eqb-true, eqb-false, eq-eqb, ne_eqb}
-use Rattle.lists.proofs.Members.{All, Pairs, All-map, All-at, Pairs-at, All-of}
-use Rattle.lists.specs.Words.{among, has_repeat, largest_of}
+use borrow.Author.Tests.{ltb-true, ltb-false, eqb-false}
+use Rattle.lists.proofs.Members.{All, Pairs, All-map}
+use Rattle.lists.specs.Words.{among, has_repeat}
 use Rattle.lists.proofs.Words.{or-false}
 use Rattle.multiindex.specs.Sort.{insert_by, insert, sort_word}
 

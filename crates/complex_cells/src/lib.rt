@@ -1,5 +1,7 @@
 // The cells of a checked word list.
 // Follows `Skeleton::new` (crates/simplicial/src/topology/skeleton.rs): sorted, without repeats.
+#![tactic(auto)]
+
 ghost use Rattle.complex_cells.specs.WorkMade.{Making, Made};
 
 // Writes the cells, one after the other, to `rows`, and says how many there are.

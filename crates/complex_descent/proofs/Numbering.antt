@@ -1,17 +1,16 @@
 -- The classes of equal facet rows are the facets, and a row's class is the number of its facet. Assumes nothing.
-use mathlib.Core.Bool.{Bool, true, false}
-use mathlib.Core.List.{List, [], ◌∷◌, ◌++◌}
-use mathlib.Core.Path.{◌≡◌, refl, sym, ap, ◌∙◌, subst}
-use Prim.Native.Nat.{ℕ, zero, suc, ◌+◌, ◌-◌, ◌*◌, ◌/◌, ◌%◌, ◌<◌, ◌≤◌}
+use mathlib.Core.List.{List, []}
+use mathlib.Core.Path.{◌≡◌, sym, ap, ◌∙◌, subst}
+use Prim.Native.Nat.{ℕ, suc, ◌-◌, ◌*◌, ◌/◌, ◌%◌, ◌<◌, ◌≤◌}
 use native.Mathlib.Nat.{mul-le-mul_left}
 use native.Mathlib.Omega.{arith}
 use lib.ListN.{length, get_or, take}
 use lib.Seq.{length-take-le, get_or-take}
 use Rattle.lists.specs.Tables.{tab}
-use Rattle.lists.specs.Words.{first_where, same_word, none}
+use Rattle.lists.specs.Words.{same_word, none}
 use Rattle.lists.specs.Rows.{cut, row}
 use Rattle.lists.proofs.Rows.{cut-length, cut_at, row_fits, row-cell-below}
-use Rattle.lists.proofs.Words.{first-at, same_word_lem, word-true, word-false}
+use Rattle.lists.proofs.Words.{first-at, word-true, word-false}
 use Rattle.sorting.specs.Bucket.{cell}
 use Rattle.sorting.specs.Distinct.{Distinct}
 use Rattle.sorting.proofs.Colex.{row_same, same_row}

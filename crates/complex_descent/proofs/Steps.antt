@@ -1,12 +1,11 @@
 -- The steps down. Assumes nothing.
-use mathlib.Core.List.{List, [], ◌∷◌, ◌++◌}
-use mathlib.Core.Path.{◌≡◌, refl, sym, ap, ◌∙◌, subst}
+use mathlib.Core.List.{List, [], ◌++◌}
+use mathlib.Core.Path.{◌≡◌, sym, ap, ◌∙◌, subst}
 use Prim.Native.Nat.{ℕ, zero, suc, ◌+◌, ◌-◌, ◌*◌, ◌/◌, ◌%◌, ◌<◌, ◌≤◌}
 use native.Mathlib.Nat.{mul-le-mul_left, mul-le-mul_right, mod-lt, div-lt_iff_lt-mul, div-add-mod'}
 use native.Mathlib.Omega.{arith}
 use lib.ListN.{length, get_or, take, drop}
 use lib.Seq.{length-take-le, get_or-take}
-use Rattle.lists.specs.Words.{none}
 use Rattle.lists.specs.Rows.{flat, cut, row}
 use Rattle.lists.proofs.Rows.{cut-length, cut_at}
 use Rattle.lists.proofs.Flat.{each_long, cut-before}
@@ -19,10 +18,10 @@ use Rattle.complex_cells.proofs.Words.{Word, in-at}
 use Rattle.complex_cells.proofs.Named.{named_flat, named-many, row_list-at}
 use Rattle.complex_mates.specs.Table.{Meeting}
 use Rattle.complex_mates.proofs.Meeting.{slots-most}
-use Rattle.complex_faces.specs.Faces.{places_of, faces_of}
+use Rattle.complex_faces.specs.Faces.{faces_of}
 use Rattle.complex_faces.proofs.Laws.{facets-of-faces}
 use Rattle.complex_faces.proofs.Shape.{cells-each, face-low, faces-cells, faces-most}
-use Rattle.complex_descent.specs.Down.{Classed, per_cell, Wide, Descending}
+use Rattle.complex_descent.specs.Down.{per_cell, Descending}
 
 -- a place of a flat list of faces, by face and position
 flat-at : (n m : ℕ) (rows : List ℕ) (i : ℕ) → 0 < n → i < m * n → (get_or rows i 0 ≡ get_or (get_or (cut n m rows) (i / n) []) (i % n) 0) × (i / n < m) × (i % n < n)

@@ -1,5 +1,5 @@
 -- What going down from the cells to their faces asks and gives. Assumes nothing.
-use Rattle.std.specs.Prelude.{List, [], ◌≡◌, ℕ, suc, ◌*◌, ◌<◌, ◌≤◌, length, get_or}
+use Rattle.std.specs.Prelude.{List, ◌≡◌, ℕ, suc, ◌*◌, ◌<◌, ◌≤◌, length, get_or}
 use Rattle.lists.specs.Rows.{cut}
 use Rattle.complex.specs.Facets.{Cells, slots}
 use Rattle.complex.specs.Skeleton.{facet_row_of, facets_of}

@@ -5,6 +5,8 @@
 //   rows     faces of dimension e, then row numbers, then faces of dimension e - 1
 //   spare    the lowest row of each facet
 //   counts   buckets, then the facet of each row
+#![tactic(auto)]
+
 ghost use Rattle.std.specs.Prelude.{◌≡◌, ℕ, suc, ◌*◌, ◌<◌, ◌≤◌, length};
 ghost use Rattle.lists.specs.Rows.{cut};
 ghost use Rattle.complex.specs.Facets.{slots};

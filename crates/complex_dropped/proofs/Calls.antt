@@ -7,7 +7,6 @@ use native.Mathlib.Omega.{arith}
 use lib.ListN.{length, take}
 use lib.Seq.{take_at}
 use Rattle.sorting.proofs.Sorts.{length-upto}
-use Rattle.lists.specs.Tables.{upto}
 use Rattle.refusal.specs.declared.Answer.TheVariants as Answer
 use Rattle.refusal.specs.declared.Room.{Room}
 use Rattle.refusal.specs.Lent.{lengths, onto, Roomy}

@@ -1,5 +1,5 @@
 -- Cells dropped from three triangles in a row, from words given twice, and from a single triangle. Assumes nothing.
-use mathlib.Core.Bool.{true, ◌||◌}
+use mathlib.Core.Bool.{true}
 use mathlib.Core.List.{List, [], ◌∷◌}
 use mathlib.Core.Path.{◌≡◌, refl}
 use Prim.Native.Nat.{ℕ}

@@ -1,5 +1,5 @@
 -- What the inner functions of `drop_cells` ask and give, in lists of just the lengths that are needed. Assumes nothing.
-use Rattle.std.specs.Prelude.{true, false, not, List, ◌++◌, map, ◌≡◌, ℕ, ◌+◌, ◌*◌, ◌/◌, ◌<◌, ◌≤◌, ◌^◌, eqb, length, get_or, take, drop}
+use Rattle.std.specs.Prelude.{true, not, List, ◌++◌, map, ◌≡◌, ℕ, ◌+◌, ◌*◌, ◌/◌, ◌<◌, ◌≤◌, ◌^◌, eqb, length, get_or, take, drop}
 use Rattle.lists.specs.Rows.{row}
 use Rattle.complex_dropped.specs.declared.Dropped.{Dropped}
 use Rattle.complex_dropped.specs.declared.Dropped.TheVariants.{Kept, Refused}

@@ -6,6 +6,8 @@
 //   rows     cells            mates          cells that go      old numbers
 //   spare    first rows       first rows     words that stay    new numbers
 //   counts   buckets          classes        the cell of each word
+#![tactic(auto)]
+
 ghost use Rattle.std.specs.Prelude.{◌++◌, map, ◌≡◌, ◌+◌, ◌<◌, ◌≤◌, ◌^◌, eqb, length, get_or, drop};
 ghost use Rattle.lists.specs.Words.{marked};
 ghost use Rattle.lists.specs.Zero.{AllZero};
@@ -19,7 +21,7 @@ use lists::wide;
 use refusal::{Answer, CROWDED_FACET, NO_SUCH_CELL, RAGGED_WORDS, Room, TOO_SHORT};
 
 // What the call says: how many words stay, a word given twice counted twice, and how many vertices they have.
-#[derive(Drop)]
+#[derive(Clone, Copy)]
 pub enum Dropped {
     Kept(u32, u32),
     Refused(u32, u32),

@@ -2,20 +2,18 @@
 use mathlib.Core.List.{List, [], ◌∷◌, ◌++◌}
 use mathlib.Core.Path.{◌≡◌, refl, sym, ap, ◌∙◌, subst}
 use mathlib.Core.Logic.{◌⊎◌, inl, inr, ⊎_elim}
-use Prim.Native.Nat.{ℕ, zero, suc, ◌+◌, ◌-◌, ◌*◌, ◌/◌, ◌%◌, ◌<◌, ◌≤◌, ◌^◌, min}
-use native.Mathlib.Nat.{mod-lt, div-add-mod', add-zero, mul-suc}
+use Prim.Native.Nat.{ℕ, zero, suc, ◌+◌, ◌-◌, ◌*◌, ◌/◌, ◌%◌, ◌<◌, ◌≤◌, min}
+use native.Mathlib.Nat.{mod-lt, div-add-mod', add-zero}
 use native.Mathlib.Numerals.{add-one}
 use native.Mathlib.Decide.{dec_lt}
 use native.Mathlib.Omega.{arith}
-use lib.ListN.{length, get_or, take, drop}
-use lib.Seq.{length-take-le}
+use lib.ListN.{length, get_or}
 use Rattle.sorting.specs.Bucket.{cell}
 use Rattle.sorting.specs.Order.{Table}
 use Rattle.sorting.specs.Distinct.{Distinct}
 use Rattle.sorting.proofs.Colex.{row-length, row-cell}
 use Rattle.lists.specs.Rows.{cut, row}
 use Rattle.lists.proofs.Rows.{cut-length, cut_at, row_in, row-div, row-mod, row_fits, row-cell-below, row-slot-below}
-use Rattle.complex.specs.Facets.{cell_at, Cells}
 use Rattle.complex.specs.Skeleton.{pairs_with, pairs_of, all_pairs, edges_of}
 use Rattle.complex_cells.specs.WorkNamed.{Named}
 use Rattle.complex_cells.proofs.Words.{Word, In}

@@ -1,5 +1,7 @@
 // The edges of cells: each pair of vertices of a cell is a row, and the distinct rows in colex order are the edges.
 // Follows the 1-skeleton of `Complex::from_cells` and `Complex::edges` (crates/simplicial/src/topology/complex.rs).
+#![tactic(auto)]
+
 ghost use Rattle.std.specs.Prelude.{◌≡◌, ℕ, suc, ◌*◌, ◌<◌, min};
 ghost use Rattle.lists.specs.Rows.{cut};
 ghost use Rattle.complex.specs.Skeleton.{edges_of};

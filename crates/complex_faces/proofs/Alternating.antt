@@ -1,15 +1,14 @@
 -- The alternating sum of a function over a word's facets, taken twice, is zero: in each pair of dropped positions the one or the other goes first, with opposite signs.
 -- Assumes nothing.
-use mathlib.Core.List.{List, [], ◌∷◌, ◌++◌}
+use mathlib.Core.List.{List, [], ◌∷◌}
 use mathlib.Core.Path.{◌≡◌, refl, sym, ap, ◌∙◌}
-use mathlib.Core.Bool.{Bool, true, false}
-use Prim.Native.Nat.{ℕ, zero, suc, ◌<◌, ◌≤◌}
+use Prim.Native.Nat.{ℕ, zero, suc, ◌<◌}
 use native.Mathlib.Omega.{arith}
-use lib.ListN.{length, get_or, take, drop}
-use lib.IntN.{ℤ, pos, neg_ℤ, ◌+ℤ◌, ◌*ℤ◌, neg_ℤ-+ℤ, neg_ℤ-neg_ℤ, +ℤ_idr, +ℤ_idl, +ℤ_invr, *ℤ-zero}
+use lib.ListN.{length}
+use lib.IntN.{ℤ, pos, neg_ℤ, ◌+ℤ◌, ◌*ℤ◌, neg_ℤ-+ℤ, +ℤ_idr, +ℤ_invr, *ℤ-zero}
 use Rattle.complex.specs.Facets.{facet_at}
 use Rattle.complex_faces.specs.Entries.{sum_of}
-use Rattle.complex_faces.proofs.Whole.{four, sum-times, times-neg, sum-ext, sum-neg, sum-front}
+use Rattle.complex_faces.proofs.Whole.{four, sum-times, times-neg, sum-neg, sum-front}
 
 -- g of the word without position 0, minus g of it without position 1, and so on
 abbrev pub alternating : (List ℕ → ℤ) → List ℕ → ℤ

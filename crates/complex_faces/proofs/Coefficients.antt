@@ -9,13 +9,12 @@ use native.Mathlib.Decide.{dec_lt}
 use native.Mathlib.Omega.{arith}
 use lib.Dec.{eqb}
 use borrow.Author.Tests.{eq-eqb, ne_eqb}
-use lib.ListN.{length, get_or, take, drop, get_or-eq_default}
-use lib.IntN.{ℤ, pos, negsuc, neg_ℤ, ◌+ℤ◌, ◌*ℤ◌, +ℤ_idr, +ℤ_idl, +ℤ_assoc}
+use lib.ListN.{length, get_or, get_or-eq_default}
+use lib.IntN.{ℤ, pos, neg_ℤ, ◌+ℤ◌, +ℤ_idr, +ℤ_idl, +ℤ_assoc}
 use Rattle.multiindex.specs.Sign.{Sign, plus, minus, opposite, induced, sign_number}
 use Rattle.complex.specs.Facets.{facet_at}
-use Rattle.complex_faces.specs.Entries.{Entry, number_of, entry_at, entries_at, entries_below, entries_of, or_zero, coef, sum_of}
+use Rattle.complex_faces.specs.Entries.{Entry, number_of, entry_at, entries_at, entries_below, or_zero, coef, sum_of}
 use Rattle.complex_faces.proofs.Alternating.{alternating, turned, by-places}
-use Rattle.complex_faces.proofs.Whole.{sum-ext, sum-zero}
 
 coef-append : (xs ys : List Entry) (f c : ℕ) → coef (xs ++ ys) f c ≡ coef xs f c +ℤ coef ys f c
 unfolding coef

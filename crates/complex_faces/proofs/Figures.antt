@@ -1,17 +1,14 @@
 -- The definitions on figures. Assumes nothing.
-use mathlib.Core.List.{List, [], ◌∷◌, ◌++◌}
+use mathlib.Core.List.{List, [], ◌∷◌}
 use mathlib.Core.Path.{◌≡◌, refl}
 use Prim.Native.Nat.{ℕ}
-use lib.IntN.{ℤ, pos, negsuc}
-use mathlib.Core.Bool.{◌||◌}
-use Rattle.lists.specs.Tables.{tab}
-use Rattle.lists.specs.Words.{among, largest_of, first_where, found_at}
-use Rattle.lists.specs.Rows.{cut}
-use Rattle.complex.specs.Cells.{decides, comes_before, placed, place, cells_of, in_order}
+use lib.IntN.{pos, negsuc}
+use Rattle.lists.specs.Words.{among, first_where, found_at}
+use Rattle.complex.specs.Cells.{decides, comes_before, placed, place}
 use Rattle.complex.specs.Skeleton.{in_colex, numbers}
 use Rattle.complex_faces.specs.Faces.{each_then, places_of, sub_word, sub_words, all_chosen, faces_of}
 use Rattle.complex_faces.specs.Index.{index_of, starts_from, starts_of}
-use Rattle.complex_faces.specs.Entries.{entries_at, entries_below, entries_of, coef, signs_in, faces_in, cofaces_in}
+use Rattle.complex_faces.specs.Entries.{entries_at, entries_below, entries_of, signs_in, faces_in, cofaces_in}
 
 -- triangles 012 and 123
 abbrev two : List (List ℕ)

@@ -1,23 +1,20 @@
 -- What faces are: in dimension d the cells; one dimension down, the facets of the faces. Assumes nothing.
 use mathlib.Core.List.{List, [], ◌∷◌, ◌++◌}
 use mathlib.Core.Path.{◌≡◌, refl, sym, ap, ◌∙◌, subst}
-use mathlib.Core.Logic.{◌⊎◌, inl, inr, ⊎_elim}
+use mathlib.Core.Logic.{◌⊎◌, inl, ⊎_elim}
 use Prim.Native.Nat.{ℕ, zero, suc, ◌+◌, ◌-◌, ◌*◌, ◌/◌, ◌%◌, ◌<◌, ◌≤◌}
-use native.Mathlib.Nat.{eq-or-lt_of_le}
 use native.Mathlib.Omega.{arith}
-use lib.ListN.{length, get_or, length-append}
-use lib.Seq.{ext_get_or}
-use Rattle.lists.proofs.Rows.{row-cell-below, row-slot-below, row_in, row-div, row-mod}
+use lib.ListN.{length, get_or}
+use Rattle.lists.proofs.Rows.{row-cell-below, row_in, row-div, row-mod}
 use Rattle.lists.specs.Tables.{tab}
 use Rattle.complex.specs.Facets.{facet_at, cell_at, slots}
 use Rattle.complex.specs.Skeleton.{in_colex, facet_row_of, facets_of}
-use Rattle.complex_cells.proofs.Words.{Word, Each, Rising, In, each_of, each_in, in-at, at_in, one_list}
+use Rattle.complex_cells.proofs.Words.{Word, Each, In, each_of, each_in, in-at, at_in, one_list}
 use Rattle.complex_cells.proofs.Order.{Colex, colex-irr, colex-trans}
 use Rattle.complex_cells.proofs.Named.{in_colex-from, in_colex-has, in_colex-rising}
-use Rattle.complex_mates.proofs.Laws.{facet-length}
 use Rattle.complex_facets.proofs.Numbers.{tab-in, in-tab}
-use Rattle.complex_faces.specs.Faces.{each_then, places_of, sub_word, sub_words, chosen, all_chosen, faces_of}
-use Rattle.complex_faces.proofs.Members.{in_left, in_right, in_either, then-in, in_then, places-long, facet-last, facet-then, subs-in, in-subs, sub-facet, chosen-long, all_in, in_all, all-long, face-long, face-facet}
+use Rattle.complex_faces.specs.Faces.{each_then, places_of, sub_word, chosen, all_chosen, faces_of}
+use Rattle.complex_faces.proofs.Members.{in_right, in_either, then-in, in_then, places-long, facet-last, facet-then, subs-in, in-subs, sub-facet, all_in, in_all, all-long, face-long, face-facet}
 
 -- ---- words of one length with the same members are one list in colex order
 pub colex-one : (n : ℕ) (vs ws : List Word) → Each (λ v. length v ≡ n) vs → Each (λ v. length v ≡ n) ws → ((r : Word) → In r vs → In r ws) → ((r : Word) → In r ws → In r vs) → in_colex n vs ≡ in_colex n ws

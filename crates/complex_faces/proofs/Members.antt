@@ -3,15 +3,14 @@ use mathlib.Core.List.{List, [], ◌∷◌, ◌++◌}
 use mathlib.Core.Path.{◌≡◌, refl, sym, ap, ◌∙◌, subst}
 use mathlib.Core.Logic.{◌⊎◌, inl, inr, ⊎_elim}
 use mathlib.Core.Bool.{Bool, true, false}
-use Prim.Native.Nat.{ℕ, zero, suc, ◌+◌, ◌<◌, ◌≤◌}
+use Prim.Native.Nat.{ℕ, zero, suc, ◌+◌, ◌<◌}
 use native.Mathlib.Nat.{eq-or-lt_of_le}
 use native.Mathlib.Omega.{arith}
-use lib.ListN.{length, get_or, take, drop, length-append}
+use lib.ListN.{length, get_or, length-append}
 use Rattle.lists.proofs.Words.{same_word_lem, word-true}
 use Rattle.lists.specs.Words.{found_at, first_where, same_word}
 use Rattle.complex.specs.Facets.{facet_at}
-use Rattle.complex.specs.Skeleton.{in_colex}
-use Rattle.complex_cells.proofs.Words.{Word, Each, In, each_of, each_in, in-at, at_in}
+use Rattle.complex_cells.proofs.Words.{Word, Each, In, each_of, each_in, at_in}
 use Rattle.complex_cells.proofs.Named.{in_colex-from, in_colex-has}
 use Rattle.complex_faces.specs.Faces.{each_then, places_of, sub_word, sub_words, chosen, all_chosen, faces_of}
 use Rattle.complex_faces.specs.Entries.{number_of}

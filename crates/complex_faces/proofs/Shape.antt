@@ -1,11 +1,10 @@
 -- Faces rise as the cells do, have the cells' numbers, and are not too many; in dimension d they are the cells. Assumes nothing.
 use mathlib.Core.List.{List, [], ◌∷◌, ◌++◌}
 use mathlib.Core.Path.{◌≡◌, refl, sym, ap, ◌∙◌, subst}
-use mathlib.Core.Logic.{◌⊎◌, inl, inr, ⊎_elim}
+use mathlib.Core.Logic.{◌⊎◌, inl, ⊎_elim}
 use mathlib.Core.Bool.{Bool, true, false}
 use Prim.Native.Nat.{ℕ, zero, suc, ◌+◌, ◌*◌, ◌<◌, ◌≤◌}
 use native.Mathlib.Nat.{eq-or-lt_of_le, suc-mul, zero-mul}
-use native.Mathlib.Decide.{dec_lt}
 use native.Mathlib.Omega.{arith}
 use lib.ListN.{length, get_or, length-append, get_or-append}
 use lib.Seq.{ext_get_or, get_or_at}
@@ -16,7 +15,7 @@ use Rattle.complex_cells.proofs.Words.{Word, Each, Rising, In, each_of, each_in,
 use Rattle.complex_cells.proofs.Order.{Colex, colex-irr, colex-trans}
 use Rattle.complex_cells.proofs.Named.{in_colex-from, in_colex-has, in_colex-rising}
 use Rattle.complex_faces.specs.Faces.{each_then, places_of, sub_word, sub_words, chosen, all_chosen, faces_of}
-use Rattle.complex_faces.proofs.Members.{in_right, in_either, then-in, in_then, places-long, sub-length, in-subs, subs-in, chosen-long, all_in, in_all, all-long, face-long}
+use Rattle.complex_faces.proofs.Members.{in_right, in_either, then-in, in_then, places-long, sub-length, in-subs, subs-in, all_in, in_all, all-long, face-long}
 use Rattle.complex_faces.proofs.Laws.{facets-of-faces}
 
 -- ---- places rise, and are below n

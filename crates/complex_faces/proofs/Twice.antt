@@ -1,16 +1,15 @@
 -- The boundary of a boundary is zero. Assumes nothing.
-use mathlib.Core.List.{List, [], ◌∷◌, ◌++◌}
+use mathlib.Core.List.{List, [], ◌∷◌}
 use mathlib.Core.Path.{◌≡◌, refl, sym, ap, ◌∙◌, subst}
-use Prim.Native.Nat.{ℕ, zero, suc, ◌<◌, ◌≤◌}
+use Prim.Native.Nat.{ℕ, suc, ◌<◌}
 use native.Mathlib.Decide.{dec_lt}
 use native.Mathlib.Omega.{arith}
-use lib.Dec.{eqb}
 use lib.ListN.{length, get_or, get_or-eq_default}
-use lib.IntN.{ℤ, pos, ◌+ℤ◌, ◌*ℤ◌}
+use lib.IntN.{ℤ, pos, ◌*ℤ◌}
 use Rattle.complex.specs.Facets.{facet_at}
 use Rattle.complex_cells.proofs.Words.{In, in-at}
 use Rattle.complex_faces.specs.Faces.{faces_of}
-use Rattle.complex_faces.specs.Entries.{Entry, number_of, entries_of, or_zero, coef, sum_of, product_at, BoundaryTwice, signs_in, faces_in, cofaces_in, entries_from}
+use Rattle.complex_faces.specs.Entries.{Entry, number_of, entries_of, coef, sum_of, product_at, BoundaryTwice, signs_in, faces_in, cofaces_in, entries_from}
 use Rattle.complex_faces.proofs.Whole.{sum-ext, sum_one}
 use Rattle.complex_faces.proofs.Alternating.{alternating, alt-ext, alt-times, alt-sum, alt-twice}
 use Rattle.complex_faces.proofs.Coefficients.{is_face, coefficient}

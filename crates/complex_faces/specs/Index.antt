@@ -1,5 +1,5 @@
 -- Document 02, K13: the cells at each vertex. Assumes nothing.
-use Rattle.std.specs.Prelude.{List, [], ◌∷◌, ℕ, zero, suc, ◌+◌, length}
+use Rattle.std.specs.Prelude.{List, [], ◌∷◌, ℕ, ◌+◌, length}
 use Rattle.lists.specs.Tables.{tab}
 use Rattle.lists.specs.Words.{among, largest_of}
 use Rattle.complex.specs.Cells.{cells_of}

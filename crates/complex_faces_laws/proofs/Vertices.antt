@@ -9,19 +9,18 @@ use native.Mathlib.Decide.{dec_lt}
 use native.Mathlib.Omega.{arith}
 use lib.Dec.{eqb, ltb}
 use borrow.Author.Tests.{eqb-true}
-use lib.ListN.{length, get_or, take, drop, length-append, length-take, get_or-append}
-use lib.Seq.{get_or-take, get_or-drop, get_or_at}
+use lib.ListN.{length, get_or, take, drop, length-take}
+use lib.Seq.{get_or-take, get_or-drop}
 use Rattle.lists.specs.Tables.{tab}
 use Rattle.lists.specs.Words.{among, largest_of}
-use Rattle.lists.specs.Rows.{cut, rows}
+use Rattle.lists.specs.Rows.{rows}
 use Rattle.lists.proofs.Words.{below-largest}
 use Rattle.lists.proofs.Tables.{length-tab, get_or-tab}
 use Rattle.lists.proofs.Rows.{cut-length, cut_at, row_fits}
 use Rattle.lists.proofs.Members.{All, Mem, All-of, All-at, Mem-of, Mem-at}
 use Rattle.multiindex.specs.Sort.{insert, insert_by, sort_word}
 use Rattle.complex.specs.Check.{Passed}
-use Rattle.complex.specs.Cells.{in_order, cells_of}
-use Rattle.complex.specs.Skeleton.{in_colex}
+use Rattle.complex.specs.Cells.{cells_of}
 use Rattle.complex_cells.proofs.Words.{Word, Each, Rising, In, each_of, each_in, in-at, at_in, rising-by, one_list}
 use Rattle.complex_cells.proofs.Order.{Colex, colex-irr, colex-trans, order_from, order-has}
 use Rattle.complex_cells.proofs.Named.{in_colex-from, in_colex-has, in_colex-rising}

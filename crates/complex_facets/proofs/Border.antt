@@ -1,7 +1,7 @@
 -- The facets in one cell, one class at a time. Assumes nothing.
 use mathlib.Core.Bool.{Bool, true, false}
 use mathlib.Core.List.{List, [], ◌∷◌, ◌++◌, append-nil}
-use mathlib.Core.Path.{◌≡◌, refl, sym, ap, ◌∙◌, subst}
+use mathlib.Core.Path.{◌≡◌, refl, sym, ap, ◌∙◌}
 use Prim.Native.Nat.{ℕ, zero, suc, ◌+◌, ◌*◌, ◌<◌, ◌≤◌}
 use native.Mathlib.Nat.{mul-le-mul_right}
 use native.Mathlib.Numerals.{add-one}
@@ -15,7 +15,7 @@ use Rattle.lists.proofs.Front.{put}
 use Rattle.lists.specs.Rows.{row}
 use Rattle.complex.specs.Facets.{Crowded}
 use Rattle.complex.specs.Skeleton.{facets_of, rows_with, only_if, keep_if, keep, border_of}
-use Rattle.complex_cells.specs.WorkNamed.{row_list, Naming, Named}
+use Rattle.complex_cells.specs.WorkNamed.{row_list, Named}
 use Rattle.complex_cells.proofs.Words.{Word}
 use Rattle.complex_cells.proofs.Named.{row_list-append, row_list-at}
 use Rattle.lists.specs.Words.{none}

@@ -1,11 +1,11 @@
 -- The records tell the mates of the rows: a row is the lower or the upper row of its facet, so that its record has the cell across, and the two signs are equal exactly where the
 -- positions dropped are both even or both odd. Assumes nothing.
-use mathlib.Core.Bool.{Bool, true, false}
-use mathlib.Core.List.{List, [], ◌∷◌, ◌++◌}
+use mathlib.Core.Bool.{Bool, true}
+use mathlib.Core.List.{List, ◌++◌}
 use mathlib.Core.Logic.{◌⊎◌, inl, inr, ⊎_elim}
-use mathlib.Core.Path.{◌≡◌, refl, sym, ap, ◌∙◌, subst}
+use mathlib.Core.Path.{◌≡◌, sym, ap, ◌∙◌, subst}
 use Prim.Native.Nat.{ℕ, zero, suc, ◌+◌, ◌-◌, ◌*◌, ◌/◌, ◌%◌, ◌<◌, ◌≤◌}
-use native.Mathlib.Nat.{add_comm, add-zero, div-le_self, mul-le-mul_left}
+use native.Mathlib.Nat.{add_comm, div-le_self, mul-le-mul_left}
 use native.Mathlib.Decide.{ℕ_discrete, dec_lt}
 use native.Mathlib.Omega.{arith}
 use lib.Dec.{eqb}
@@ -18,7 +18,7 @@ use Rattle.lists.specs.Rows.{cut}
 use Rattle.lists.specs.Words.{none}
 use Rattle.lists.proofs.Rows.{cut-length, row-slot-below, slots-some}
 use Rattle.complex.specs.Facets.{Crowded, slots}
-use Rattle.complex_mates.specs.Table.{MateTable, Across}
+use Rattle.complex_mates.specs.Table.{Across}
 use Rattle.complex_mates.proofs.Meeting.{slots-most}
 use Rattle.complex_mates.proofs.Mated.{not-crowded}
 use Rattle.complex_facets.specs.WorkClasses.{Turning, Classed, Pass}

@@ -1,12 +1,12 @@
 -- From classes of facet rows to the facets with their cells. Assumes nothing.
 use mathlib.Core.Bool.{Bool, true, false}
-use mathlib.Core.List.{List, [], ◌∷◌, ◌++◌}
+use mathlib.Core.List.{List, [], ◌∷◌}
 use mathlib.Core.Path.{◌≡◌, refl, sym, ap, ◌∙◌, subst}
-use Prim.Native.Nat.{ℕ, zero, suc, ◌+◌, ◌-◌, ◌*◌, ◌/◌, ◌%◌, ◌<◌, ◌≤◌}
-use native.Mathlib.Nat.{eq-or-lt_of_le, mul-le-mul_left, mul-le-mul_right}
-use native.Mathlib.Decide.{ℕ_discrete, dec_lt}
+use Prim.Native.Nat.{ℕ, suc, ◌-◌, ◌*◌, ◌/◌, ◌%◌, ◌<◌, ◌≤◌}
+use native.Mathlib.Nat.{mul-le-mul_left}
+use native.Mathlib.Decide.{ℕ_discrete}
 use native.Mathlib.Omega.{arith}
-use lib.ListN.{length, get_or, take, drop, replicate, length-replicate, get_or-replicate, length-append, get_or-append}
+use lib.ListN.{length, get_or, take}
 use lib.Seq.{length-take-le, get_or-take}
 use Rattle.sorting.specs.Bucket.{cell}
 use Rattle.sorting.specs.Order.{SameRow}
@@ -15,17 +15,17 @@ use Rattle.sorting.proofs.Colex.{row_same, same_row}
 use Rattle.sorting.proofs.Firsts.{id-eq, id-row, id-rep}
 use Rattle.lists.specs.Rows.{cut, row}
 use Rattle.lists.proofs.Rows.{cut-length, cut_at, row_fits, row-cell-below}
-use Rattle.complex.specs.Facets.{cell_at, facet_at, Crowded, Cells, slots}
+use Rattle.complex.specs.Facets.{facet_at, Crowded, slots}
 use Rattle.lists.specs.Tables.{tab}
 use Rattle.lists.specs.Words.{same_word, none}
 use Rattle.complex.specs.Skeleton.{in_colex, facet_row_of, facets_of, numbers, rows_with}
-use Rattle.complex_cells.specs.WorkNamed.{row_list, Naming, Named}
+use Rattle.complex_cells.specs.WorkNamed.{Named}
 use Rattle.complex_cells.proofs.Words.{Word, In}
 use Rattle.complex_cells.proofs.Named.{named, row_list-at}
 use Rattle.complex_mates.specs.Table.{Written, Paired, Three, Meet, MateTable, Meeting}
 use Rattle.complex_mates.proofs.Meeting.{crowd, mate-table, slots-most}
 use Rattle.complex_facets.specs.WorkClasses.{Turning, Classed, Classes, Pass, Found}
-use Rattle.lists.proofs.Words.{same_word_lem, word-true, word-false}
+use Rattle.lists.proofs.Words.{word-true, word-false}
 use Rattle.complex_facets.proofs.Numbers.{numbers-one, numbers-two, tab-in, in-tab}
 
 module _ (d m b : ℕ) (keys rows spare counts : List ℕ) (a : Meeting d m b keys rows spare counts) (keys' : List ℕ) (l : length keys' ≡ length keys) (w : Written d (slots d) rows keys' (m * slots d))

@@ -1,30 +1,27 @@
 -- The facet records, one facet at a time, and what they hold: the induced sign by the parity of the position dropped, and cells, whose vertices rise, agree on every facet as
 -- their own words. Assumes nothing.
-use mathlib.Core.Bool.{Bool, true, false}
 use mathlib.Core.List.{List, [], ◌∷◌, ◌++◌, append_assoc, append-nil}
-use mathlib.Core.Path.{◌≡◌, refl, sym, ap, ◌∙◌, subst}
-use Prim.Native.Nat.{ℕ, zero, suc, ◌+◌, ◌-◌, ◌*◌, ◌/◌, ◌%◌, ◌<◌, ◌≤◌, zero-le, suc-le-suc}
-use native.Mathlib.Nat.{suc-mul, mul-le-mul_right}
+use mathlib.Core.Path.{◌≡◌, refl, sym, ap, ◌∙◌}
+use Prim.Native.Nat.{ℕ, zero, suc, ◌+◌, ◌-◌, ◌*◌, ◌/◌, ◌%◌, ◌<◌, ◌≤◌, suc-le-suc}
+use native.Mathlib.Nat.{suc-mul}
 use native.Mathlib.Numerals.{add-one}
 use native.Mathlib.Decide.{ℕ_discrete, dec_lt}
 use native.Mathlib.Omega.{arith}
-use lib.Dec.{eqb}
 use lib.ListN.{length, get_or, take, drop, set, length-append}
 use lib.Seq.{take-suc, take-length, get_or-set_same, get_or-set_other}
 use borrow.Author.Tests.{eq-eqb, ne_eqb}
 use Rattle.lists.proofs.Front.{put}
 use Rattle.multiindex.specs.Sign.{Sign, plus, minus, opposite, induced}
-use Rattle.lists.specs.Words.{same, skip, without, same_word, none}
+use Rattle.lists.specs.Words.{without, none}
 use Rattle.lists.proofs.Words.{same_self, same-no, word-true}
 use Rattle.complex.specs.Facets.{cell_at, facet_at, Mates, Cells, Crowded, slots}
-use Rattle.complex.specs.Skeleton.{facets_of, rows_with}
-use Rattle.complex_cells.specs.WorkNamed.{Named}
+use Rattle.complex.specs.Skeleton.{facets_of}
 use Rattle.complex_cells.proofs.Words.{Word}
 use Rattle.complex_cells.proofs.Named.{named-many}
-use Rattle.complex_facets.specs.WorkClasses.{Classes, Pass}
-use Rattle.complex_facets.specs.WorkSides.{or_none, cell_of}
-use Rattle.complex_facets.specs.Records.{sign_mark, signed_of, kept_of, one_if, agree_of, record_of, each_record, records_of}
-use Rattle.complex_facets.specs.WorkRecords.{zero_if, sign_at, five_of, fives}
+use Rattle.complex_facets.specs.WorkClasses.{Pass}
+use Rattle.complex_facets.specs.WorkSides.{cell_of}
+use Rattle.complex_facets.specs.Records.{sign_mark, signed_of, one_if, agree_of, record_of, each_record, records_of}
+use Rattle.complex_facets.specs.WorkRecords.{sign_at, five_of, fives}
 
 -- one more other row is stored
 pub turn_more : (i : ℕ) (reps mates to : List ℕ) (v : ℕ) → i < length to → v ≡ get_or mates (get_or reps i 0) 0 → ((j : ℕ) → j < i → get_or to j 0 ≡ get_or mates (get_or reps j 0) 0) → (j : ℕ) → j < i + 1 → get_or (set to i v) j 0 ≡ get_or mates (get_or reps j 0) 0

@@ -1,26 +1,23 @@
 -- The facet table, one facet at a time, and what it holds. Assumes nothing.
-use mathlib.Core.Bool.{Bool, true, false}
 use mathlib.Core.List.{List, [], ◌∷◌, ◌++◌, append_assoc, append-nil}
-use mathlib.Core.Path.{◌≡◌, refl, sym, ap, ◌∙◌, subst}
-use Prim.Native.Nat.{ℕ, zero, suc, ◌+◌, ◌-◌, ◌*◌, ◌/◌, ◌%◌, ◌<◌, ◌≤◌}
-use native.Mathlib.Nat.{suc-mul, mul-le-mul_right}
+use mathlib.Core.Path.{◌≡◌, refl, sym, ap, ◌∙◌}
+use Prim.Native.Nat.{ℕ, zero, suc, ◌+◌, ◌-◌, ◌*◌, ◌<◌, ◌≤◌}
+use native.Mathlib.Nat.{suc-mul}
 use native.Mathlib.Numerals.{add-one}
 use native.Mathlib.Decide.{ℕ_discrete}
 use native.Mathlib.Omega.{arith}
-use lib.Dec.{eqb}
 use lib.ListN.{length, get_or, take, drop, set, length-append}
-use lib.Seq.{length-take-le, take-suc, take-length}
+use lib.Seq.{take-suc, take-length}
 use borrow.Author.Tests.{eq-eqb, ne_eqb}
 use Rattle.lists.proofs.Front.{put}
 use Rattle.complex.specs.Facets.{Crowded, slots}
-use Rattle.complex.specs.Skeleton.{facets_of, rows_with}
-use Rattle.complex_cells.specs.WorkNamed.{Named}
+use Rattle.complex.specs.Skeleton.{facets_of}
 use Rattle.complex_cells.proofs.Words.{Word}
 use Rattle.complex_cells.proofs.Named.{named-many}
 use Rattle.lists.specs.Words.{none}
 use Rattle.complex_facets.specs.WorkClasses.{Classes}
 use Rattle.complex_facets.specs.Sides.{side_of, sides_of, each_sides, table_of}
-use Rattle.complex_facets.specs.WorkSides.{or_none, cell_of, place_of, four_of, fours}
+use Rattle.complex_facets.specs.WorkSides.{cell_of, place_of, four_of, fours}
 
 snoc-length : (p : List ℕ) (a n : ℕ) → length p ≡ n → length (p ++ (a ∷ [])) ≡ n + 1
 snoc-length p a n e = omega (arith, length-append p (a ∷ []))

@@ -1,5 +1,5 @@
 -- The cell across each facet row and whether signs differ across it, read from the facet records. Assumes nothing.
-use Rattle.std.specs.Prelude.{Bool, true, false, List, [], ◌⊎◌, ◌≡◌, ℕ, suc, ◌+◌, ◌*◌, ◌/◌, ◌%◌, ◌<◌, ◌≤◌, eqb, length, get_or, take}
+use Rattle.std.specs.Prelude.{Bool, true, false, List, [], ◌⊎◌, ◌≡◌, ℕ, ◌+◌, ◌*◌, ◌/◌, ◌<◌, ◌≤◌, eqb, length, get_or, take}
 use Rattle.lists.specs.Words.{none}
 use Rattle.complex.specs.Facets.{slots}
 use Rattle.complex.specs.Skeleton.{facet_row_of, facets_of}

@@ -1,5 +1,7 @@
 // The facets of cells, each with the one or two cells that it lies in.
 // Follows `Complex::facets` and `Complex::boundary_facets` (crates/simplicial/src/topology/complex.rs).
+#![tactic(auto)]
+
 ghost use Rattle.std.specs.Prelude.{true, false, ◌++◌, ◌≡◌, ℕ, suc, ◌*◌, ◌<◌, ◌≤◌, eqb, length, get_or, drop};
 ghost use Rattle.refusal.specs.Limits.{many_corners};
 ghost use Rattle.lists.specs.Rows.{cut};
@@ -17,7 +19,7 @@ use refusal::Room;
 const NONE: u32 = 4294967295;
 
 // What one pass over the facet rows finds: whether no facet lies in three cells, and how many facets there are.
-#[derive(Drop)]
+#[derive(Clone, Copy)]
 pub struct FacetCount {
     pub sound: bool,
     pub count: usize,

@@ -1,9 +1,9 @@
 -- Corners sorted by vertex are the cells at each vertex, one vertex after the other. Assumes nothing.
 use mathlib.Core.Bool.{Bool, true, false, ◌||◌}
-use mathlib.Core.List.{List, [], ◌∷◌, ◌++◌, map, map-append, append-nil, append_assoc}
+use mathlib.Core.List.{List, [], ◌∷◌, ◌++◌, map, map-append, append-nil}
 use mathlib.Core.Path.{◌≡◌, refl, sym, ap, ◌∙◌, subst}
-use mathlib.Core.Logic.{◌⊎◌, inl, inr, ⊎_elim}
-use Prim.Native.Nat.{ℕ, zero, suc, ◌+◌, ◌-◌, ◌*◌, ◌/◌, ◌%◌, ◌<◌, ◌≤◌}
+use mathlib.Core.Logic.{◌⊎◌, ⊎_elim}
+use Prim.Native.Nat.{ℕ, zero, suc, ◌+◌, ◌-◌, ◌*◌, ◌/◌, ◌<◌, ◌≤◌}
 use native.Mathlib.Nat.{eq-or-lt_of_le, suc-mul, zero-mul, zero-add, mul-one, add-zero}
 use native.Mathlib.Decide.{dec_lt, ℕ_discrete}
 use native.Mathlib.Numerals.{add-one}
@@ -11,18 +11,18 @@ use native.Mathlib.Omega.{arith}
 use lib.Dec.{eqb}
 use borrow.Author.Tests.{eq-eqb, ne_eqb}
 use lib.ListN.{length, get_or, take, drop, set, length-append, length-take, length-map, get_or-append}
-use lib.Seq.{take-suc, take_all, get_or-take, get_or-append-add, ext_get_or}
+use lib.Seq.{take-suc, take_all, get_or-take, get_or-append-add}
 use Rattle.lists.specs.Tables.{upto, tab}
 use Rattle.lists.specs.Words.{among}
 use Rattle.lists.specs.Rows.{flat, cut}
 use Rattle.lists.proofs.Flat.{flat_append}
 use Rattle.lists.proofs.Rows.{cut_at, row-div}
 use Rattle.lists.proofs.Front.{put}
-use Rattle.lists.proofs.Tables.{length-tab, tab-ext, tab-more}
-use Rattle.lists.proofs.Members.{All, All-at}
-use Rattle.sorting.specs.Bucket.{cons_if, pick, bucket_sort, cell}
-use Rattle.sorting.proofs.Laws.{pick-append, pick-hit, pick-miss, pick-nil, length-bucket-suc, length-bucket-mono}
-use Rattle.sorting.proofs.Sorts.{pick-keys, bucket-keys}
+use Rattle.lists.proofs.Tables.{length-tab, tab-more}
+use Rattle.lists.proofs.Members.{All-at}
+use Rattle.sorting.specs.Bucket.{pick, bucket_sort, cell}
+use Rattle.sorting.proofs.Laws.{pick-append, pick-hit, pick-miss, pick-nil, length-bucket-mono}
+use Rattle.sorting.proofs.Sorts.{pick-keys}
 use Rattle.sorting.proofs.Colex.{row-cell}
 use Rattle.complex.specs.Facets.{cell_at, Cells}
 use Rattle.complex.specs.Skeleton.{only_if, numbers}

@@ -1,10 +1,9 @@
 -- The steps of the index: what each inner call asks follows from what the calls before it gave. Assumes nothing.
 use mathlib.Core.Bool.{Bool, true, false}
-use mathlib.Core.List.{List, [], ◌∷◌, ◌++◌, map}
+use mathlib.Core.List.{List, [], ◌++◌, map}
 use mathlib.Core.Path.{◌≡◌, refl, sym, ap, ◌∙◌, subst}
-use mathlib.Core.Logic.{◌⊎◌, inl, inr, ⊎_elim}
-use Prim.Native.Nat.{ℕ, zero, suc, ◌+◌, ◌-◌, ◌*◌, ◌/◌, ◌%◌, ◌<◌, ◌≤◌}
-use native.Mathlib.Nat.{mod-lt, div-lt_iff_lt-mul, div-add-mod', mul-one, add-zero, mul-suc}
+use Prim.Native.Nat.{ℕ, suc, ◌+◌, ◌-◌, ◌*◌, ◌/◌, ◌%◌, ◌<◌, ◌≤◌}
+use native.Mathlib.Nat.{mod-lt, div-lt_iff_lt-mul, div-add-mod', mul-one, add-zero}
 use native.Mathlib.Numerals.{add-one}
 use native.Mathlib.Decide.{dec_lt}
 use native.Mathlib.Omega.{arith}
@@ -14,12 +13,11 @@ use Rattle.lists.specs.Tables.{upto, tab}
 use Rattle.refusal.specs.declared.Counted.{Counted}
 use Rattle.refusal.specs.declared.Counted.TheVariants.{Count, Refused}
 use Rattle.refusal.specs.Table.{crowded_facet, too_short}
-use Rattle.refusal.specs.Lent.{onto}
 use Rattle.lists.specs.Words.{largest_of}
 use Rattle.lists.specs.Rows.{flat, cut, rows as rows_of_lem}
 use Rattle.lists.proofs.Words.{below-largest}
 use Rattle.lists.proofs.Rows.{cut-length, cut_at}
-use Rattle.lists.proofs.Flat.{each_long, flat-cut, cut-before}
+use Rattle.lists.proofs.Flat.{each_long, cut-before}
 use Rattle.lists.proofs.Members.{All, All-of, All-at}
 use Rattle.sorting.specs.Bucket.{bucket_sort, cell, lsd}
 use Rattle.sorting.specs.Order.{Table, Sorted}
@@ -28,20 +26,19 @@ use Rattle.sorting.proofs.Colex.{row-cell}
 use Rattle.lists.proofs.Tables.{length-tab}
 use Rattle.sorting.proofs.Sorts.{table-sorted}
 use Rattle.multiindex.specs.Sort.{sort_word}
-use Rattle.multiindex.proofs.SortLaws.{sort-length}
-use Rattle.complex.specs.Cells.{in_order, cells_of}
-use Rattle.complex.specs.Facets.{cell_at, Cells, Crowded}
+use Rattle.complex.specs.Cells.{cells_of}
+use Rattle.complex.specs.Facets.{Cells}
 use Rattle.complex.specs.Room.{need_of}
 use Rattle.complex_cells.specs.WorkMade.{Made}
 use Rattle.complex_cells.proofs.Words.{Word, In, in-at, at_in}
 use Rattle.complex_cells.proofs.Order.{order_from}
 use Rattle.complex_cells.proofs.Strict.{sort-all}
 use Rattle.complex_cells.proofs.Pigeon.{largest-low}
-use Rattle.skeleton.specs.Promise.{GivesBoth, words_short, table_short, both_listed, Ends, crowded, rest}
+use Rattle.skeleton.specs.Promise.{GivesBoth, words_short, table_short, both_listed, crowded, rest}
 use Rattle.skeleton.specs.Work.{Working, Sound}
 use Rattle.skeleton.proofs.Steps.{room-least, cells-many, cells-flat}
 use Rattle.complex_faces.specs.Index.{cells_at, index_of, starts_of}
-use Rattle.complex_incidence.specs.Work.{corners_below, CornerOrder, IsBelow, ByVertex, Sorting, Handing}
+use Rattle.complex_incidence.specs.Work.{corners_below, IsBelow, ByVertex, Sorting, Handing}
 use Rattle.complex_incidence.specs.Work.{Handed, Worked}
 use Rattle.complex_incidence.proofs.Corners.{tab-map, key-cuts, index-flat, index-starts}
 

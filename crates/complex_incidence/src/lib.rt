@@ -5,6 +5,8 @@
 //   rows     cells, mates                 cells            corner numbers by vertex
 //   spare    first rows                   first rows       scratch
 //   counts   buckets, classes             buckets          buckets
+#![tactic(auto)]
+
 ghost use Rattle.std.specs.Prelude.{List, ◌++◌, ◌≡◌, ℕ, suc, ◌+◌, ◌*◌, ◌/◌, ◌<◌, ◌≤◌, length, get_or, take, drop};
 ghost use Rattle.lists.specs.Words.{largest_of};
 ghost use Rattle.lists.specs.Zero.{AllZero};

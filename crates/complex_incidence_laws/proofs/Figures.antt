@@ -1,7 +1,6 @@
 -- The definition on a figure. Assumes nothing.
 use mathlib.Core.List.{[], ◌∷◌}
 use mathlib.Core.Path.{◌≡◌, refl}
-use mathlib.Core.Bool.{◌||◌}
 use Rattle.lists.specs.Words.{among}
 use Rattle.complex.specs.Skeleton.{numbers}
 use Rattle.complex_incidence_laws.specs.After.{without_gone, index_left}

@@ -1,9 +1,9 @@
 -- From classes of facet rows to mates and crowds. Assumes nothing.
-use mathlib.Core.List.{List, [], ◌∷◌, ◌++◌}
+use mathlib.Core.List.{List, ◌++◌}
 use mathlib.Core.Path.{◌≡◌, refl, sym, ap, ◌∙◌, subst}
 use Prim.Native.Nat.{ℕ, zero, suc, ◌+◌, ◌-◌, ◌*◌, ◌/◌, ◌%◌, ◌<◌, ◌≤◌}
-use native.Mathlib.Nat.{mul-le-mul_left, mul-le-mul_right, le_refl}
-use native.Mathlib.Decide.{ℕ_discrete, dec_lt}
+use native.Mathlib.Nat.{mul-le-mul_left, le_refl}
+use native.Mathlib.Decide.{dec_lt}
 use native.Mathlib.Omega.{arith}
 use lib.ListN.{length, get_or, take, drop, replicate, length-replicate, get_or-replicate, length-append, get_or-append}
 use lib.Seq.{length-take-le}
@@ -14,10 +14,10 @@ use Rattle.sorting.specs.Distinct.{Distinct}
 use Rattle.sorting.proofs.Firsts.{id-eq, id-row, id-rep}
 use Rattle.lists.specs.Rows.{cut, row}
 use Rattle.lists.proofs.Rows.{cut-length, cut_at, row_fits, row-cell-below, row-slot-below, row_is, slots-some}
-use Rattle.complex.specs.Facets.{cell_at, facet_at, FacetOf, Mates, Crowded, Cells, slots}
+use Rattle.complex.specs.Facets.{cell_at, facet_at, FacetOf, Crowded, Cells, slots}
 use Rattle.lists.specs.Words.{none}
 use Rattle.complex_mates.specs.Table.{facet_row, Written, Writing, Grouped, Paired, Three, Meet, MateTable, Meeting}
-use Rattle.complex_mates.proofs.Laws.{facet-length, facet-before, facet-after, facets-differ}
+use Rattle.complex_mates.proofs.Laws.{facet-before, facet-after, facets-differ}
 
 pub slots-most : (d : ℕ) → slots d ≤ suc d
 slots-most zero = omega arith

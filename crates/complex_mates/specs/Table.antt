@@ -1,6 +1,6 @@
 -- What the flat tables of facet rows hold. A cell has k = slots d rows; row x is the facet of cell x / k without position d - x % k, so that slots go from
 -- the last position dropped to the first. Assumes nothing.
-use Rattle.std.specs.Prelude.{List, [], ◌∷◌, ◌++◌, ◌≡◌, ℕ, zero, suc, ◌+◌, ◌-◌, ◌*◌, ◌/◌, ◌%◌, ◌<◌, ◌≤◌, length, get_or, take, drop}
+use Rattle.std.specs.Prelude.{List, ◌≡◌, ℕ, suc, ◌+◌, ◌-◌, ◌*◌, ◌/◌, ◌%◌, ◌<◌, ◌≤◌, length, get_or}
 use Rattle.complex.specs.Facets.{facet_at, slots, Mates, Cells}
 use Rattle.lists.specs.Rows.{cut, row}
 use Rattle.lists.specs.Words.{none}

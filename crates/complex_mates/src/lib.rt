@@ -1,5 +1,7 @@
 // Facet rows, and which two of them are one facet.
 // Follows `Complex::is_pseudomanifold` (crates/simplicial/src/topology/manifold.rs) and `Facet::adjacent_cells`.
+#![tactic(auto)]
+
 ghost use Rattle.std.specs.Prelude.{true, false, ◌≡◌, ℕ, suc, ◌+◌, ◌-◌, ◌*◌, ◌/◌, ◌%◌, ◌<◌, ◌≤◌, length, get_or};
 ghost use Rattle.lists.specs.Rows.{cut, row};
 ghost use Rattle.complex.specs.Facets.{facet_at, slots, Cells, Crowded};

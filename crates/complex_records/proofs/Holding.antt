@@ -1,7 +1,7 @@
 -- What the call over numbers gives, and what the records hold then. Assumes nothing.
 use mathlib.Core.List.{List, [], ◌∷◌, ◌++◌, append_assoc}
-use mathlib.Core.Path.{◌≡◌, refl, sym, ap, ◌∙◌, subst}
-use Prim.Native.Nat.{ℕ, zero, suc, ◌+◌, ◌*◌, ◌<◌, ◌≤◌}
+use mathlib.Core.Path.{◌≡◌, refl, ap, ◌∙◌, subst}
+use Prim.Native.Nat.{ℕ, zero, suc, ◌+◌, ◌*◌, ◌≤◌}
 use native.Mathlib.Nat.{suc-mul}
 use native.Mathlib.Decide.{dec_lt}
 use native.Mathlib.Omega.{arith}
@@ -9,19 +9,18 @@ use lib.ListN.{length, get_or, take, drop, length-append, take-append-drop, get_
 use lib.Seq.{length-take-le}
 use Rattle.refusal.specs.declared.Answer.{Answer}
 use Rattle.refusal.specs.declared.Counted.{Counted}
-use Rattle.refusal.specs.declared.Counted.TheVariants.{Count, Refused}
+use Rattle.refusal.specs.declared.Counted.TheVariants.{Refused}
 use Rattle.refusal.specs.declared.Room.{Room}
 use Rattle.refusal.specs.Told.{count_of}
 use Rattle.refusal.specs.Lent.{onto, lengths}
 use Rattle.refusal.specs.Call.{Comes, refused, cramped, ended}
-use Rattle.lists.specs.Rows.{flat}
 use Rattle.complex.specs.Check.{answer_of}
 use Rattle.complex.specs.Cells.{cells_of}
 use Rattle.complex.specs.Room.{need_of}
 use Rattle.complex.specs.Skeleton.{facets_of, rows_with}
 use Rattle.complex_cells.proofs.Words.{Word}
 use Rattle.complex_facets.specs.Records.{signed_of, agree_of, record_of, each_record, records_of}
-use Rattle.skeleton.specs.Promise.{GivesBoth, words_short, table_short, both_listed, Ends, crowded, rest, Call, RecordsListed}
+use Rattle.skeleton.specs.Promise.{GivesBoth, words_short, table_short, both_listed, Ends, crowded, rest, RecordsListed}
 use Rattle.complex_records.specs.declared.FacetRec.{FacetRec}
 use Rattle.complex_records.specs.Record.{first_records}
 use Rattle.complex_records.specs.Promise.{GivesFew, numbers_short, records_short, all_listed, Numbers, records_for, Records}

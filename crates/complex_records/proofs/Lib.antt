@@ -1,6 +1,3 @@
-pub mod Derive
-pub mod Enums
-pub mod Facet
 pub mod Steps
 pub mod Holding
 pub mod Laws

@@ -10,7 +10,6 @@ use lib.Dec.{eqb, lit≤}
 use lib.IntN.{ℤ, pos, negsuc}
 use mir.Syntax.{w32}
 use mir.Val.{to_z, of_z}
-use borrow.Author.Rules.{zero≤}
 use Rattle.lists.specs.Words.{none}
 use Rattle.complex_facets.specs.Records.{one_if}
 use Rattle.complex_records.specs.declared.FacetRec.{FacetRec}
@@ -49,9 +48,9 @@ written flat records i h = rw (drop-cons records i no_facet h) (set_at (first_re
 -- ---- the facets counted so far
 pub one-most : (t : Bool) → one_if t ≤ 1
 one-most true = lit≤ tt
-one-most false = zero≤
+one-most false = omega arith
 
 pub bordering-most : (n : ℕ) (records : List FacetRec) → bordering n records ≤ n
 unfolding bordering
-bordering-most zero records = zero≤
+bordering-most zero records = omega arith
 bordering-most (suc n) records = omega (arith, bordering-most n records, one-most (eqb (get_or records n no_facet).other none))

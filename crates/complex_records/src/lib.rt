@@ -1,6 +1,8 @@
 // The facet records as a lent list of structs, one for each facet of a cell list: thin functions over lists of records, above the covered call `skeleton::facet_records`,
 // which hands out five numbers a facet.
 // The port added it: the Rust asks a facet for its cells (`Facet::adjacent_cells`).
+#![tactic(auto)]
+
 ghost use Rattle.std.specs.Prelude.{◌≡◌, ◌<◌, ◌≤◌, ◌+◌, ◌*◌, ◌^◌, min, length, set, get_or};
 ghost use Rattle.refusal.specs.Told.{count_of};
 ghost use Rattle.refusal.specs.Lent.{onto};
@@ -12,7 +14,7 @@ use refusal::Counted;
 
 // A facet: its lower cell and the induced sign there, its other cell and the induced sign there, 1 or -1, and whether the words of its cells agree on it. Where it lies in one
 // cell the other is 4294967295, the sign there 0, and they agree.
-#[derive(Drop)]
+#[derive(Clone, Copy)]
 pub struct FacetRec {
     pub cell: u32,
     pub sign: i32,
@@ -22,7 +24,7 @@ pub struct FacetRec {
 }
 
 // What a question for one record says.
-#[derive(Drop)]
+#[derive(Clone, Copy)]
 pub enum Found {
     Facet(FacetRec),
     NoFacet,

@@ -1,6 +1,8 @@
 // Checking a list of cells when nothing of it is handed out: 1, 2, 3, 4, 6, 5, the working room, 7. A call whose result is no list of cells begins with this.
 //
 // The port added it.
+#![tactic(auto)]
+
 ghost use Rattle.std.specs.Prelude.{length};
 ghost use Rattle.lists.specs.Zero.{AllZero};
 ghost use Rattle.complex_sound.specs.Promise.{Checked};

@@ -1,4 +1,6 @@
 // Document 01's figures that are run: the refusal's number, 00 for none, and for signs the facet looks, 00 where none are reported, and the first six. The starred figures are proved in `figures_starred`; their signs are run too.
+#![tactic(auto)]
+
 use grid_sides::Sides;
 use orientation::Coherence;
 use quotient::{Axis, Glue, Grid};

@@ -1,4 +1,6 @@
 // Figures of honest gluing: the number of classes and each point's class, by the quick engine and by the plain one; and refusals.
+#![tactic(auto)]
+
 use grid_chained::{Classed, calls};
 use grid_sides::Sides;
 use quotient::{Axis, Glue, Grid, GridVertex};

@@ -1,5 +1,7 @@
 // Figures of the words of honest gluing: what the call says (a count, or the number of a refusal and its place), the word list afterwards, and the working lists'
 // least and greatest numbers afterwards. Before the call the word list is full of 777 and the working lists of 5.
+#![tactic(auto)]
+
 use grid_sides::Sides;
 use quotient::{Axis, Glue, Grid};
 use refusal::Counted;

@@ -1,4 +1,6 @@
 // Cells dropped from small meshes, run: for each what is said, the words that stay and the old numbers, in lists that held sevens; and the refusals in the order of checks.
+#![tactic(auto)]
+
 use complex_dropped::Dropped;
 
 fn digit(n: u32) -> u8 {

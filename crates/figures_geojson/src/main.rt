@@ -1,6 +1,10 @@
 // Draws bands and prints the files, or the refusals, in document 02's order of checks.
+#![tactic(auto)]
+
 use grid_sides::Sides;
-use libc::STDOUT_FILENO;
+
+const STDOUT_FILENO: i32 = 1;
+
 use quotient::{Axis, Glue, Grid};
 use refusal::Counted;
 

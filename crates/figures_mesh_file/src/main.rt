@@ -1,6 +1,8 @@
 // Mesh files, one a line in hexadecimal digits: the three figures, cut and damaged ones, and random ones. For each the program writes the refusal's number and place, or 0,
 // the dimension, how many cells, births and pairs the file has, and the bytes that writing its lists gives. The file `stdout` has what an independent program says
 // (compare/mesh_files.py), so a run that writes anything else is a difference.
+#![tactic(auto)]
+
 mod hex;
 
 ghost use Rattle.std.specs.Prelude.{◌≤◌, ◌<◌, length};

@@ -1,5 +1,7 @@
 // The pattern of a refined cell by both paths, run: on each line the refusal's number, 00 for none, how many corners there are, and a check number of the whole list, first
 // from the table where it has the pattern, then by the stepping rule. The port added it.
+#![tactic(auto)]
+
 use refusal::Counted;
 
 fn number(a: Counted) -> u32 {

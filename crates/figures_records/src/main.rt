@@ -1,5 +1,7 @@
 // Facet records that are run: the refusal's number, 00 for none, the number of facets, and the first five records: lower cell, induced sign there (1 for +, 2 for -), other cell,
 // sign there, whether the cells agree; a minus stands for no cell, a point for a number that was not written.
+#![tactic(auto)]
+
 use refusal::Counted;
 
 fn number(a: Counted) -> u32 {

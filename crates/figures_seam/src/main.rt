@@ -1,4 +1,6 @@
 // Points across the seam, run: the refusal's number and place, or 0, the vertex, and the wrapped and the reversed axes as masks.
+#![tactic(auto)]
+
 use grid_sides::Sides;
 use quotient::{Axis, Glue, Grid, GridVertex, Reduced};
 

@@ -26,7 +26,6 @@ use Rattle.quotient.specs.Reduce.{rest_at, reflected_by, number_to}
 use Rattle.quotient.specs.Points.{from_digits}
 use Rattle.grid_words.specs.Cells.{met, grid_cells}
 use Rattle.grid_mesh.specs.Words.{glued_cells}
-use Rattle.lists.specs.Words.{same_word, without}
 use Rattle.ordering_words.specs.Order.{word_if, word_of, by_cell, IsOrder, AgreeOnFacets}
 use Rattle.grid_order.specs.declared.Triangulated.TheVariants as Triangulated
 use Rattle.grid_order.specs.Promise.{own_words, words_by_cell, HandsOut, cells_length}

@@ -10,7 +10,7 @@ use Rattle.quotient.specs.Shape.{axis_of, bad_set, check_of}
 use Rattle.quotient.specs.Reduce.{rest_at, reflected_by, number_to}
 use Rattle.quotient.specs.Points.{from_digits}
 use Rattle.grid_words.specs.Cells.{met, grid_cells}
-use Rattle.lists.specs.Words.{same_word, found_at, first_where}
+use Rattle.lists.specs.Words.{found_at, first_where}
 use Rattle.ordering_words.specs.Order.{word_if, word_of, by_cell}
 use Rattle.refine_results.specs.Results.{outside}
 use Rattle.figures_starred.specs.Case.{All}

@@ -1,4 +1,6 @@
 // Swaths, run: the refusal's number and place, or 0 and 0, and the list of five numbers afterwards, which held 6 in every place.
+#![tactic(auto)]
+
 use grid_sides::Sides;
 use quotient::{Axis, Glue, Grid};
 use refusal::Answer;

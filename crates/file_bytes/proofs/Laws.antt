@@ -3,11 +3,10 @@ use mathlib.Core.Path.{◌≡◌, refl, sym, ap, subst, ◌∙◌}
 use mathlib.Core.List.{List, [], ◌∷◌, ◌++◌, append_assoc}
 use Prim.Native.Nat.{ℕ, zero, suc, ◌+◌, ◌*◌, ◌/◌, ◌%◌, ◌^◌, ◌≤◌, ◌<◌}
 use native.Mathlib.Nat.{mod-add-div, mod-lt, mod-eq_of_lt, div-eq_of_lt, add-mul-mod_self_left, add-mul-div_left, div-lt_iff_lt-mul, pow-suc, zero-add}
-use native.Mathlib.Nat.{mul-le-mul_left, suc-mul}
 use native.Mathlib.Omega.{arith}
 use lib.ListN.{length, take, drop, length-append, length-drop}
 use lib.Seq.{take_at, drop_at, take-add, length-take-le}
-use Rattle.lists.proofs.Members.{All, All-append}
+use Rattle.lists.proofs.Members.{All}
 use Rattle.file_bytes.specs.Bytes.{little, said, fours, fours_of}
 
 abbrev pub IsByte : ℕ → Type 0

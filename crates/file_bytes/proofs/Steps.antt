@@ -1,17 +1,17 @@
 -- One turn of each loop, and lists written from the front part by part. Assumes nothing.
 use mathlib.Core.Path.{◌≡◌, refl, sym, ap, subst, ◌∙◌}
-use mathlib.Core.List.{List, [], ◌∷◌, ◌++◌, append_assoc, append-nil}
-use Prim.Native.Nat.{ℕ, zero, suc, ◌+◌, ◌*◌, ◌-◌, ◌/◌, ◌%◌, ◌^◌, ◌≤◌, ◌<◌}
+use mathlib.Core.List.{List, [], ◌∷◌, ◌++◌, append-nil}
+use Prim.Native.Nat.{ℕ, zero, suc, ◌+◌, ◌*◌, ◌-◌, ◌^◌, ◌≤◌, ◌<◌}
 use native.Mathlib.Nat.{pow-succ', mul_assoc}
 use native.Mathlib.Numerals.{add-one}
 use native.Mathlib.Omega.{arith}
 use lib.ListN.{length, take, drop, get_or, set, length-append, length-drop, drop_of_length-le}
-use lib.Seq.{drop-cons, drop-drop, take-add, take_all, length-take-le, append_snoc, set_at}
+use lib.Seq.{drop-cons, drop-drop, take-add, length-take-le}
 use Rattle.refusal.specs.Lent.{onto}
 use Rattle.lists.proofs.Front.{put}
 use Rattle.refine_pattern.proofs.Written.{Written, written-tail, written-room}
 use Rattle.file_bytes.specs.Bytes.{little, said, fours, fours_of}
-use Rattle.file_bytes.proofs.Laws.{little-length, fours_of-length}
+use Rattle.file_bytes.proofs.Laws.{fours_of-length}
 
 -- ---- reading
 

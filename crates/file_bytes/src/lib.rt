@@ -1,6 +1,8 @@
 // Numbers of two and four bytes, the lowest byte first, in lent byte lists. The port added it.
 //
 // A function that writes begins at the start of the list that it is lent, and leaves what comes after its own bytes.
+#![tactic(auto)]
+
 ghost use Rattle.std.specs.Prelude.{◌≡◌, ◌+◌, ◌*◌, ◌<◌, ◌≤◌, length, take, drop};
 ghost use Rattle.refusal.specs.Lent.{onto};
 ghost use Rattle.file_bytes.specs.Bytes.{little, said, fours, fours_of};

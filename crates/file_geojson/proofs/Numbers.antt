@@ -37,7 +37,7 @@ use Rattle.grid_mesh.proofs.Words.{word_no, words-each, glued-are}
 use Rattle.file_geojson.specs.File.{cell_number, mesh_number}
 use Rattle.file_geojson.specs.Kind.{band_grid}
 use Rattle.file_geojson.proofs.Places.{RowCell, Before, top_within, row_before, Turn, on, third, second, first, turn-within, turn_one, turn-to, turn-back, InRow, in-row-lower, in-row-upper}
-use Rattle.file_geojson.proofs.Boxes.{column, row, column-in, row_in, east-at, north-at}
+use Rattle.file_geojson.proofs.Boxes.{column, row, column-in, east-at, north-at}
 use Rattle.file_geojson.proofs.Vertices.{band-two, band-around, vertex-band}
 
 -- a list of three numbers is its three numbers

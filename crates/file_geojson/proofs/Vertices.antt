@@ -6,10 +6,9 @@ use native.Mathlib.Omega.{arith}
 use native.Mathlib.Nat.{one-mul, zero-add}
 use lib.Dec.{eqb}
 use borrow.Author.Tests.{eqb-true}
-use Rattle.refusal.specs.declared.Answer.TheVariants.{Fine}
 use Rattle.quotient.specs.declared.Grid.{Grid}
 use Rattle.quotient.specs.Fold.{product, member}
-use Rattle.quotient.specs.Shape.{cells_on, closed_at, mask_at, glued_on, check_of}
+use Rattle.quotient.specs.Shape.{cells_on, closed_at, mask_at, glued_on}
 use Rattle.quotient.specs.Reduce.{coord_at, wrapped_at, flips_at, reflected_by, folded_at, vertex_of}
 use Rattle.quotient.specs.Points.{from_digits, points_of}
 use Rattle.quotient.proofs.Onto.{vertex-is}

@@ -8,6 +8,8 @@
 //   kind     refusals 18 and 19: `is_band`, `latitudes_fit`
 //   number   the mesh's number of a cell, which its feature has as id
 //   file     the file, part by part: an angle, a position, a ring, a feature, the collection
+#![tactic(auto)]
+
 pub mod file;
 pub mod kind;
 mod number;

@@ -14,7 +14,6 @@ use Rattle.quotient.specs.declared.Grid.{Grid}
 use Rattle.quotient.specs.Fold.{product}
 use Rattle.quotient.specs.Shape.{cells_on, points_on, cell_count}
 use Rattle.quotient.proofs.Laws.{lt-or-ge}
-use Rattle.grid_words.specs.Cells.{grid_cells}
 use Rattle.grid_words.specs.WorkNumbered.{cell_no, corner_of}
 use Rattle.grid_words.proofs.Corners.{corner-rises}
 use Rattle.grid_words.proofs.Listed.{listed}

@@ -1,5 +1,5 @@
 -- Every feature of the file at once: its ring lies in one box, closes, turns counterclockwise, exactly and as read, and begins at its lowest grid vertex. Assumes nothing.
-use mathlib.Core.Path.{◌≡◌, sym, subst}
+use mathlib.Core.Path.{sym, subst}
 use mathlib.Core.List.{List}
 use Prim.Native.Nat.{ℕ, ◌<◌}
 use lib.ListN.{get_or}

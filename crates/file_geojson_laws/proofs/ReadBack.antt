@@ -1,6 +1,6 @@
 -- What is printed reads back: six decimals as their millionths, a longitude and a latitude as what Map says of them; and -0.000000 is never printed. Assumes nothing.
-use mathlib.Core.Path.{◌≡◌, refl, sym, ap, subst, ◌∙◌}
-use mathlib.Core.Bool.{Bool, true, false, cond}
+use mathlib.Core.Path.{◌≡◌, refl, sym, ap, ◌∙◌}
+use mathlib.Core.Bool.{true}
 use mathlib.Core.Logic.{◌⊎◌, ⊎_elim}
 use mathlib.Core.List.{List, [], ◌∷◌, ◌++◌}
 use mathlib.Core.Option.{Option, none, some}
@@ -11,7 +11,7 @@ use borrow.Author.Tests.{lt-ltb, le-ltb, le-leb, ne_eqb}
 use lib.ListN.{get_or, drop}
 use lib.Arith.{mod-mul}
 use Rattle.text.proofs.Decimals.{power_pos}
-use Rattle.text.specs.Decimal.{digits_down, decimal_down, decimal}
+use Rattle.text.specs.Decimal.{digits_down, decimal_down}
 use Rattle.quotient.specs.declared.Grid.{Grid}
 use Rattle.quotient.specs.Shape.{cells_on}
 use Rattle.quotient.specs.Reduce.{coord_at}

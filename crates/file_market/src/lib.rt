@@ -2,6 +2,8 @@
 //
 // The entries are read where complex_boundary has them: `counts` holds the facets of the faces of dimension k, and sign and coface of an entry follow from its
 // number. The file is measured by writing it into no bytes at all, and then written by the same calls (file_writing).
+#![tactic(auto)]
+
 ghost use Rattle.std.specs.Prelude.{List, [], ◌∷◌, ◌++◌, ◌≡◌, ℕ, ◌+◌, ◌*◌, ◌<◌, ◌≤◌, length};
 ghost use Rattle.lists.specs.Zero.{AllZero};
 ghost use Rattle.multiindex.specs.Sign.{induced, sign_number};

@@ -1,14 +1,14 @@
 -- What was read was written: a file that is read is the file of its mesh, which keeps the rules. Assumes nothing.
 use mathlib.Core.Path.{◌≡◌, refl, sym, ap, subst, ◌∙◌}
-use mathlib.Core.Bool.{Bool, true, false, cond, ◌&&◌, ◌||◌, false≢true}
+use mathlib.Core.Bool.{Bool, true, false, cond, ◌&&◌, false≢true}
 use mathlib.Core.List.{List, [], ◌∷◌, ◌++◌, append_assoc, append-nil}
-use Prim.Native.Nat.{ℕ, zero, suc, ◌+◌, ◌*◌, ◌-◌, ◌/◌, ◌%◌, ◌^◌, ◌≤◌, ◌<◌}
+use Prim.Native.Nat.{ℕ, zero, suc, ◌+◌, ◌*◌, ◌-◌, ◌/◌, ◌%◌, ◌<◌}
 use native.Mathlib.Nat.{suc-mul, mul-mod_left, div-eq_of_eq-mul_left}
 use native.Mathlib.Omega.{arith}
 use lib.ListN.{length, take, drop, length-append}
 use lib.Seq.{take_at, drop_at}
-use lib.Dec.{leb, ltb, eqb}
-use borrow.Author.Tests.{leb-true, eqb-true, eqb-false, le-leb, eq-eqb}
+use lib.Dec.{leb, eqb}
+use borrow.Author.Tests.{eqb-true, le-leb, eq-eqb}
 use Rattle.lists.proofs.Members.{All, All-append}
 use Rattle.file_bytes.specs.Bytes.{little, fours}
 use Rattle.file_bytes.proofs.Laws.{Bytes, Four, little-length, fours-length}
@@ -16,8 +16,8 @@ use Rattle.file_mesh.specs.declared.Run.{Run}
 use Rattle.file_mesh.specs.Mesh.{Mesh, past}
 use Rattle.file_mesh.specs.Rules.{no_birth, more, follows, rise, number_fits, refinement_fits, count_fits, vertex_fits, weight_fits, run_ends, pairs_fit, weights_of, birth_fits, births_fit, rules}
 use Rattle.file_mesh.specs.File.{record_of, header_of, word_of, words_of, pairs_of, birth_of, births_of, end_of, file_of}
-use Rattle.file_mesh.specs.Read.{Part, no, got, and_then, asked, number, field, numbers, Opening, opening_from, Header, header_from, word_from, words_from, pairs_from, Birth, birth_from, Births, no_births, with_birth, births_read_from, nothing, read_file}
-use Rattle.file_mesh.proofs.Parts.{both, and_both, refused-not, Then, then-inv, asked-inv, cond-inv, same-part, Came, number-came, Passed, field-came, AllCame, numbers-came}
+use Rattle.file_mesh.specs.Read.{got, and_then, asked, number, field, numbers, Opening, opening_from, Header, header_from, word_from, words_from, pairs_from, Birth, birth_from, Births, no_births, with_birth, births_read_from, nothing, read_file}
+use Rattle.file_mesh.proofs.Parts.{both, and_both, refused-not, Then, then-inv, asked-inv, cond-inv, same-part, number-came, Passed, field-came, numbers-came}
 use Rattle.file_mesh.proofs.Written.{Held, Fits, body_of, body-long, body-before}
 
 -- ---- records

@@ -1,6 +1,6 @@
 -- The figures of a mesh file, written and read, and damaged files with their refusals: 0 where a file is read. Assumes nothing.
 use mathlib.Core.Path.{◌≡◌, refl}
-use mathlib.Core.List.{List, [], ◌∷◌, ◌++◌}
+use mathlib.Core.List.{List, [], ◌∷◌}
 use Prim.Native.Nat.{ℕ}
 use Rattle.multiindex.specs.Sort.{sort_word, insert, insert_by}
 use Rattle.complex.specs.Cells.{comes_before, decides}

@@ -1,17 +1,16 @@
 -- Reading one part: what was written is read, and what was read was written. Assumes nothing.
 use mathlib.Core.Path.{◌≡◌, refl, sym, ap, subst, ◌∙◌}
 use mathlib.Core.Bool.{Bool, true, false, cond, ◌&&◌, false≢true}
-use mathlib.Core.List.{List, [], ◌∷◌, ◌++◌, append_assoc}
-use Prim.Native.Nat.{ℕ, zero, suc, ◌+◌, ◌*◌, ◌^◌, ◌≤◌, ◌<◌}
+use mathlib.Core.List.{List, ◌++◌}
+use Prim.Native.Nat.{ℕ, ◌+◌, ◌*◌, ◌^◌, ◌≤◌, ◌<◌}
 use native.Mathlib.Omega.{arith}
 use lib.ListN.{length, take, drop, length-append, take-append-drop}
 use lib.Seq.{take_at, drop_at}
-use lib.Dec.{leb, ltb, eqb}
-use borrow.Author.Tests.{ltb-true, ltb-false, leb-true, eqb-true, lt-ltb, le-ltb, le-leb, eq-eqb}
+use lib.Dec.{ltb}
+use borrow.Author.Tests.{ltb-false, le-ltb}
 use Rattle.lists.proofs.Members.{All}
-use Rattle.file_bytes.specs.Bytes.{little, said, fours, fours_of}
+use Rattle.file_bytes.specs.Bytes.{little, said, fours}
 use Rattle.file_bytes.proofs.Laws.{IsByte, Bytes, Four, all_drop, little-length, said-little, said-again, said-below, fours-length, fours-read, fours_of-length, fours-again, fours_of-small}
-use Rattle.refusal.specs.Table.{file_ends, bad_file}
 use Rattle.file_mesh.specs.Read.{Part, no, got, and_then, asked, number, field, numbers}
 
 -- ---- tests

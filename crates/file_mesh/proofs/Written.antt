@@ -1,12 +1,12 @@
 -- What was written is read again: the file of a mesh that keeps the rules is read as that mesh. Assumes nothing.
 use mathlib.Core.Path.{◌≡◌, refl, sym, ap, subst, ◌∙◌}
-use mathlib.Core.Bool.{Bool, true, false, cond, ◌&&◌, ◌||◌}
+use mathlib.Core.Bool.{true, ◌&&◌, ◌||◌}
 use mathlib.Core.List.{List, [], ◌∷◌, ◌++◌, append_assoc, append-nil}
-use Prim.Native.Nat.{ℕ, zero, suc, ◌+◌, ◌*◌, ◌-◌, ◌/◌, ◌%◌, ◌^◌, ◌≤◌, ◌<◌, max}
+use Prim.Native.Nat.{ℕ, zero, suc, ◌+◌, ◌*◌, ◌-◌, ◌/◌, ◌%◌, ◌≤◌, ◌<◌}
 use native.Mathlib.Nat.{div-add-mod', suc-mul, mul-mod_left}
 use native.Mathlib.Omega.{arith}
 use lib.ListN.{length, take, drop, length-append, length-drop, take-append-drop}
-use lib.Seq.{take_at, drop_at, length-take-le}
+use lib.Seq.{length-take-le}
 use lib.Dec.{leb, ltb, eqb}
 use borrow.Author.Tests.{ltb-true, leb-true, eqb-true, le-leb, eq-eqb}
 use Rattle.lists.proofs.Members.{All}
@@ -14,9 +14,9 @@ use Rattle.file_bytes.specs.Bytes.{little, fours}
 use Rattle.file_bytes.proofs.Laws.{Four, all_take, all_drop, little-length, fours-length}
 use Rattle.file_mesh.specs.declared.Run.{Run}
 use Rattle.file_mesh.specs.Mesh.{Mesh, past}
-use Rattle.file_mesh.specs.Rules.{no_birth, more, begun, follows, rise, number_fits, refinement_fits, count_fits, vertex_fits, weight_fits, run_ends, pairs_fit, weights_of, birth_fits, births_fit, rules}
+use Rattle.file_mesh.specs.Rules.{no_birth, more, begun, follows, rise, number_fits, refinement_fits, count_fits, vertex_fits, weight_fits, pairs_fit, weights_of, birth_fits, births_fit, rules}
 use Rattle.file_mesh.specs.File.{record_of, header_of, word_of, words_of, pairs_of, birth_of, births_of, end_of, file_of}
-use Rattle.file_mesh.specs.Read.{Part, no, got, and_then, asked, number, field, numbers, opening_from, header_from, word_from, words_from, pairs_from, birth_from, births_read_from, nothing, read_file}
+use Rattle.file_mesh.specs.Read.{got, and_then, asked, number, numbers, opening_from, header_from, word_from, words_from, pairs_from, birth_from, births_read_from, nothing, read_file}
 use Rattle.file_mesh.proofs.Parts.{both, and_both, number_read, field-read, numbers-read}
 
 -- ---- records

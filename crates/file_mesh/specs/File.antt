@@ -1,5 +1,5 @@
 -- The bytes of a mesh file. Assumes nothing.
-use Rattle.std.specs.Prelude.{ℕ, zero, suc, ◌+◌, ◌*◌, ◌/◌, List, [], ◌∷◌, ◌++◌, length, take, drop}
+use Rattle.std.specs.Prelude.{ℕ, zero, suc, ◌+◌, ◌*◌, List, [], ◌∷◌, ◌++◌, length, take, drop}
 use Rattle.file_bytes.specs.Bytes.{little, fours}
 use Rattle.file_mesh.specs.Mesh.{Mesh, cell_count}
 

@@ -1,6 +1,6 @@
 -- The rules of a mesh file, as tests of one field each, and over the lists of a mesh. The reader tests each field as its bytes come, the writer all of them before it
 -- writes. Assumes nothing.
-use Rattle.std.specs.Prelude.{ℕ, zero, suc, ◌+◌, ◌*◌, Bool, true, false, ◌&&◌, ◌||◌, List, [], ◌∷◌, length, take, drop, leb, ltb, eqb}
+use Rattle.std.specs.Prelude.{ℕ, zero, suc, ◌+◌, Bool, true, false, ◌&&◌, ◌||◌, List, [], ◌∷◌, length, take, drop, leb, ltb, eqb}
 use Rattle.refusal.specs.Limits.{most_dimension, most_refinement}
 use Rattle.multiindex.specs.Sort.{sort_word}
 use Rattle.complex.specs.Cells.{comes_before}

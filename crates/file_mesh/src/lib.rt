@@ -2,6 +2,8 @@
 // written, and that each accepted file is what writing its lists gives, is in proofs/.
 //
 // The tests of single fields, which the writer and the reader share, are here. The port added it.
+#![tactic(auto)]
+
 ghost use Rattle.std.specs.Prelude.{◌≡◌, ◌+◌, ◌≤◌, length, take};
 ghost use Rattle.refusal.specs.Limits.{most_dimension};
 ghost use Rattle.multiindex.specs.Sort.{sort_word};
@@ -22,7 +24,7 @@ pub const END_KIND: u32 = 4;
 const CORNERS: usize = MOST_DIMENSION as usize + 1;
 
 // What the births so far settle: the number of the first one, the R of all, and the number that comes next. Before the first birth R is 0.
-#[derive(Drop)]
+#[derive(Clone, Copy)]
 pub struct Run {
     pub first: u32,
     pub r: u32,

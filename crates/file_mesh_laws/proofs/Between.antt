@@ -14,7 +14,7 @@ use Rattle.lists.proofs.Tables.{length-tab}
 use Rattle.lists.proofs.Sums.{sum-ext}
 use Rattle.refine_lattice.specs.Lattice.{dot}
 use Rattle.refine_lattice.specs.Complex.{weigh, occurrences}
-use Rattle.refine_lattice.specs.Children.{gather, pick}
+use Rattle.refine_lattice.specs.Children.{pick}
 use Rattle.refine_lattice.specs.Pattern.{pattern_of}
 use Rattle.refine_lattice.specs.Refine.{visits, positives, place, births_from, births, vertices, In}
 use Rattle.refine_lattice.proofs.Shares.{pull}

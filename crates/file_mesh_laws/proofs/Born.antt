@@ -1,17 +1,17 @@
 -- The births of a refinement keep the rules of a mesh file. Assumes nothing.
 use mathlib.Core.Path.{◌≡◌, refl, sym, ap, subst, ◌∙◌}
-use mathlib.Core.Bool.{Bool, true, false, ◌&&◌, ◌||◌}
+use mathlib.Core.Bool.{Bool, true, false, ◌||◌}
 use mathlib.Core.List.{List, [], ◌∷◌, ◌++◌}
-use Prim.Native.Nat.{ℕ, zero, suc, ◌+◌, ◌*◌, ◌≤◌, ◌<◌}
+use Prim.Native.Nat.{ℕ, zero, suc, ◌+◌, ◌≤◌, ◌<◌}
 use native.Mathlib.Omega.{arith}
 use lib.ListN.{length, take, drop, length-append}
 use lib.Seq.{take_at, drop_at}
-use lib.Dec.{leb, ltb, eqb}
+use lib.Dec.{eqb}
 use borrow.Author.Tests.{lt-ltb, le-leb, eq-eqb}
 use Rattle.refine_lattice.specs.Refine.{positives}
 use Rattle.refine_births.specs.Support.{supporters, shares, total}
 use Rattle.file_mesh.specs.declared.Run.{Run}
-use Rattle.file_mesh.specs.Rules.{no_birth, more, begun, number_fits, refinement_fits, count_fits, run_ends, pairs_fit, weights_of, birth_fits, births_fit}
+use Rattle.file_mesh.specs.Rules.{no_birth, more, begun, pairs_fit, weights_of, birth_fits, births_fit}
 use Rattle.file_mesh.proofs.Parts.{and_both}
 use Rattle.file_mesh_laws.specs.Births.{numbered, beside, pairs, Between}
 

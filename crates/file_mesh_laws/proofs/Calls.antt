@@ -1,10 +1,9 @@
 -- The law over the calls: whenever a refinement call by R ≥ 2 is not refused, the mesh in the lists that it hands out is one that a mesh file takes. Assumes nothing.
-use mathlib.Core.Path.{◌≡◌, refl, sym, ap, subst, ◌∙◌}
+use mathlib.Core.Path.{◌≡◌, refl, sym, subst}
 use mathlib.Core.Bool.{true}
 use mathlib.Core.List.{List}
-use Prim.Native.Nat.{ℕ, suc, ◌≤◌}
+use Prim.Native.Nat.{ℕ, ◌≤◌}
 use native.Mathlib.Omega.{arith}
-use lib.ListN.{length}
 use Rattle.refusal.specs.Call.{refused, cramped, ended}
 use Rattle.refusal.specs.declared.Answer.TheVariants.{Fine}
 use Rattle.complex.specs.Check.{answer_of, Passed}

@@ -1,5 +1,5 @@
 -- What a refinement hands out keeps the rules of a mesh file. Assumes nothing.
-use mathlib.Core.Path.{◌≡◌, refl, sym, ap, subst, ◌∙◌}
+use mathlib.Core.Path.{◌≡◌, refl, sym, ap, ◌∙◌}
 use mathlib.Core.Bool.{true}
 use mathlib.Core.Logic.{⊎_elim}
 use mathlib.Core.List.Memᴰ
@@ -10,10 +10,8 @@ use native.Mathlib.Decide.{ℕ_discrete}
 use native.Mathlib.Omega.{arith}
 use lib.ListN.{length, get_or}
 use Rattle.lists.specs.Rows.{flat}
-use Rattle.multiindex.specs.Sort.{sort_word}
 use Rattle.multiindex.proofs.SortLaws.{sort-length}
 use Rattle.complex_cells.proofs.Order.{order-rising}
-use Rattle.lists.specs.Words.{same}
 use Rattle.lists.proofs.Words.{same-yes, same-no}
 use Rattle.refine_lattice.specs.Complex.{occurrences}
 use Rattle.refine_lattice.specs.Conform.{Used, Sound}
@@ -21,7 +19,7 @@ use Rattle.refine_lattice.specs.Refine.{words, vertices, births, In}
 use Rattle.refine_lattice.proofs.Count.{Nodup}
 use Rattle.refine_results.specs.Refined.{refined_cells, refined_words}
 use Rattle.refine_laws.proofs.Again.{visited, refined-listed, to_sorted, of_sorted}
-use Rattle.file_mesh.specs.Mesh.{Mesh, past}
+use Rattle.file_mesh.specs.Mesh.{past}
 use Rattle.file_mesh.specs.Rules.{no_birth, rise, births_fit, rules}
 use Rattle.file_mesh.proofs.Parts.{and_both}
 use Rattle.file_mesh_laws.specs.Births.{numbered, pairs, refined_mesh}

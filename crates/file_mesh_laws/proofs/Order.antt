@@ -1,19 +1,19 @@
 -- Words whose cells rise in colex order keep the order of a mesh file. Assumes nothing.
-use mathlib.Core.Path.{◌≡◌, refl, sym, ap, subst, ◌∙◌}
-use mathlib.Core.Bool.{Bool, true, false, ◌&&◌, ◌||◌}
-use mathlib.Core.Logic.{◌⊎◌, inl, inr}
+use mathlib.Core.Path.{◌≡◌, refl, ap, ◌∙◌}
+use mathlib.Core.Bool.{Bool, true, false, ◌||◌}
+use mathlib.Core.Logic.{inl, inr}
 use mathlib.Core.List.{List, [], ◌∷◌, ◌++◌}
-use Prim.Native.Nat.{ℕ, zero, suc, ◌+◌, ◌*◌, ◌≤◌, ◌<◌}
+use Prim.Native.Nat.{ℕ, zero, suc, ◌+◌, ◌*◌, ◌<◌}
 use native.Mathlib.Nat.{suc-mul}
 use native.Mathlib.Omega.{arith}
 use lib.ListN.{length, get_or, take, drop, length-append}
 use lib.Seq.{take_at, drop_at}
-use lib.Dec.{ltb, eqb}
+use lib.Dec.{ltb}
 use borrow.Author.Tests.{lt-ltb, le-ltb, eq-eqb}
 use Rattle.lists.specs.Rows.{flat}
 use Rattle.multiindex.specs.Sort.{sort_word}
 use Rattle.complex.specs.Cells.{decides, comes_before}
-use Rattle.complex_cells.proofs.Words.{Each, Rising, In, each_of}
+use Rattle.complex_cells.proofs.Words.{Each, Rising, each_of}
 use Rattle.complex_cells.proofs.Order.{Colex}
 use Rattle.file_mesh.specs.Rules.{follows, rise}
 use Rattle.file_mesh.proofs.Parts.{and_both}

@@ -1,13 +1,13 @@
 -- The words that a refinement hands out pass the checks of a cell list, so that a mesh file takes them. Assumes nothing.
-use mathlib.Core.Path.{◌≡◌, refl, sym, ap, subst, ◌∙◌}
+use mathlib.Core.Path.{◌≡◌, sym, ap, subst, ◌∙◌}
 use mathlib.Core.List.Memᴰ
 use mathlib.Core.List.{List, [], ◌∷◌, Memᴰ}
-use Prim.Native.Nat.{ℕ, suc, ◌*◌, ◌^◌, ◌≤◌, ◌<◌}
+use Prim.Native.Nat.{ℕ, suc, ◌≤◌, ◌<◌}
 use native.Mathlib.Numerals.{add-one}
 use native.Mathlib.Nat.{mul-le-mul_right}
 use native.Mathlib.Omega.{arith}
 use lib.ListN.{length, get_or}
-use Rattle.lists.specs.Rows.{flat, rows}
+use Rattle.lists.specs.Rows.{flat}
 use Rattle.lists.specs.Words.{has_repeat, largest_of}
 use Rattle.lists.proofs.Flat.{flat-length, flat-at, cut-flat, flat-count, flat-whole, rows-flat}
 use Rattle.complex.specs.Check.{Passed}

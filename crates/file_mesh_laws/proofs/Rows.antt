@@ -2,11 +2,10 @@
 use mathlib.Core.Path.{◌≡◌, refl, sym, ap, subst, ◌∙◌}
 use mathlib.Core.List.Memᴰ
 use mathlib.Core.List.{List, [], ◌∷◌, ◌++◌, map, Memᴰ}
-use Prim.Native.Nat.{ℕ, zero, suc, ◌+◌, ◌*◌, ◌-◌, ◌≤◌, ◌<◌}
+use Prim.Native.Nat.{ℕ, zero, suc, ◌+◌, ◌-◌, ◌≤◌}
 use native.Mathlib.Omega.{arith}
 use lib.ListN.{length, get_or, take, drop}
 use lib.Seq.{take_at, drop_at}
-use Rattle.lists.specs.Rows.{flat}
 use Rattle.lists.specs.Words.{none}
 use Rattle.lists.specs.Tables.{tab}
 use Rattle.lists.proofs.Tables.{length-tab}
@@ -18,7 +17,7 @@ use Rattle.refine_lattice.proofs.Pattern.{visits-pattern}
 use Rattle.refine_births.specs.Support.{supporters, shares, padded}
 use Rattle.refine_births.specs.Promise.{birth_vertices_of, birth_weights_of}
 use Rattle.refine_births.proofs.Points.{positives-most}
-use Rattle.refine_results.specs.Results.{Results, results_of}
+use Rattle.refine_results.specs.Results.{results_of}
 use Rattle.file_mesh.specs.Mesh.{Mesh}
 use Rattle.file_mesh_laws.specs.Births.{numbered, beside, pairs, refined_mesh}
 use Rattle.file_mesh_laws.specs.Handed.{named, birth_rows, mesh_from}

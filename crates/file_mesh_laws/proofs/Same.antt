@@ -1,5 +1,5 @@
 -- The two sentences of a mesh file over its calls: reading what was written returns the same lists, and each accepted file is what writing its lists gives. Assumes nothing.
-use mathlib.Core.Path.{◌≡◌, refl, ap, subst, ◌∙◌}
+use mathlib.Core.Path.{◌≡◌, ap, ◌∙◌}
 use mathlib.Core.List.{List, []}
 use Prim.Native.Nat.{ℕ, ◌≤◌}
 use lib.ListN.{length, take}

@@ -1,16 +1,15 @@
 -- What a file that was read gives: its lists as they stand in its bytes, and how long they are. Assumes nothing.
 use mathlib.Core.Path.{◌≡◌, refl, sym, ap, subst, ◌∙◌}
-use mathlib.Core.List.{List, [], ◌∷◌, ◌++◌}
-use Prim.Native.Nat.{ℕ, zero, suc, ◌+◌, ◌*◌, ◌-◌, ◌/◌, ◌≤◌, ◌<◌}
+use mathlib.Core.List.{List, [], ◌++◌}
+use Prim.Native.Nat.{ℕ, ◌+◌, ◌*◌, ◌-◌, ◌/◌, ◌≤◌, ◌<◌}
 use native.Mathlib.Nat.{div-eq_of_eq-mul_left, mul_assoc, mul-le-mul}
 use native.Mathlib.Omega.{arith}
-use lib.ListN.{length, take, drop, length-drop}
+use lib.ListN.{length, take, drop}
 use lib.Seq.{length-take-le}
 use Rattle.refusal.specs.Limits.{most_vertices, most_refinement}
 use Rattle.refusal.specs.declared.Answer.{Answer}
 use Rattle.refusal.specs.declared.Answer.TheVariants as Answer
 use Rattle.refusal.specs.Table.{too_short}
-use Rattle.refusal.specs.Lent.{onto}
 use Rattle.complex.specs.Check.{answer_of, Passed}
 use Rattle.file_mesh.specs.Mesh.{Mesh, past}
 use Rattle.file_mesh.specs.Rules.{no_birth}
@@ -21,11 +20,11 @@ use Rattle.file_mesh_read.specs.declared.Scanned.{Scanned}
 use Rattle.file_mesh_read.specs.declared.Scanned.TheVariants as Scanned
 use Rattle.file_mesh_read.specs.declared.Reading.{Reading}
 use Rattle.file_mesh_read.specs.declared.Reading.TheVariants.{Read, Refused}
-use Rattle.file_mesh_read.specs.Promise.{mesh_in, refused_in, Lists, none, Gives, words_short, births_short, pairs_short, read}
+use Rattle.file_mesh_read.specs.Promise.{mesh_in, refused_in, none, Gives, words_short, births_short, pairs_short, read}
 use Rattle.file_mesh_read.specs.Work.{scanned_of, words_in, births_in, end_in, Taking, Handing}
 use Rattle.file_mesh_read.proofs.Whole.{header-rest, words-rest}
 use Rattle.file_mesh_read.proofs.Listed.{words_are}
-use Rattle.file_mesh_read.proofs.Standing.{BirthsAre, births-are}
+use Rattle.file_mesh_read.proofs.Standing.{births-are}
 
 -- where the births of a file begin
 abbrev pub births_at : ℕ → ℕ → ℕ

@@ -1,18 +1,16 @@
 -- The record after the words: a birth, or the end of the file. Assumes nothing.
-use mathlib.Core.Path.{◌≡◌, refl, sym, ap, subst, ◌∙◌}
-use mathlib.Core.Bool.{Bool, true, false, cond, ◌&&◌}
-use mathlib.Core.List.{List, [], ◌∷◌, ◌++◌}
-use Prim.Native.Nat.{ℕ, zero, suc, ◌+◌, ◌*◌, ◌-◌, ◌%◌, ◌≤◌, ◌<◌}
+use mathlib.Core.Path.{◌≡◌, refl, ap}
+use mathlib.Core.Bool.{true, false}
+use mathlib.Core.List.{List}
+use Prim.Native.Nat.{ℕ, ◌+◌, ◌-◌, ◌%◌, ◌≤◌, ◌<◌}
 use native.Mathlib.Omega.{arith}
-use lib.ListN.{length, take, drop, length-drop, drop_of_length-le}
+use lib.ListN.{length, drop, drop_of_length-le}
 use lib.Seq.{drop-cons}
-use lib.Dec.{leb, ltb, eqb}
-use borrow.Author.Tests.{lt-ltb, le-ltb, le-leb, lt-leb, eq-eqb, ne_eqb}
+use borrow.Author.Tests.{le-leb, lt-leb, eq-eqb, ne_eqb}
 use Rattle.file_mesh.specs.declared.Run.{Run}
 use Rattle.file_mesh.specs.Rules.{run_ends}
 use Rattle.file_mesh.specs.Read.{Part, no, got, and_then, asked, opening_from, Birth, birth_from, nothing}
-use Rattle.file_mesh_read.specs.declared.Born.{Born}
-use Rattle.file_mesh_read.specs.Work.{born_of, Next, one, end, next_from, next_of}
+use Rattle.file_mesh_read.specs.Work.{born_of, one, end, next_from, next_of}
 use Rattle.file_mesh_read.proofs.Parts.{OpenedAt}
 
 pub next-born : (p : Part Birth) → next_of (and_then p (λ b s. got (one b) s)) ≡ born_of p

@@ -1,30 +1,28 @@
 -- The ways out of the call. Assumes nothing.
 use mathlib.Core.Path.{◌≡◌, refl, sym, ap, subst, ◌∙◌}
-use mathlib.Core.Bool.{true, false, not}
-use mathlib.Core.List.{List, [], ◌∷◌, ◌++◌}
-use Prim.Native.Nat.{ℕ, zero, suc, ◌+◌, ◌*◌, ◌/◌, ◌%◌, ◌≤◌, ◌<◌}
+use mathlib.Core.List.{List}
+use Prim.Native.Nat.{ℕ, ◌+◌, ◌*◌, ◌/◌, ◌%◌, ◌≤◌, ◌<◌}
 use native.Mathlib.Nat.{mul-mod_left, div-eq_of_eq-mul_left, mul-le-mul}
 use native.Mathlib.Omega.{arith}
 use lib.ListN.{length}
-use lib.Dec.{leb, ltb, eqb}
 use borrow.Author.Tests.{lt-ltb, le-ltb, eq-eqb, ne_eqb}
 use Rattle.refusal.specs.Limits.{most_dimension, most_cells, row_most, most_corners}
 use Rattle.refusal.specs.Table.{bad_dimension, too_many_cells}
 use Rattle.refusal.specs.declared.Answer.{Answer}
 use Rattle.refusal.specs.declared.Answer.TheVariants as Answer
 use Rattle.refusal.specs.declared.Room.{Room}
-use Rattle.refusal.specs.Lent.{untouched, onto, lengths, Roomy, Cleared}
+use Rattle.refusal.specs.Lent.{untouched, lengths}
 use Rattle.refusal.specs.Call.{Comes, refused, cramped, ended}
-use Rattle.complex.specs.Check.{answer_of, Passed}
+use Rattle.complex.specs.Check.{answer_of}
 use Rattle.complex.specs.Cells.{cells_of}
 use Rattle.complex.specs.Facets.{Crowded}
 use Rattle.complex.specs.Room.{need_of}
 use Rattle.complex_sound.specs.Promise.{Facets, free, Checked}
 use Rattle.complex_sound.specs.Promise as Sound
 use Rattle.file_mesh.specs.Mesh.{Mesh}
-use Rattle.file_mesh.specs.Read.{Part, no, got, read_file}
+use Rattle.file_mesh.specs.Read.{read_file}
 use Rattle.file_mesh_read.specs.declared.Reading.{Reading}
-use Rattle.file_mesh_read.specs.declared.Reading.TheVariants.{Read, Refused}
+use Rattle.file_mesh_read.specs.declared.Reading.TheVariants.{Refused}
 use Rattle.file_mesh_read.specs.Promise.{mesh_in, refused_in, Lists, none, Gives, crowded, MeshRead}
 use Rattle.file_mesh_read.specs.Work.{words_in, Handing}
 use Rattle.file_mesh_read.proofs.Given.{FileGives}

@@ -1,17 +1,17 @@
 -- The pairs of a birth, one after the other, and a birth. Assumes nothing.
-use mathlib.Core.Path.{◌≡◌, refl, sym, ap, subst, ◌∙◌}
-use mathlib.Core.Bool.{Bool, true, false, cond, ◌&&◌}
-use mathlib.Core.List.{List, [], ◌∷◌, ◌++◌}
-use Prim.Native.Nat.{ℕ, zero, suc, ◌+◌, ◌*◌, ◌-◌, ◌%◌, ◌≤◌, ◌<◌}
+use mathlib.Core.Path.{◌≡◌, refl, sym, ap, ◌∙◌}
+use mathlib.Core.Bool.{Bool, true, false, cond}
+use mathlib.Core.List.{List, [], ◌∷◌}
+use Prim.Native.Nat.{ℕ, zero, suc, ◌+◌, ◌*◌, ◌-◌, ◌≤◌, ◌<◌}
 use native.Mathlib.Nat.{add_assoc, zero-add}
 use native.Mathlib.Numerals.{add-one}
 use native.Mathlib.Omega.{arith}
-use lib.ListN.{length, take, drop, length-drop}
-use lib.Dec.{leb, ltb, eqb}
+use lib.ListN.{length, take, drop}
+use lib.Dec.{ltb, eqb}
 use borrow.Author.Tests.{lt-ltb, le-ltb, le-leb, lt-leb, eq-eqb, ne_eqb}
 use Rattle.file_bytes.specs.Bytes.{said}
 use Rattle.file_mesh.specs.declared.Run.{Run}
-use Rattle.file_mesh.specs.Rules.{more, number_fits, refinement_fits, count_fits, vertex_fits, weight_fits, weights_of}
+use Rattle.file_mesh.specs.Rules.{more, number_fits, refinement_fits, vertex_fits, weight_fits, weights_of}
 use Rattle.file_mesh.specs.Read.{Part, no, got, and_then, asked, number, field, pairs_from, Birth, birth_from}
 use Rattle.file_mesh_read.specs.declared.Born.{Born}
 use Rattle.file_mesh_read.specs.declared.Born.TheVariants as Born

@@ -1,23 +1,22 @@
 -- One part of the bytes at a place: read, or refused. Assumes nothing.
-use mathlib.Core.Path.{◌≡◌, refl, sym, ap, subst, ◌∙◌}
-use mathlib.Core.Bool.{Bool, true, false, cond, ◌&&◌, ◌||◌}
+use mathlib.Core.Path.{◌≡◌, refl, sym, ap, ◌∙◌}
+use mathlib.Core.Bool.{Bool, true, false, ◌&&◌}
 use mathlib.Core.List.{List, [], ◌∷◌, ◌++◌}
 use Prim.Native.Nat.{ℕ, zero, suc, ◌+◌, ◌*◌, ◌-◌, ◌≤◌, ◌<◌, max}
-use native.Mathlib.Nat.{mul-le-mul_right, suc-mul}
-use native.Mathlib.Numerals.{add-one}
+use native.Mathlib.Nat.{suc-mul}
 use native.Mathlib.Omega.{arith}
 use lib.ListN.{length, take, drop, length-drop, length-append}
 use lib.Seq.{drop-drop, take_all, take_at, length-take-le}
-use lib.Dec.{leb, ltb, eqb}
-use borrow.Author.Tests.{ltb-true, ltb-false, leb-true, lt-ltb, le-ltb, le-leb, lt-leb, eq-eqb, ne_eqb}
+use lib.Dec.{leb, ltb}
+use borrow.Author.Tests.{ltb-true, ltb-false, lt-ltb, le-ltb, le-leb, lt-leb, eq-eqb, ne_eqb}
 use Rattle.refusal.specs.Limits.{most_dimension}
 use Rattle.multiindex.specs.Sort.{sort_word}
 use Rattle.complex.specs.Cells.{comes_before}
 use Rattle.file_bytes.specs.Bytes.{said, fours_of}
 use Rattle.file_bytes.proofs.Laws.{fours_of-length}
 use Rattle.file_mesh.specs.Mesh.{past}
-use Rattle.file_mesh.specs.Rules.{follows, vertex_fits, weight_fits}
-use Rattle.file_mesh.specs.Read.{Part, no, got, and_then, asked, number, field, numbers, Opening, opening_from, Header, header_from, word_from, pairs_from}
+use Rattle.file_mesh.specs.Rules.{follows}
+use Rattle.file_mesh.specs.Read.{Part, no, got, and_then, asked, number, field, numbers, Opening, opening_from, header_from, word_from}
 use Rattle.file_mesh.proofs.Parts.{refused-not, same-part, then-inv, cond-inv, asked-inv}
 use Rattle.file_mesh_read.specs.declared.Opened.{Opened}
 use Rattle.file_mesh_read.specs.declared.Opened.TheVariants as Opened

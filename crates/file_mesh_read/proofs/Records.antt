@@ -1,15 +1,15 @@
 -- One turn of the loop over the births. Assumes nothing.
 use mathlib.Core.Path.{◌≡◌, refl, sym, ap, subst, ◌∙◌}
 use mathlib.Core.Bool.{Bool, true, false, cond, ◌&&◌}
-use mathlib.Core.List.{List, [], ◌∷◌, ◌++◌}
-use Prim.Native.Nat.{ℕ, zero, suc, ◌+◌, ◌*◌, ◌-◌, ◌/◌, ◌%◌, ◌≤◌, ◌<◌}
+use mathlib.Core.List.{List}
+use Prim.Native.Nat.{ℕ, zero, suc, ◌+◌, ◌*◌, ◌-◌, ◌/◌, ◌%◌, ◌≤◌}
 use native.Mathlib.Omega.{arith}
-use lib.ListN.{length, take, drop, length-drop, length-append}
-use lib.Dec.{leb, ltb, eqb}
+use lib.ListN.{length, drop, length-append}
+use lib.Dec.{leb, eqb}
 use Rattle.file_mesh.specs.declared.Run.{Run}
 use Rattle.file_mesh.specs.Rules.{more, number_fits, refinement_fits, count_fits, vertex_fits, weight_fits, run_ends, weights_of}
 use Rattle.file_mesh.specs.Read.{Part, no, got, and_then, asked, number, field, Opening, opening_from, pairs_from, Birth, birth_from, Births, no_births, with_birth, births_read_from, nothing}
-use Rattle.file_mesh.proofs.Parts.{refused-not, same-part, then-inv, asked-inv, cond-inv}
+use Rattle.file_mesh.proofs.Parts.{same-part, then-inv, asked-inv}
 use Rattle.file_mesh_read.specs.declared.Born.{Born}
 use Rattle.file_mesh_read.specs.declared.Born.TheVariants as Born
 use Rattle.file_mesh_read.specs.declared.Counts.{Counts}

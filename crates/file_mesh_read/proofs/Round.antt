@@ -1,10 +1,10 @@
 -- Writing and reading, over the promises of the two calls. Assumes nothing.
 use mathlib.Core.Path.{◌≡◌, refl, sym, ap, subst, ◌∙◌}
-use mathlib.Core.Bool.{true, false}
+use mathlib.Core.Bool.{true}
 use mathlib.Core.List.{List, []}
-use Prim.Native.Nat.{ℕ, ◌+◌, ◌/◌, ◌≤◌, ◌<◌}
+use Prim.Native.Nat.{ℕ, ◌+◌, ◌/◌, ◌≤◌}
 use native.Mathlib.Omega.{arith}
-use lib.ListN.{length, take, drop, get_or}
+use lib.ListN.{length, take, drop}
 use lib.Seq.{take_at}
 use Rattle.refusal.specs.declared.Answer.{Answer}
 use Rattle.refusal.specs.declared.Answer.TheVariants as Answer
@@ -13,7 +13,7 @@ use Rattle.refusal.specs.declared.Counted.TheVariants as Counted
 use Rattle.refusal.specs.declared.Room.{Room}
 use Rattle.refusal.specs.Lent.{onto, lengths, Roomy}
 use Rattle.refusal.specs.Call.{Comes, refused, cramped, ended}
-use Rattle.lists.proofs.Members.{All, All-of}
+use Rattle.lists.proofs.Members.{All-of}
 use Rattle.lists.proofs.Words.{below-largest}
 use Rattle.file_bytes.proofs.Laws.{Four, Bytes}
 use Rattle.complex.specs.Check.{answer_of, Passed}
@@ -26,9 +26,9 @@ use Rattle.skeleton.specs.Promise as Skeleton
 use Rattle.file_mesh.specs.Mesh.{Mesh}
 use Rattle.file_mesh.specs.Rules.{rules}
 use Rattle.file_mesh.specs.File.{file_of}
-use Rattle.file_mesh.specs.Read.{Part, no, got, read_file}
+use Rattle.file_mesh.specs.Read.{Part, got, read_file}
 use Rattle.file_mesh.proofs.Written.{Held, written_read}
-use Rattle.file_mesh.proofs.Accepted.{Accepted, read-written}
+use Rattle.file_mesh.proofs.Accepted.{read-written}
 use Rattle.file_mesh_write.specs.Promise.{Writes, broken, short, written, MeshWritten}
 use Rattle.file_mesh_read.specs.declared.Reading.{Reading}
 use Rattle.file_mesh_read.specs.declared.Reading.TheVariants.{Read, Refused}

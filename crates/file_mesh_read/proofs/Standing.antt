@@ -1,8 +1,8 @@
 -- The births of a file that was read are those that stand in its bytes, and how many they are. Assumes nothing.
 use mathlib.Core.Path.{◌≡◌, refl, sym, ap, subst, ◌∙◌}
 use mathlib.Core.Bool.{Bool, true, false, cond, ◌&&◌, ◌||◌}
-use mathlib.Core.List.{List, [], ◌∷◌, ◌++◌}
-use Prim.Native.Nat.{ℕ, zero, suc, ◌+◌, ◌*◌, ◌-◌, ◌/◌, ◌≤◌, ◌<◌}
+use mathlib.Core.List.{List, ◌∷◌}
+use Prim.Native.Nat.{ℕ, zero, suc, ◌+◌, ◌*◌, ◌-◌, ◌≤◌, ◌<◌}
 use native.Mathlib.Omega.{arith}
 use lib.ListN.{length, take, drop, length-append}
 use lib.Dec.{leb, ltb, eqb}
@@ -11,11 +11,11 @@ use Rattle.refusal.specs.Limits.{most_refinement}
 use Rattle.file_bytes.specs.Bytes.{said}
 use Rattle.file_mesh.specs.declared.Run.{Run}
 use Rattle.file_mesh.specs.Rules.{more, number_fits, refinement_fits, count_fits, vertex_fits, weight_fits, weights_of}
-use Rattle.file_mesh.specs.Read.{Part, no, got, and_then, asked, number, field, pairs_from, Birth, birth_from, Births, no_births, with_birth, births_read_from}
+use Rattle.file_mesh.specs.Read.{no, got, and_then, number, field, pairs_from, Birth, birth_from, Births, no_births, with_birth, births_read_from}
 use Rattle.file_mesh.proofs.Parts.{both, refused-not, same-part, then-inv, asked-inv}
 use Rattle.file_mesh_write.proofs.Sizes.{next_of, r-of, runs_on}
 use Rattle.file_mesh_read.specs.Work.{Next, one, end, next_from, pairs_in, count_in, birth_in, births_in, end_in}
-use Rattle.file_mesh_read.proofs.Records.{field-rest, pairs-rest, birth-rest, after, by-record, next-birth}
+use Rattle.file_mesh_read.proofs.Records.{field-rest, birth-rest, after, by-record, next-birth}
 
 -- ---- what a part that was read says
 
@@ -138,7 +138,7 @@ births-one : (vertices : ℕ) (run : Run) (at : ℕ) (bs : List ℕ) (b : Birth)
     BirthsAre vertices (suc b.number) (at + (14 + count_in at bs * 6)) bs l → BirthsAre vertices run.next at bs (with_birth b l)
 unfolding births_in end_in
 births-one vertices run at bs b l z t long i =
-    let on = runs_on vertices run b.number z t.number_fits in
+    let on = runs_on vertices run b.number z t.number_fits_lem in
     let r64 : b.r ≤ most_refinement = leb-true b.r most_refinement (both (leb b.r most_refinement) (eqb run.r 0 || eqb b.r run.r) (both (leb 2 b.r) (leb b.r most_refinement && (eqb run.r 0 || eqb b.r run.r)) t.refinement-fits).1).0 in
     record {
       many = suc i.many;
@@ -165,7 +165,7 @@ module _ (most vertices : ℕ) (run : Run) (at : ℕ) (bs : List ℕ) (l : Birth
       let c : b.count * 6 ≡ count_in at bs * 6 = ap (λ (x : Birth). x.count * 6) (told_is vertices run at bs b t) in
       let d : s ≡ drop on bs = w.rest ∙ ap (λ (x : ℕ). drop x bs) {x = at + 6 + (8 + b.count * 6)} {y = on} (omega arith) in
       let i = then-inv (births_read_from most vertices (more run b.number b.r) s) _ l r q in
-      let low : b.number < vertices = ltb-true b.number vertices (both (ltb b.number vertices) (eqb run.r 0 || eqb b.number run.next) t.number_fits).0 in
+      let low : b.number < vertices = ltb-true b.number vertices (both (ltb b.number vertices) (eqb run.r 0 || eqb b.number run.next) t.number_fits_lem).0 in
       let two : 2 ≤ b.r = leb-true 2 b.r (both (leb 2 b.r) (leb b.r most_refinement && (eqb run.r 0 || eqb b.r run.r)) t.refinement-fits).0 in
       let f = next_of run.r run b.number b.r in
       let g = later (more run b.number b.r) on i.x i.r (omega (arith, n.inside, w.inside)) (omega (arith, f)) (λ x. absurd (omega (arith, x, r-of run.r run b.number b.r))) (ap (births_read_from most vertices (more run b.number b.r)) (sym d) ∙ i.part) in

@@ -4,11 +4,11 @@ use mathlib.Core.List.{List, [], ◌∷◌, ◌++◌}
 use Prim.Native.Nat.{ℕ, zero, suc, ◌+◌, ◌*◌, ◌-◌, ◌≤◌, ◌<◌}
 use native.Mathlib.Nat.{le_of_eq}
 use native.Mathlib.Omega.{arith}
-use lib.ListN.{length, take, drop, set, length-append, length-drop, length-set}
+use lib.ListN.{length, take, drop, set, length-append, length-drop}
 use lib.Seq.{length-take-le}
 use Rattle.refine_pattern.proofs.Written.{Written, written_none, written_same, written-length, written-room, written-part, written-put, written-whole}
 use Rattle.file_bytes.specs.Bytes.{said}
-use Rattle.file_mesh.specs.Read.{Births, no_births, with_birth}
+use Rattle.file_mesh.specs.Read.{Births, with_birth}
 use Rattle.file_mesh_read.specs.Work.{pairs_in, count_in, birth_in, births_in, end_in, Taking}
 use Rattle.file_mesh_read.proofs.Listed.{pairs-in-long}
 

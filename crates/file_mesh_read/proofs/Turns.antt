@@ -1,19 +1,19 @@
 -- One turn of the loop over the words. Assumes nothing.
-use mathlib.Core.Path.{◌≡◌, refl, sym, ap, subst, ◌∙◌}
+use mathlib.Core.Path.{◌≡◌, refl, sym, ap, ◌∙◌}
 use mathlib.Core.Bool.{Bool, true, false, cond, ◌&&◌}
 use mathlib.Core.List.{List, [], ◌∷◌, ◌++◌}
-use Prim.Native.Nat.{ℕ, zero, suc, ◌+◌, ◌*◌, ◌-◌, ◌≤◌, ◌<◌, max}
+use Prim.Native.Nat.{ℕ, suc, ◌+◌, ◌*◌, ◌-◌, ◌≤◌, ◌<◌, max}
 use native.Mathlib.Nat.{suc-mul}
 use native.Mathlib.Numerals.{add-one}
 use native.Mathlib.Omega.{arith}
-use lib.ListN.{length, take, drop, length-drop}
+use lib.ListN.{length, drop, length-drop}
 use lib.Seq.{drop-drop}
 use lib.Dec.{leb, ltb, eqb}
 use borrow.Author.Tests.{ltb-false}
 use Rattle.file_bytes.specs.Bytes.{fours_of}
 use Rattle.file_mesh.specs.Mesh.{past}
 use Rattle.file_mesh.specs.Rules.{follows}
-use Rattle.file_mesh.specs.Read.{Part, no, got, and_then, asked, number, field, numbers, Opening, opening_from, word_from, words_from}
+use Rattle.file_mesh.specs.Read.{Part, no, got, and_then, number, field, numbers, Opening, opening_from, word_from, words_from}
 use Rattle.file_mesh.proofs.Parts.{refused-not, same-part, then-inv, asked-inv}
 use Rattle.file_mesh_read.specs.declared.Worded.{Worded}
 use Rattle.file_mesh_read.specs.declared.Worded.TheVariants as Worded

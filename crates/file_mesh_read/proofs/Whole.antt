@@ -1,16 +1,16 @@
 -- The whole file: its header, its words, and its births. Assumes nothing.
-use mathlib.Core.Path.{◌≡◌, refl, sym, ap, subst, ◌∙◌}
-use mathlib.Core.Bool.{Bool, true, false, ◌&&◌}
-use mathlib.Core.List.{List, [], ◌∷◌, ◌++◌}
-use Prim.Native.Nat.{ℕ, zero, suc, ◌+◌, ◌*◌, ◌-◌, ◌/◌, ◌≤◌, ◌<◌}
+use mathlib.Core.Path.{◌≡◌, refl, sym, ap, ◌∙◌}
+use mathlib.Core.Bool.{◌&&◌}
+use mathlib.Core.List.{List, []}
+use Prim.Native.Nat.{ℕ, zero, suc, ◌+◌, ◌*◌, ◌-◌, ◌/◌, ◌≤◌}
 use native.Mathlib.Nat.{suc-mul, div-eq_of_eq-mul_left}
 use native.Mathlib.Omega.{arith}
-use lib.ListN.{length, take, drop, length-append}
+use lib.ListN.{length, drop, length-append}
 use lib.Dec.{eqb}
 use Rattle.file_bytes.proofs.Laws.{fours_of-length}
 use Rattle.file_mesh.specs.Mesh.{Mesh, past}
 use Rattle.file_mesh.specs.Rules.{no_birth}
-use Rattle.file_mesh.specs.Read.{Part, no, got, and_then, asked, number, opening_from, Header, header_from, word_from, words_from, Births, births_read_from, read_file}
+use Rattle.file_mesh.specs.Read.{Part, no, got, and_then, number, opening_from, Header, header_from, word_from, words_from, Births, births_read_from, read_file}
 use Rattle.file_mesh.proofs.Parts.{same-part, then-inv, asked-inv}
 use Rattle.file_mesh_read.specs.declared.Headed.{Headed}
 use Rattle.file_mesh_read.specs.declared.Headed.TheVariants as Headed

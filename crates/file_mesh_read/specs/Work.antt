@@ -1,10 +1,9 @@
 -- What the inner functions answer, as the definitions of reading have it. Assumes nothing.
-use Rattle.std.specs.Prelude.{Bool, true, false, cond, ◌&&◌, List, [], ◌∷◌, ◌++◌, ◌≡◌, ℕ, zero, suc, ◌+◌, ◌*◌, ◌-◌, ◌/◌, ◌%◌, ◌<◌, ◌≤◌, length, take, drop, leb, eqb}
+use Rattle.std.specs.Prelude.{cond, ◌&&◌, List, [], ◌∷◌, ◌++◌, ◌≡◌, ℕ, zero, suc, ◌+◌, ◌*◌, ◌-◌, ◌/◌, ◌%◌, ◌<◌, ◌≤◌, length, take, drop, leb, eqb}
 use Rattle.file_bytes.specs.Bytes.{said, fours_of}
 use Rattle.file_mesh.specs.declared.Run.{Run}
 use Rattle.file_mesh.specs.Mesh.{Mesh, past}
 use Rattle.file_mesh.specs.Rules.{run_ends, weights_of}
-use Rattle.refusal.specs.Table.{bad_file}
 use Rattle.file_mesh.specs.Read.{Part, no, got, and_then, asked, Opening, opening_from, Header, Birth, birth_from, Births, no_births, with_birth, nothing}
 use Rattle.refusal.specs.Lent.{onto}
 use Rattle.complex.specs.Cells.{cells_of}

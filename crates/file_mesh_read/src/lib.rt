@@ -1,6 +1,8 @@
 // Reads a mesh file: its bytes as they come (20, 21, 22), the checks of its cell list, its working room, 7, and then its lists. The port added it.
 //
 // Every function over the bytes takes them whole, and the place where its part begins. A part that is refused answers the refusal's number.
+#![tactic(auto)]
+
 ghost use Rattle.std.specs.Prelude.{◌≡◌, [], ℕ, ◌+◌, ◌*◌, ◌-◌, ◌<◌, ◌≤◌, max, length, drop, eqb};
 ghost use Rattle.refusal.specs.Limits.{most_dimension, row_most};
 ghost use Rattle.multiindex.specs.Sort.{sort_word};
@@ -23,35 +25,35 @@ use refusal::{
 const DIMENSIONS: usize = MOST_DIMENSION as usize;
 
 // What reading a mesh file says: the mesh's dimension and how many cells, births and pairs it has.
-#[derive(Drop)]
+#[derive(Clone, Copy)]
 pub enum Reading {
     Read(u32, u32, u32, u32),
     Refused(u32, u32),
 }
 
 // A record's length and kind.
-#[derive(Drop)]
+#[derive(Clone, Copy)]
 enum Opened {
     No(u32),
     Of(u32, u32),
 }
 
 // The dimension and the number of cells.
-#[derive(Drop)]
+#[derive(Clone, Copy)]
 enum Headed {
     No(u32),
     Of(u32, u32),
 }
 
 // One past the last vertex of the words.
-#[derive(Drop)]
+#[derive(Clone, Copy)]
 enum Worded {
     No(u32),
     Past(usize),
 }
 
 // A birth's number, R and count of pairs, or the end of the file.
-#[derive(Drop)]
+#[derive(Clone, Copy)]
 enum Born {
     No(u32),
     Of(u32, u32, u32),
@@ -59,14 +61,14 @@ enum Born {
 }
 
 // How many births and pairs a file has.
-#[derive(Drop)]
+#[derive(Clone, Copy)]
 enum Counts {
     No(u32),
     Of(usize, usize),
 }
 
 // The dimension, and how many cells, births and pairs a file has.
-#[derive(Drop)]
+#[derive(Clone, Copy)]
 enum Scanned {
     No(u32),
     Of(u32, u32, usize, usize),

@@ -1,19 +1,19 @@
 -- The bytes of a record, written part by part. Assumes nothing.
 use mathlib.Core.Path.{◌≡◌, refl, sym, ap, subst, ◌∙◌}
 use mathlib.Core.List.{List, [], ◌∷◌, ◌++◌, append_assoc, append-nil}
-use Prim.Native.Nat.{ℕ, zero, suc, ◌+◌, ◌*◌, ◌-◌, ◌/◌, ◌≤◌, ◌<◌}
+use Prim.Native.Nat.{ℕ, zero, suc, ◌+◌, ◌*◌, ◌-◌, ◌≤◌, ◌<◌}
 use native.Mathlib.Nat.{suc-mul}
 use native.Mathlib.Numerals.{add-one}
 use native.Mathlib.Omega.{arith}
-use lib.ListN.{length, take, drop, get_or, length-append, length-drop}
-use lib.Seq.{drop-cons, drop-drop, length-take-le}
+use lib.ListN.{length, take, drop, get_or, length-append}
+use lib.Seq.{drop-cons, drop-drop}
 use Rattle.refusal.specs.Lent.{onto}
 use Rattle.refine_pattern.proofs.Written.{Written, written-end}
 use Rattle.file_bytes.specs.Bytes.{little, fours}
 use Rattle.file_bytes.proofs.Laws.{little-length, fours-length}
 use Rattle.file_bytes.proofs.Steps.{written-front, tail_more}
-use Rattle.file_mesh.specs.File.{record_of, header_of, word_of, words_of, pairs_of, birth_of, births_of, end_of, file_of}
-use Rattle.file_mesh.proofs.Written.{pairs-long, body_of, body-long}
+use Rattle.file_mesh.specs.File.{record_of, header_of, word_of, words_of, pairs_of, birth_of, end_of}
+use Rattle.file_mesh.proofs.Written.{body_of, body-long}
 
 -- x stands at the front, and y was written after it
 pub onto-more : (x y to t ys : List ℕ) (k m : ℕ) → length x ≡ k → k + length y ≤ length to → t ≡ onto x to → length t ≤ k + m → ys ≡ onto y (take m (drop k t)) →

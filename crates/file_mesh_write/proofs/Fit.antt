@@ -1,21 +1,21 @@
 -- One turn of each loop that tests a rule. Assumes nothing.
-use mathlib.Core.Path.{◌≡◌, refl, sym, ap, subst, ◌∙◌}
-use mathlib.Core.Bool.{Bool, true, false, ◌&&◌, ◌||◌}
-use mathlib.Core.List.{List, [], ◌∷◌, ◌++◌}
+use mathlib.Core.Path.{◌≡◌, refl, sym, ap, ◌∙◌}
+use mathlib.Core.Bool.{Bool, true, false, ◌&&◌}
+use mathlib.Core.List.{List, [], ◌∷◌}
 use Prim.Native.Nat.{ℕ, zero, suc, ◌+◌, ◌*◌, ◌-◌, ◌/◌, ◌≤◌, ◌<◌, max}
 use native.Mathlib.Nat.{suc-mul, mul-le-mul_right, div-add-mod'}
 use native.Mathlib.Numerals.{add-one}
 use native.Mathlib.Omega.{arith}
 use lib.ListN.{length, take, drop, get_or, length-drop, drop_of_length-le}
 use lib.Seq.{drop-cons, drop-drop, length-take-le, take_all}
-use lib.Dec.{leb, ltb, eqb}
-use borrow.Author.Tests.{ltb-true, leb-true, eqb-true, eqb-false, lt-ltb, le-ltb, le-leb, lt-leb, eq-eqb, ne_eqb}
+use lib.Dec.{eqb}
+use borrow.Author.Tests.{eqb-true, eqb-false, lt-ltb, le-ltb, le-leb, lt-leb, eq-eqb, ne_eqb}
 use Rattle.refusal.specs.Limits.{most_dimension}
 use Rattle.multiindex.specs.Sort.{sort_word}
 use Rattle.complex.specs.Cells.{comes_before}
 use Rattle.file_mesh.specs.declared.Run.{Run}
 use Rattle.file_mesh.specs.Mesh.{past}
-use Rattle.file_mesh.specs.Rules.{more, follows, rise, number_fits, refinement_fits, count_fits, vertex_fits, weight_fits, run_ends, pairs_fit, weights_of, birth_fits, births_fit}
+use Rattle.file_mesh.specs.Rules.{more, follows, rise, number_fits, refinement_fits, count_fits, run_ends, pairs_fit, weights_of, birth_fits, births_fit}
 use Rattle.file_mesh_write.proofs.Bytes.{two, three}
 
 and-false : (a : Bool) → (a && false) ≡ false

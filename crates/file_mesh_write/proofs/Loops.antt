@@ -1,10 +1,10 @@
 -- The loops that write: what stands written, and one turn of each. Assumes nothing.
-use mathlib.Core.Path.{◌≡◌, refl, sym, ap, subst, ◌∙◌}
+use mathlib.Core.Path.{◌≡◌, refl, ap, subst, ◌∙◌}
 use mathlib.Core.List.{List, [], ◌∷◌, ◌++◌}
-use Prim.Native.Nat.{ℕ, zero, suc, ◌+◌, ◌*◌, ◌-◌, ◌/◌, ◌≤◌, ◌<◌}
+use Prim.Native.Nat.{ℕ, suc, ◌+◌, ◌*◌, ◌-◌, ◌/◌, ◌≤◌, ◌<◌}
 use native.Mathlib.Nat.{suc-mul, mul-le-mul_right}
 use native.Mathlib.Omega.{arith}
-use lib.ListN.{length, take, drop, get_or, length-append, length-drop, drop_of_length-le}
+use lib.ListN.{length, take, drop, get_or, length-drop, drop_of_length-le}
 use lib.Seq.{drop-drop, length-take-le}
 use Rattle.refusal.specs.Limits.{most_dimension, most_refinement}
 use Rattle.refusal.specs.Lent.{onto}
@@ -15,7 +15,7 @@ use Rattle.file_mesh.specs.File.{word_of, words_of, pairs_of, birth_of, births_o
 use Rattle.file_mesh.proofs.Written.{pairs-long}
 use Rattle.file_mesh_write.specs.Work.{Whole}
 use Rattle.file_mesh_write.proofs.Bytes.{opening-long, word_long, birth-long, three, pairs_next, pairs-none, words-next, words-none}
-use Rattle.file_mesh_write.proofs.Fit.{part, word_end, count_fits_lem}
+use Rattle.file_mesh_write.proofs.Fit.{part, count_fits_lem}
 
 -- ---- pairs
 

@@ -1,24 +1,23 @@
 -- How long a file is, and that the lists of a mesh that keeps the rules are whole. Assumes nothing.
-use mathlib.Core.Path.{◌≡◌, refl, sym, ap, subst, ◌∙◌}
+use mathlib.Core.Path.{◌≡◌, refl, ap, subst, ◌∙◌}
 use mathlib.Core.Bool.{Bool, true, false, ◌&&◌, ◌||◌, false≢true}
 use mathlib.Core.List.{List, [], ◌∷◌, ◌++◌, append_assoc}
-use mathlib.Core.Logic.{⊎_elim}
-use Prim.Native.Nat.{ℕ, zero, suc, ◌+◌, ◌*◌, ◌-◌, ◌/◌, ◌%◌, ◌≤◌, ◌<◌, max, min}
-use native.Mathlib.Nat.{suc-mul, mul-le-mul, div-add-mod'}
+use Prim.Native.Nat.{ℕ, zero, suc, ◌+◌, ◌*◌, ◌-◌, ◌/◌, ◌≤◌, ◌<◌}
+use native.Mathlib.Nat.{suc-mul, mul-le-mul}
 use native.Mathlib.Omega.{arith}
 use lib.ListN.{length, take, drop, length-append, length-drop, length-take}
 use lib.Seq.{length-take-le}
 use lib.Dec.{leb, ltb, eqb}
-use borrow.Author.Tests.{ltb-true, leb-true, eqb-true}
+use borrow.Author.Tests.{leb-true, eqb-true}
 use Rattle.refusal.specs.Limits.{most_dimension, most_cells, most_refinement}
 use Rattle.lists.specs.Words.{largest_of}
 use Rattle.complex.specs.Check.{Passed}
 use Rattle.file_mesh.specs.declared.Run.{Run}
 use Rattle.file_mesh.specs.Mesh.{Mesh, past}
-use Rattle.file_mesh.specs.Rules.{no_birth, more, begun, rise, number_fits, refinement_fits, count_fits, run_ends, birth_fits, births_fit, weights_of, rules}
+use Rattle.file_mesh.specs.Rules.{no_birth, more, begun, rise, number_fits, birth_fits, births_fit, rules}
 use Rattle.file_mesh.specs.File.{header_of, word_of, words_of, birth_of, births_of, end_of, file_of}
 use Rattle.file_mesh.proofs.Parts.{both}
-use Rattle.file_mesh.proofs.Written.{Fits, fits-of, number-low, refinement-small, pairs-heavy}
+use Rattle.file_mesh.proofs.Written.{fits-of, number-low, refinement-small, pairs-heavy}
 use Rattle.file_mesh_write.specs.Work.{Whole}
 use Rattle.file_mesh_write.proofs.Bytes.{header-long, word_long, birth-long, end-long}
 use Rattle.file_mesh_write.proofs.Fit.{count_fits_lem}

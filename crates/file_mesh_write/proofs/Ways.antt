@@ -1,7 +1,7 @@
 -- The file written part by part, and the ways out of the call. Assumes nothing.
 use mathlib.Core.Path.{◌≡◌, refl, sym, ap, subst, ◌∙◌}
 use mathlib.Core.Bool.{true, false}
-use mathlib.Core.List.{List, [], ◌∷◌, ◌++◌}
+use mathlib.Core.List.{List, [], ◌++◌}
 use Prim.Native.Nat.{ℕ, ◌+◌, ◌*◌, ◌-◌, ◌/◌, ◌≤◌, ◌<◌}
 use native.Mathlib.Omega.{arith}
 use lib.ListN.{length, take, drop, length-append, length-drop}
@@ -12,14 +12,13 @@ use Rattle.refusal.specs.declared.Counted.{Counted}
 use Rattle.refusal.specs.declared.Counted.TheVariants.{Count, Refused}
 use Rattle.refusal.specs.declared.Room.{Room}
 use Rattle.refusal.specs.Table.{too_short}
-use Rattle.refusal.specs.Lent.{onto, lengths, Roomy, Cleared}
+use Rattle.refusal.specs.Lent.{onto, lengths}
 use Rattle.refusal.specs.Call.{Comes, refused, cramped, ended}
 use Rattle.complex.specs.Check.{answer_of, Passed}
 use Rattle.complex.proofs.Fine.{fine-passed}
 use Rattle.complex.specs.Cells.{cells_of}
-use Rattle.complex.specs.Facets.{Crowded}
 use Rattle.complex.specs.Room.{need_of}
-use Rattle.skeleton.specs.Promise.{Ends, Call}
+use Rattle.skeleton.specs.Promise.{Ends}
 use Rattle.skeleton.specs.Promise as Skeleton
 use Rattle.complex_sound.specs.Promise.{Facets, crowded, free, Checked}
 use Rattle.file_bytes.specs.Bytes.{little}

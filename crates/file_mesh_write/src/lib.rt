@@ -1,6 +1,8 @@
 // Writes a mesh as a file: the checks of its cell list, its working room, 7, the rules of a mesh file, and then the bytes, record by record. The port added it.
 //
 // A function that writes begins at the start of the list that it is lent, and leaves what comes after its own bytes.
+#![tactic(auto)]
+
 ghost use Rattle.std.specs.Prelude.{◌≡◌, [], ◌++◌, true, ◌&&◌, ◌+◌, ◌*◌, ◌/◌, ◌<◌, ◌≤◌, length, eqb};
 ghost use Rattle.refusal.specs.Limits.{most_dimension, most_refinement, row_most, many_corners};
 ghost use Rattle.refusal.specs.Lent.{onto};

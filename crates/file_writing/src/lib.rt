@@ -3,6 +3,8 @@
 //
 // Every call takes a place and says the next one. What falls past the list's end is counted and not stored, so the calls that write a file also measure it: lent an
 // empty list, they only say where the file would end.
+#![tactic(auto)]
+
 ghost use Rattle.std.specs.Prelude.{[], ◌∷◌, ◌+◌, ◌*◌, ◌<◌, ◌≤◌, length};
 ghost use Rattle.text.specs.Decimal.{digits_down, decimal};
 ghost use Rattle.file_writing.specs.Wrote.{farthest, Wrote};

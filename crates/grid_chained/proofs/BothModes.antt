@@ -1,12 +1,12 @@
 -- Where no axis with a non-empty set is itself reflected, both modes make the same classes: a renaming leads from each vertex of the first mode to a class, and back. Assumes nothing.
 use mathlib.Core.Path.{◌≡◌, refl, sym, ap, subst, ◌∙◌}
 use mathlib.Core.Bool.{Bool, true, false, cond, false≢true}
-use mathlib.Core.Logic.{◌⊎◌, ◌↔◌, inl, inr, ⊎_elim}
-use Prim.Native.Nat.{ℕ, zero, suc, ◌+◌, ◌≤◌, ◌<◌}
+use mathlib.Core.Logic.{◌⊎◌, ⊎_elim}
+use Prim.Native.Nat.{ℕ, zero, suc, ◌≤◌, ◌<◌}
 use native.Mathlib.Nat.{not-suc-le-zero}
 use native.Mathlib.Omega.{arith}
 use lib.Dec.{eqb}
-use borrow.Author.Tests.{eqb-true, eqb-false, eq-eqb, ne_eqb}
+use borrow.Author.Tests.{eqb-true, eqb-false, eq-eqb}
 use Rattle.refusal.specs.declared.Answer.TheVariants.{Fine}
 use Rattle.quotient.specs.declared.Grid.{Grid}
 use Rattle.lists.specs.Words.{first_where}
@@ -14,7 +14,7 @@ use Rattle.lists.proofs.Words.{first-full, first_found}
 use Rattle.quotient.specs.Shape.{vertices_of, check_of}
 use Rattle.quotient.specs.Reduce.{vertex_of}
 use Rattle.quotient.specs.Points.{points_of}
-use Rattle.quotient.specs.Chain.{Joined, Untangled}
+use Rattle.quotient.specs.Chain.{Untangled}
 use Rattle.quotient.proofs.Laws.{lt-or-ge, lt-or-eq}
 use Rattle.quotient.proofs.Onto.{vertex-lt, onto}
 use Rattle.quotient.proofs.Chain.{chain-law}

@@ -7,9 +7,8 @@ use Prim.Native.Nat.{ℕ, zero, suc, ◌+◌, ◌*◌, ◌≤◌, ◌<◌}
 use native.Mathlib.Nat.{mul_comm, mul_assoc, mul-suc, mul-le-mul_left, mul-le-mul_right, le_trans, le_refl, not-suc-le-zero}
 use native.Mathlib.Omega.{arith}
 use lib.Dec.{ltb}
-use borrow.Author.Tests.{eq-eqb, ltb-false, le-ltb}
-use Rattle.refusal.specs.declared.Answer.{Answer}
-use Rattle.refusal.specs.declared.Answer.TheVariants.{Fine, Refused}
+use borrow.Author.Tests.{eq-eqb, le-ltb}
+use Rattle.refusal.specs.declared.Answer.TheVariants.{Fine}
 use Rattle.refusal.specs.Refuse.{refuse}
 use Rattle.refusal.specs.Table.{bad_dimension, too_many_cells, too_many_vertices, short_axis_number, bad_reflection_number}
 use Rattle.refusal.specs.Limits.{most_dimension, most_cells, most_vertices}
@@ -18,9 +17,9 @@ use Rattle.quotient.specs.Fold.{product, count}
 use Rattle.quotient.specs.Shape.{cells_on, closed_at, glued_on, points_on, bad_reflection, short_axis, cell_count, vertices_of, check_of}
 use Rattle.quotient.specs.Points.{points_of}
 use Rattle.quotient.specs.Chain.{Step, Joined, same, on, back, Untangled}
-use Rattle.quotient.proofs.Laws.{lt-or-eq, lt-or-ge}
+use Rattle.quotient.proofs.Laws.{lt-or-eq}
 use Rattle.grid_chained.specs.Classing.{Least, Classing}
-use Rattle.grid_chained.specs.Shape.{shape_of, need_of}
+use Rattle.grid_chained.specs.Shape.{shape_of}
 use Rattle.grid_chained.specs.WorkNumber.{leads, class_by}
 use Rattle.grid_chained.proofs.Taken.{some-cell, few_cells, points-part, regroup}
 use Rattle.grid_chained.proofs.Unique.{classing-one}

@@ -7,7 +7,6 @@ use lib.ListN.{length}
 use lib.Seq.{ext_get_or}
 use Rattle.refusal.specs.declared.Counted.{Counted}
 use Rattle.refusal.specs.declared.Counted.TheVariants as Counted
-use Rattle.refusal.specs.Limits.{most_vertices}
 use Rattle.refusal.specs.Lent.{onto, zeroed}
 use Rattle.refusal.specs.Call.{Call}
 use Rattle.refusal.proofs.Determined.{call-one}

@@ -11,8 +11,8 @@ use Rattle.refusal.specs.declared.Counted.{Counted}
 use Rattle.refusal.specs.declared.Counted.TheVariants as Counted
 use Rattle.refusal.specs.Table.{too_many_vertices, too_short}
 use Rattle.refusal.specs.Limits.{most_vertices}
-use Rattle.refusal.specs.Lent.{onto, zeroed}
-use Rattle.refusal.specs.Call.{Call, refused, cramped, ended}
+use Rattle.refusal.specs.Lent.{zeroed}
+use Rattle.refusal.specs.Call.{refused, cramped, ended}
 use Rattle.quotient.specs.declared.Grid.{Grid}
 use Rattle.quotient.specs.Points.{points_of}
 use Rattle.quotient.specs.Reduce.{no_vertex}
@@ -20,11 +20,11 @@ use Rattle.grid_chained.specs.declared.Classed.{Classed}
 use Rattle.grid_chained.specs.declared.Classed.TheVariants as Classed
 use Rattle.grid_chained.specs.Shape.{shape_of, need_of}
 use Rattle.grid_chained.specs.Classing.{at, Classes}
-use Rattle.grid_chained.specs.PromiseClasses.{ClassesEnd, ClassesListed}
+use Rattle.grid_chained.specs.PromiseClasses.{ClassesListed}
 use Rattle.grid_chained.specs.PromiseClasses as Listing
 use Rattle.grid_chained.specs.PromiseReduce.{ReduceEnd, ReducedTo}
 use Rattle.grid_chained.specs.PromiseReduce as Reducing
-use Rattle.grid_chained.specs.PromiseCount.{CountEnd, CountedTo}
+use Rattle.grid_chained.specs.PromiseCount.{CountedTo}
 use Rattle.grid_chained.specs.PromiseCount as Counting
 use Rattle.grid_chained.specs.Work.{Pointwise, Working, Worked, Looked}
 use Rattle.quotient.proofs.Laws.{lt-or-ge}

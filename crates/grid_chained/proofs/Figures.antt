@@ -3,10 +3,9 @@ use mathlib.Core.Path.{◌≡◌, refl}
 use mathlib.Core.List.{List, [], ◌∷◌, map}
 use Prim.Native.Nat.{ℕ}
 use Rattle.grid_sides.specs.declared.Sides.{Sides}
-use Rattle.refusal.specs.declared.Answer.{Answer}
 use Rattle.refusal.specs.declared.Answer.TheVariants.{Fine, Refused}
 use Rattle.quotient.specs.declared.Glue.{Glue}
-use Rattle.quotient.specs.declared.Glue.TheVariants.{Open, Periodic, Twisted}
+use Rattle.quotient.specs.declared.Glue.TheVariants.{Open, Twisted}
 use Rattle.quotient.specs.declared.Axis.{Axis}
 use Rattle.quotient.specs.declared.Grid.{Grid}
 use Rattle.lists.specs.Words.{found_at, first_where}

@@ -6,15 +6,14 @@ use mathlib.Core.List.{List, [], ◌∷◌}
 use Prim.Native.Nat.{ℕ, zero, suc, ◌+◌, ◌≤◌, ◌<◌}
 use native.Mathlib.Nat.{not-suc-le-zero, le_of_suc-le-suc}
 use native.Mathlib.Omega.{arith}
-use lib.ListN.{length, get_or, set, length-set}
+use lib.ListN.{length, set, length-set}
 use lib.Seq.{get_or-set_same, get_or-set_other}
 use Rattle.quotient.specs.declared.Grid.{Grid}
 use Rattle.quotient.specs.Reduce.{wrapped_at}
 use Rattle.quotient.specs.Points.{points_of, point_of}
 use Rattle.quotient.specs.Chain.{stepped_to, Step, Joined, same, on, back}
-use Rattle.quotient.proofs.Laws.{lt-or-ge, lt-or-eq}
+use Rattle.quotient.proofs.Laws.{lt-or-ge}
 use Rattle.quotient.proofs.Chain.{joined-trans, joined-sym}
-use Rattle.grid_chained.specs.Classing.{Least}
 use Rattle.grid_chained.specs.Classing.{at}
 use Rattle.grid_chained.specs.WorkNumber.{Labelled}
 use Rattle.grid_chained.specs.WorkLevel.{total, Marked, Levelled, second, first, level, Even, Pass}

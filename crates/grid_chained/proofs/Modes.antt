@@ -1,9 +1,8 @@
 -- The laws of both modes and of the square, over the calls. Assumes nothing.
 use mathlib.Core.List.{List, []}
-use mathlib.Core.Bool.{Bool, true, false, cond, false≢true}
-use mathlib.Core.Logic.{⊎_elim}
-use mathlib.Core.Path.{◌≡◌, refl, sym, ap, subst, ◌∙◌}
-use Prim.Native.Nat.{ℕ, zero, suc, ◌+◌, ◌*◌, ◌<◌, ◌≤◌}
+use mathlib.Core.Bool.{Bool, true, false}
+use mathlib.Core.Path.{◌≡◌, refl, sym, ap, ◌∙◌}
+use Prim.Native.Nat.{ℕ, suc, ◌+◌, ◌*◌, ◌<◌, ◌≤◌}
 use native.Mathlib.Nat.{one-mul}
 use native.Mathlib.Omega.{arith}
 use lib.Dec.{ltb}
@@ -23,20 +22,19 @@ use Rattle.quotient.specs.declared.Crossing.{Crossing}
 use Rattle.quotient.specs.declared.Reduced.{Reduced}
 use Rattle.quotient.specs.declared.Reduced.TheVariants as Reduced
 use Rattle.quotient.specs.Fold.{product, factorial}
-use Rattle.quotient.specs.Shape.{axis_of, cells_on, bad_reflection, short_axis, cell_count, vertices_of, check_of, nvertices_of, counted_after}
+use Rattle.quotient.specs.Shape.{cells_on, bad_reflection, short_axis, cell_count, vertices_of, check_of, nvertices_of, counted_after}
 use Rattle.quotient.specs.Reduce.{vertex_of, crossing_of, reduced_after, reduce_of}
 use Rattle.quotient.specs.Points.{points_of}
 use Rattle.quotient.specs.Chain.{Untangled}
-use Rattle.quotient.proofs.Laws.{lt-or-ge}
 use Rattle.grid_chained.specs.declared.Classed.{Classed}
 use Rattle.grid_chained.specs.declared.Classed.TheVariants as Classed
-use Rattle.grid_chained.specs.Classing.{Classing, at, Classes}
+use Rattle.grid_chained.specs.Classing.{at}
 use Rattle.grid_chained.specs.Shape.{shape_of, need_of}
 use Rattle.grid_chained.specs.PromiseReduce.{ReduceEnd, ReducedTo}
 use Rattle.grid_chained.specs.PromiseReduce as Reducing
 use Rattle.grid_chained.specs.PromiseCount.{CountEnd, CountedTo}
 use Rattle.grid_chained.specs.PromiseCount as Counting
-use Rattle.grid_chained.specs.Laws.{Renamed, BothModes, BothModesLaw, Square, SquareLaw}
+use Rattle.grid_chained.specs.Laws.{BothModesLaw, Square, SquareLaw}
 use Rattle.grid_chained.proofs.Taken.{some-cell, few_cells}
 use Rattle.grid_chained.proofs.Unique.{classing-one}
 use Rattle.grid_chained.proofs.There.{class_of, class_count, class-numbers}

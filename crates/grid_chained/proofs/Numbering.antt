@@ -1,21 +1,20 @@
 -- Counting the least points before a class's own numbers the classes in the order of their least points. Assumes nothing.
 use mathlib.Core.Path.{◌≡◌, refl, sym, ap, subst, ◌∙◌}
-use mathlib.Core.Bool.{Bool, true, false, cond, false≢true}
-use mathlib.Core.Logic.{◌⊎◌, ◌↔◌, inl, inr, ⊎_elim}
+use mathlib.Core.Bool.{Bool, true, false}
+use mathlib.Core.Logic.{◌⊎◌, ⊎_elim}
 use mathlib.Core.List.{List}
 use Prim.Native.Nat.{ℕ, zero, suc, ◌+◌, ◌≤◌, ◌<◌}
-use native.Mathlib.Nat.{not-suc-le-zero, le_refl, le_antisymm}
+use native.Mathlib.Nat.{not-suc-le-zero, le_refl}
 use native.Mathlib.Omega.{arith}
 use native.Mathlib.Numerals.{add-one}
 use lib.ListN.{length, set, length-set}
 use lib.Seq.{get_or-set_same, get_or-set_other}
-use lib.Dec.{eqb}
 use borrow.Author.Tests.{eqb-true, eq-eqb, ne_eqb}
 use Rattle.quotient.specs.declared.Grid.{Grid}
 use Rattle.quotient.specs.Fold.{count}
 use Rattle.quotient.specs.Points.{points_of}
 use Rattle.quotient.specs.Chain.{Joined, same}
-use Rattle.quotient.proofs.Laws.{lt-or-eq, lt-or-ge}
+use Rattle.quotient.proofs.Laws.{lt-or-ge}
 use Rattle.quotient.proofs.Chain.{joined-trans, joined-sym}
 use Rattle.grid_chained.specs.Classing.{Least, Classing}
 use Rattle.grid_chained.specs.WorkNumber.{leads, class_by, Labelled, Leading, Numbered}

@@ -1,26 +1,26 @@
 -- Two points are joined exactly if one is the other turned along a choice of the axes at whose ends it lies; so the least point of a class is found by trying each choice. Assumes nothing.
-use mathlib.Core.Path.{◌≡◌, refl, sym, ap, subst, ◌∙◌}
-use mathlib.Core.Bool.{Bool, true, false, cond, ◌&&◌, ◌||◌, not, false≢true}
+use mathlib.Core.Path.{◌≡◌, refl, sym, subst, ◌∙◌}
+use mathlib.Core.Bool.{Bool, true, false, cond, ◌&&◌, false≢true}
 use mathlib.Core.Logic.{◌⊎◌, ◌↔◌, inl, inr, ⊎_elim}
 use Prim.Native.Nat.{ℕ, zero, suc, ◌-◌, ◌≤◌, ◌<◌, min}
-use native.Mathlib.Nat.{le_refl, le_trans}
+use native.Mathlib.Nat.{le_refl}
 use native.Mathlib.Omega.{arith}
 use lib.Dec.{eqb}
-use borrow.Author.Tests.{eqb-true, eqb-false, eq-eqb, ne_eqb}
+use borrow.Author.Tests.{eqb-true, eq-eqb}
 use Rattle.quotient.specs.declared.Grid.{Grid}
 use Rattle.quotient.specs.Fold.{member}
 use Rattle.quotient.specs.Shape.{cells_on, closed_at, mask_at}
 use Rattle.quotient.specs.Reduce.{coord_at}
-use Rattle.quotient.specs.Points.{points_of, point_of}
+use Rattle.quotient.specs.Points.{points_of}
 use Rattle.quotient.specs.Chain.{stepped_to, Step, Joined, same, on, back}
-use Rattle.quotient.proofs.Laws.{lt-or-eq, lt-or-ge}
+use Rattle.quotient.proofs.Laws.{lt-or-ge}
 use Rattle.quotient.proofs.Points.{coord-le}
-use Rattle.quotient.proofs.Radix.{point-lt, coord-of-point, point-one}
-use Rattle.quotient.proofs.Chain.{joined-trans, joined-sym}
+use Rattle.quotient.proofs.Radix.{point-one}
+use Rattle.quotient.proofs.Chain.{joined-trans}
 use Rattle.grid_chained.specs.Classing.{Least}
 use Rattle.grid_chained.specs.WorkTurn.{end_at, turns_at, turn, across_of, least_below}
 use Rattle.grid_chained.proofs.Turns.{sum_at, least_of}
-use Rattle.grid_chained.proofs.Turns.{turn_twice, turn-le, is_end, end_of, of_end, across_lt, across-coord, across-end, sum-le, sum-end, sum-across, toggled, sum-toggled}
+use Rattle.grid_chained.proofs.Turns.{turn_twice, is_end, end_of, of_end, across_lt, across-coord, sum-end, sum-across, toggled, sum-toggled}
 
 and_left : (a b : Bool) → a && b ≡ true → a ≡ true
 and_left true b e = refl

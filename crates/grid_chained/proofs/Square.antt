@@ -1,25 +1,23 @@
 -- A square of n by n cells whose two axes are twisted over each other, which is a projective plane: n·n + 1 classes. Its border points are glued to the opposite ones, so
 -- the least points and their opposites cover the square once, and its inside twice. Assumes nothing.
 use mathlib.Core.Path.{◌≡◌, refl, sym, ap, subst, ◌∙◌}
-use mathlib.Core.Bool.{Bool, true, false, cond, ◌&&◌, ◌||◌, not, false≢true}
+use mathlib.Core.Bool.{Bool, true, false, cond, ◌&&◌, ◌||◌, not}
 use mathlib.Core.Logic.{◌⊎◌, inl, inr, ⊎_elim}
 use Prim.Native.Nat.{ℕ, zero, suc, ◌+◌, ◌-◌, ◌*◌, ◌≤◌, ◌<◌, min}
-use native.Mathlib.Nat.{not-suc-le-zero, one-mul, mul-add, mul-suc, suc-mul, mul-one, mul-zero, zero-mul, sub-zero, add-zero, zero-add}
+use native.Mathlib.Nat.{not-suc-le-zero, one-mul, mul-add, mul-suc, suc-mul, mul-zero, zero-mul, sub-zero, add-zero}
 use native.Mathlib.Numerals.{add-one}
 use native.Mathlib.Omega.{arith}
 use lib.Dec.{eqb}
-use borrow.Author.Tests.{eqb-true, eqb-false, eq-eqb, ne_eqb}
-use Rattle.quotient.specs.declared.Glue.{Glue}
-use Rattle.quotient.specs.declared.Glue.TheVariants.{Twisted}
+use borrow.Author.Tests.{eq-eqb, ne_eqb}
 use Rattle.quotient.specs.declared.Axis.{Axis}
 use Rattle.quotient.specs.declared.Grid.{Grid}
 use Rattle.quotient.specs.Fold.{product, count}
-use Rattle.quotient.specs.Shape.{axis_of, closed_of, cells_on, closed_at, points_on}
+use Rattle.quotient.specs.Shape.{axis_of, closed_of, cells_on, closed_at}
 use Rattle.quotient.specs.Reduce.{coord_at}
 use Rattle.quotient.specs.Points.{from_digits, points_of, point_of}
-use Rattle.quotient.proofs.Laws.{lt-or-ge, lt-or-eq}
+use Rattle.quotient.proofs.Laws.{lt-or-ge}
 use Rattle.quotient.proofs.Points.{coord-le}
-use Rattle.quotient.proofs.Radix.{point-lt, point-of-coords, coord-of-point}
+use Rattle.quotient.proofs.Radix.{point-of-coords, coord-of-point}
 use Rattle.grid_chained.specs.Classing.{Classing}
 use Rattle.grid_chained.specs.Laws.{twisted_axis}
 use Rattle.grid_chained.specs.WorkTurn.{end_at, turns_at, turn, across_of, least_below}

@@ -1,9 +1,8 @@
 -- What is known of a grid that is taken in this mode: `shape_of g ≡ Fine`. It has at most as many points as its words have corners, so all its numbers are small. Assumes nothing.
 use mathlib.Core.Path.{◌≡◌, refl, sym, ap, subst, ◌∙◌}
 use mathlib.Core.Bool.{Bool, true, false, cond}
-use mathlib.Core.Logic.{◌⊎◌, inl, inr, ⊎_elim}
 use Prim.Native.Nat.{ℕ, zero, suc, ◌+◌, ◌-◌, ◌*◌, ◌≤◌, ◌<◌}
-use native.Mathlib.Nat.{mul_comm, mul_assoc, mul-one, mul-suc, suc-mul, mul-le-mul_left, mul-le-mul_right, le_trans, le_refl}
+use native.Mathlib.Nat.{mul_comm, mul_assoc, mul-one, mul-suc, mul-le-mul_left, mul-le-mul_right, le_trans, le_refl}
 use native.Mathlib.Numerals.{add-one}
 use native.Mathlib.Omega.{arith}
 use lib.Dec.{ltb, eqb}
@@ -15,12 +14,11 @@ use Rattle.refusal.specs.Table.{bad_dimension, too_many_cells, too_many_vertices
 use Rattle.refusal.specs.Limits.{most_dimension, most_cells, most_vertices, most_corners}
 use Rattle.refusal.proofs.Chain.{refuse-fine}
 use Rattle.quotient.specs.declared.Grid.{Grid}
-use Rattle.quotient.specs.Fold.{product, factorial}
+use Rattle.quotient.specs.Fold.{product}
 use Rattle.quotient.specs.Shape.{cells_on, closed_at, closed_floor, open_floor, points_on, falls_short, bad_reflection, short_axis, cell_count, vertices_of, check_of}
 use Rattle.quotient.specs.Points.{from_digits, points_of}
 use Rattle.lists.proofs.Words.{first-full}
-use Rattle.quotient.proofs.Laws.{product-mono, product-more, product-step, place, lt-or-ge}
-use Rattle.quotient.proofs.Radix.{number_lt}
+use Rattle.quotient.proofs.Laws.{product-mono, product-more, product-step, place}
 use Rattle.grid_chained.specs.Shape.{shape_of, need_of}
 
 -- ---- the first mode's check without its last test

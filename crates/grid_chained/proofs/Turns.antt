@@ -1,22 +1,21 @@
 -- Turning a point round along an axis: a turn undoes itself, turns commute, and a turned point lies at the ends of the same axes. Assumes nothing.
 use mathlib.Core.Path.{◌≡◌, refl, sym, ap, subst, ◌∙◌}
-use mathlib.Core.Bool.{Bool, true, false, cond, ◌&&◌, ◌||◌, not, false≢true}
+use mathlib.Core.Bool.{Bool, true, false, cond, ◌&&◌, ◌||◌, not}
 use mathlib.Core.Logic.{◌⊎◌, inl, inr, ⊎_elim}
 use Prim.Native.Nat.{ℕ, zero, suc, ◌-◌, ◌≤◌, ◌<◌}
 use native.Mathlib.Nat.{not-suc-le-zero}
 use native.Mathlib.Omega.{arith}
 use lib.Dec.{eqb}
-use borrow.Author.Tests.{eqb-true, eqb-false, eq-eqb, ne_eqb}
+use borrow.Author.Tests.{eqb-true, eq-eqb, ne_eqb}
 use Rattle.quotient.specs.declared.Axis.{Axis}
 use Rattle.quotient.specs.declared.Grid.{Grid}
 use Rattle.quotient.specs.Fold.{member}
-use Rattle.quotient.specs.Shape.{axis_of, closed_of, mask_of, cells_on, closed_at, mask_at}
+use Rattle.quotient.specs.Shape.{axis_of, closed_of, mask_of, cells_on, closed_at}
 use Rattle.quotient.specs.Reduce.{coord_at}
-use Rattle.quotient.specs.Points.{points_of, point_of}
-use Rattle.quotient.specs.Chain.{stepped_to, Step, Joined, same, on, back}
+use Rattle.quotient.specs.Points.{points_of}
 use Rattle.quotient.proofs.Laws.{lt-or-eq}
 use Rattle.quotient.proofs.Points.{coord-le}
-use Rattle.quotient.proofs.Radix.{point-lt, coord-of-point, point-one}
+use Rattle.quotient.proofs.Radix.{point-lt, coord-of-point}
 use Rattle.grid_chained.specs.WorkTurn.{end_at, turns_at, turn, across_of, least_below}
 
 -- coordinate k of point p, turned once for each axis below a that is chosen, has p at an end, and turns k

@@ -1,15 +1,13 @@
 -- Classes have one numbering: two that number them in the order of their least points agree. Assumes nothing.
-use mathlib.Core.Path.{◌≡◌, refl, sym, ap, subst, ◌∙◌}
-use mathlib.Core.Logic.{◌⊎◌, ◌↔◌, inl, inr, ⊎_elim}
+use mathlib.Core.Path.{◌≡◌, sym, ap, subst, ◌∙◌}
+use mathlib.Core.Logic.{◌⊎◌, inl, inr, ⊎_elim}
 use Prim.Native.Nat.{ℕ, zero, suc, ◌≤◌, ◌<◌}
 use native.Mathlib.Nat.{not-suc-le-zero}
 use native.Mathlib.Omega.{arith}
-use native.Mathlib.Decide.{dec_lt}
 use Rattle.quotient.specs.declared.Grid.{Grid}
 use Rattle.quotient.specs.Points.{points_of}
-use Rattle.quotient.specs.Chain.{Joined, same}
+use Rattle.quotient.specs.Chain.{same}
 use Rattle.quotient.proofs.Laws.{lt-or-eq, lt-or-ge}
-use Rattle.quotient.proofs.Chain.{joined-trans, joined-sym}
 use Rattle.grid_chained.specs.Classing.{Least, Classing}
 
 -- the first place below n where c is x

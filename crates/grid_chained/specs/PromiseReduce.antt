@@ -7,7 +7,6 @@ use Rattle.refusal.specs.Call.{Call}
 use Rattle.quotient.specs.declared.Grid.{Grid}
 use Rattle.quotient.specs.Points.{points_of}
 use Rattle.quotient.specs.Reduce.{no_vertex}
-use Rattle.grid_chained.specs.declared.ClassVertex.{ClassVertex}
 use Rattle.grid_chained.specs.declared.Classed.{Classed}
 use Rattle.grid_chained.specs.declared.Classed.TheVariants.{At, Refused}
 use Rattle.grid_chained.specs.Shape.{shape_of, need_of}

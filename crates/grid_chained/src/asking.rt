@@ -7,7 +7,7 @@ use quotient::Grid;
 use quotient::reduce::NO_VERTEX;
 
 // What is found at a point: how many classes there are, and the number of its class.
-#[derive(Drop)]
+#[derive(Clone, Copy)]
 pub struct Look {
     pub count: usize,
     pub class: u32,

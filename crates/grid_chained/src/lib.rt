@@ -17,6 +17,8 @@
 //   listing  the work of the calls that hand out a list
 //   asking   the work of the calls that ask for one number
 //   calls    `classes`, `closed_classes`, `reduce`, `nvertices`
+#![tactic(auto)]
+
 pub mod asking;
 pub mod calls;
 pub mod check;
@@ -30,11 +32,11 @@ pub mod turn;
 
 // The number of a class of grid points: neither a grid vertex nor a vertex of the first mode. Only the calls of this mode lead to it, `reduce` for one point and
 // the lists for all.
-#[derive(Drop)]
+#[derive(Clone, Copy)]
 pub struct ClassVertex(pub u32);
 
 // What `reduce` says: a point's class. 4294967295 stands for a number past the last grid point, and is no class.
-#[derive(Drop)]
+#[derive(Clone, Copy)]
 pub enum Classed {
     At(ClassVertex),
     Refused(u32, u32),

@@ -12,7 +12,7 @@ use native.Mathlib.Omega.{arith}
 use lib.Dec.{ltb, eqb}
 use lib.ListN.{length, length-map}
 use lib.Arith.{digits_div, digits_mod}
-use borrow.Author.Tests.{lt-ltb, le-ltb, eq-eqb, ne_eqb}
+use borrow.Author.Tests.{lt-ltb, le-ltb, ne_eqb}
 use Rattle.grid_sides.specs.declared.Sides.{Sides}
 use Rattle.refusal.specs.declared.Counted.{Counted}
 use Rattle.refusal.specs.declared.Counted.TheVariants.{Refused}
@@ -27,10 +27,10 @@ use Rattle.lists.specs.Rows.{row}
 use Rattle.lists.proofs.Laws.{map_at}
 use Rattle.lists.proofs.Words.{first-none}
 use Rattle.lists.proofs.Members.{All, Pairs, Pairs-of}
-use Rattle.multiindex.specs.Permutation.{orders, order_of}
+use Rattle.multiindex.specs.Permutation.{order_of}
 use Rattle.multiindex.specs.Sort.{insert_by, insert, sort_word}
 use Rattle.complex.specs.Cells.{in_order}
-use Rattle.complex.specs.Facets.{cell_at, facet_at, FacetOf, Mates, Crowded}
+use Rattle.complex.specs.Facets.{cell_at, facet_at, Mates, Crowded}
 use Rattle.complex_cells.proofs.Words.{Word, Each, In, at_in}
 use Rattle.complex_cells.proofs.Order.{order-has}
 use Rattle.quotient.specs.declared.Axis.{Axis}
@@ -44,7 +44,7 @@ use Rattle.quotient.proofs.Laws.{lt-or-ge}
 use Rattle.quotient.proofs.Radix.{point-lt, coord-of-point}
 use Rattle.grid_words.proofs.Corners.{in-box, corner-rises}
 use Rattle.grid_words.proofs.Listed.{cell-length}
-use Rattle.grid_words.specs.Cells.{boxes_of, box_at, step_along, met}
+use Rattle.grid_words.specs.Cells.{box_at, step_along, met}
 use Rattle.grid_words.specs.WorkNumbered.{order_at, cell_no, corner_of}
 use Rattle.grid_words.proofs.Flat.{to-tab}
 use Rattle.grid_mesh.specs.Words.{grid_need}

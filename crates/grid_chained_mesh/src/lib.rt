@@ -6,6 +6,8 @@
 //   rows     classes    cells            mates          classes
 //   spare               first rows       first rows
 //   counts              buckets          classes of facets
+#![tactic(auto)]
+
 ghost use Rattle.std.specs.Prelude.{true, false, ◌≡◌, take};
 ghost use Rattle.refusal.specs.declared.Answer.TheVariants.{Fine};
 ghost use Rattle.lists.specs.Zero.{AllZero};

@@ -1,13 +1,13 @@
 -- The words of a grid by its classes pass the checks of a cell list except 4: they are whole, few, below the limit, and no class is left out. So the check of a cell list
 -- answers 4 at the first word that names a class twice, or nothing. Assumes nothing.
-use mathlib.Core.Path.{◌≡◌, refl, sym, ap, subst, ◌∙◌}
+use mathlib.Core.Path.{◌≡◌, sym, ap, subst, ◌∙◌}
 use mathlib.Core.Bool.{Bool, true, false, not}
-use mathlib.Core.Logic.{◌⊎◌, inl, inr, ⊎_elim}
+use mathlib.Core.Logic.{◌⊎◌, ⊎_elim}
 use mathlib.Core.List.{List, [], ◌∷◌}
-use Prim.Native.Nat.{ℕ, zero, suc, ◌+◌, ◌*◌, ◌/◌, ◌%◌, ◌≤◌, ◌<◌, max}
+use Prim.Native.Nat.{ℕ, ◌+◌, ◌/◌, ◌%◌, ◌≤◌, ◌<◌}
 use native.Mathlib.Nat.{mul-suc}
 use native.Mathlib.Omega.{arith}
-use lib.Dec.{eqb, ltb, leb}
+use lib.Dec.{eqb, ltb}
 use lib.ListN.{length, get_or}
 use borrow.Author.Tests.{ne_eqb, eq-eqb, lt-ltb, le-ltb}
 use Rattle.refusal.specs.declared.Answer.{Answer}
@@ -15,7 +15,7 @@ use Rattle.refusal.specs.declared.Answer.TheVariants.{Fine, Refused}
 use Rattle.refusal.specs.Refuse.{refuse}
 use Rattle.refusal.specs.Table.{bad_dimension, ragged_words, too_many_cells, vertex_twice}
 use Rattle.refusal.specs.Limits.{most_dimension, most_cells, most_vertices}
-use Rattle.lists.specs.Words.{among, has_repeat, largest_of}
+use Rattle.lists.specs.Words.{has_repeat, largest_of}
 use Rattle.lists.specs.Rows.{row}
 use Rattle.lists.proofs.Members.{All, All-of}
 use Rattle.complex.specs.Check.{first_repeat, answer_of, Passed}

@@ -1,10 +1,9 @@
 -- The words by number, under any numbering of the points; and no class is left out by them, so refusal 5 cannot occur. Assumes nothing.
-use mathlib.Core.Path.{◌≡◌, refl, sym, ap, subst, ◌∙◌}
+use mathlib.Core.Path.{◌≡◌, sym, ap, subst, ◌∙◌}
 use mathlib.Core.Bool.{true}
-use mathlib.Core.Logic.{◌⊎◌, inl, inr, ⊎_elim}
 use mathlib.Core.List.{List, map}
-use Prim.Native.Nat.{ℕ, zero, suc, ◌+◌, ◌-◌, ◌*◌, ◌/◌, ◌%◌, ◌≤◌, ◌<◌, min}
-use native.Mathlib.Nat.{mod-lt, le_refl}
+use Prim.Native.Nat.{ℕ, suc, ◌+◌, ◌-◌, ◌*◌, ◌/◌, ◌%◌, ◌≤◌, ◌<◌, min}
+use native.Mathlib.Nat.{mod-lt}
 use native.Mathlib.Numerals.{add-one}
 use native.Mathlib.Omega.{arith}
 use lib.Arith.{digits_div, digits_mod, digits_lt}
@@ -21,7 +20,7 @@ use Rattle.quotient.specs.Shape.{cells_on, check_of, cell_count}
 use Rattle.quotient.specs.Reduce.{coord_at}
 use Rattle.quotient.specs.Points.{points_of, point_of, InBox}
 use Rattle.quotient.proofs.Points.{coord-le}
-use Rattle.quotient.proofs.Radix.{point-of-coords, coord-of-point, point-lt}
+use Rattle.quotient.proofs.Radix.{point-of-coords, coord-of-point}
 use Rattle.grid_words.specs.WorkNumbered.{cell_no, corner_of}
 use Rattle.quotient.proofs.Boxes.{corners}
 use Rattle.grid_words.proofs.Corners.{some-cell, corner-lt}

@@ -1,5 +1,7 @@
 // The words of a grid's cells in the mode of chains: the class of each corner, in the order of the sorted grid cells. The inner steps of the call `cell_words` of this
 // mode. Added by the port.
+#![tactic(auto)]
+
 ghost use Rattle.std.specs.Prelude.{◌≡◌, take};
 ghost use Rattle.grid_chained.specs.Classing.{at};
 ghost use Rattle.complex_cells.specs.WorkMade.{Made};

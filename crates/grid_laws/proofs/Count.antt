@@ -4,7 +4,7 @@ use mathlib.Core.Path.{◌≡◌, refl, sym, ap, subst, ◌∙◌}
 use mathlib.Core.Bool.{Bool, true, false, false≢true}
 use mathlib.Core.Logic.{◌⊎◌, inl, inr, ⊎_elim}
 use mathlib.Core.List.{List}
-use Prim.Native.Nat.{ℕ, zero, suc, ◌*◌, ◌≤◌, ◌<◌}
+use Prim.Native.Nat.{ℕ, zero, suc, ◌≤◌, ◌<◌}
 use native.Mathlib.Nat.{le_refl}
 use native.Mathlib.Decide.{ℕ_discrete}
 use native.Mathlib.Omega.{arith}
@@ -19,8 +19,8 @@ use Rattle.ordering_words.specs.Order.{IsOrder, AgreeOnFacets}
 use Rattle.lists.proofs.Words.{same_word_lem, word-true}
 use Rattle.ordering_words.proofs.Orders.{order-length, same-order}
 use Rattle.quotient.specs.declared.Grid.{Grid}
-use Rattle.quotient.specs.Fold.{product, factorial, some}
-use Rattle.quotient.specs.Shape.{cells_on, check_of, cell_count}
+use Rattle.quotient.specs.Fold.{some}
+use Rattle.quotient.specs.Shape.{check_of, cell_count}
 use Rattle.quotient.specs.Chain.{Untangled}
 use Rattle.quotient.proofs.Laws.{some-true}
 use Rattle.grid_words.specs.Cells.{words_of}

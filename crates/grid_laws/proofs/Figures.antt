@@ -11,7 +11,6 @@ use Rattle.multiindex.specs.Sort.{insert_by, insert, sort_word}
 use Rattle.complex.specs.Cells.{decides, comes_before, placed, place, in_order}
 use Rattle.complex.specs.Cells as Complex
 use Rattle.complex.specs.Facets.{Crowded}
-use Rattle.lists.specs.Tables.{tab}
 use Rattle.complex.specs.Skeleton.{in_colex, numbers, keep, border_of}
 use Rattle.quotient.specs.declared.Glue.TheVariants.{Open, Periodic}
 use Rattle.quotient.specs.declared.Grid.{Grid}

@@ -3,24 +3,23 @@
 use mathlib.Core.Path.{◌≡◌, refl, sym, ap, ◌∙◌}
 use mathlib.Core.List.{List, [], ◌∷◌, ◌++◌, map}
 use Prim.Native.Nat.{ℕ, zero, suc, ◌+◌, ◌-◌, ◌*◌, ◌/◌, ◌%◌, ◌≤◌, ◌<◌}
-use native.Mathlib.Nat.{le_of_lt}
 use native.Mathlib.Omega.{arith}
-use lib.Ieee.{Float, fin}
+use lib.Ieee.{fin}
 use lib.IntN.{pos}
 use lib.ListN.{get_or}
-use mathlib.Core.Bool.{Bool, false}
+use mathlib.Core.Bool.{false}
 use Rattle.refusal.specs.declared.Answer.{Answer}
 use Rattle.refusal.specs.declared.Answer.TheVariants as Answer
 use Rattle.refusal.specs.Limits.{most_dimension}
 use Rattle.lists.specs.Rows.{rows, flat}
-use Rattle.lists.specs.Tables.{tab, upto}
+use Rattle.lists.specs.Tables.{upto}
 use Rattle.lists.proofs.Tables.{get_or-tab}
 use Rattle.multiindex.specs.Permutation.{gather, orders}
 use Rattle.complex.specs.Cells.{in_order, cells_of}
 use Rattle.grid_sides.specs.declared.Sides.{Sides}
 use Rattle.grid_sides.specs.declared.Steps.{Steps}
 use Rattle.grid_sides.specs.Counts.{side_of}
-use Rattle.grid_sides.specs.Lengths.{spacing_of, square_of, step_of, squares_to, length_sq}
+use Rattle.grid_sides.specs.Lengths.{spacing_of, step_of, squares_to, length_sq}
 use Rattle.quotient.specs.declared.Grid.{Grid}
 use Rattle.quotient.specs.declared.GluedVertex.{GluedVertex}
 use Rattle.quotient.specs.Fold.{product}
@@ -32,11 +31,10 @@ use Rattle.quotient.proofs.Laws.{product-same}
 use Rattle.quotient.proofs.Taken.{sides-taken, taken-low, taken-high}
 use Rattle.quotient.proofs.Alike.{cells-alike, coord-alike, vertex-alike}
 use Rattle.quotient.proofs.Ignored.{same_alike, sides-alike}
-use Rattle.grid_words.specs.Cells.{boxes_of, box_at, step_along, met, chains, grid_cells, words_of, flat_words}
+use Rattle.grid_words.specs.Cells.{boxes_of, box_at, step_along, met, chains, grid_cells, words_of}
 use Rattle.grid_mesh.specs.Words.{glued_cells}
 use Rattle.ordering_words.specs.Order.{by_cell}
 use Rattle.grid_order.specs.Promise.{own_words, words_by_cell}
-use Rattle.grid_lengths.specs.declared.EdgeLength.{EdgeLength}
 use Rattle.grid_lengths.specs.Edges.{first_end, second_end, edges_each, visits_of, from_at, to_at, spacings_of, steps_of, square_at, same_ends, visits_edge, edges_of}
 use Rattle.grid_lengths.specs.Settled.{settle, only_if, values_to, edge_values, edge_after, edge_length_of}
 use Rattle.grid_lengths.specs.Lengths.{settled_of}

@@ -1,5 +1,5 @@
 -- What is to be shown of how many cells a glued grid has, of where an order is handed out, and of the room that the calls need. Assumes nothing.
-use Rattle.std.specs.Prelude.{List, [], ◌≡◌, ℕ, ◌+◌, ◌*◌, ◌≤◌, ◌<◌, length, get_or}
+use Rattle.std.specs.Prelude.{[], ◌≡◌, ℕ, ◌+◌, ◌*◌, ◌≤◌, ◌<◌, length, get_or}
 use Rattle.refusal.specs.declared.Room.{Room}
 use Rattle.multiindex.specs.Sort.{sort_word}
 use Rattle.quotient.specs.declared.Grid.{Grid}

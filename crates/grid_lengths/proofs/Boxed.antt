@@ -1,9 +1,9 @@
 -- The visits of one box are those of every other, moved: what a visit measures depends only on its place in its box, so there are no more values than a box has visits. Assumes nothing.
 use mathlib.Core.Path.{◌≡◌, refl, sym, ap, ap₂, subst, ◌∙◌}
 use mathlib.Core.Bool.{Bool, true, false, cond, ◌&&◌}
-use mathlib.Core.List.{List, [], ◌∷◌, ◌++◌}
+use mathlib.Core.List.{List, ◌++◌}
 use Prim.Native.Nat.{ℕ, zero, suc, ◌+◌, ◌-◌, ◌*◌, ◌/◌, ◌%◌, ◌≤◌, ◌<◌, min, max}
-use native.Mathlib.Nat.{mod-lt, mod-le, mul_assoc, mul_comm, add-mul, one-mul, mul-one, mul-le-mul_left, mul-le-mul_right, le_trans, le_refl, le_of_suc-le-suc, div-add-mod', div-lt_iff_lt-mul, div-div-eq-div-mul}
+use native.Mathlib.Nat.{mod-lt, mod-le, mul_assoc, mul_comm, add-mul, one-mul, mul-one, mul-le-mul_left, mul-le-mul_right, le_trans, le_of_suc-le-suc, div-add-mod', div-div-eq-div-mul}
 use native.Mathlib.Omega.{arith}
 use lib.Arith.{digits_div, digits_mod, mod-mul}
 use lib.Dec.{eqb, leb}
@@ -18,7 +18,7 @@ use Rattle.lists.proofs.Tables.{length-tab, get_or-tab, tab-ext}
 use Rattle.grid_sides.specs.declared.Sides.{Sides}
 use Rattle.grid_sides.specs.declared.Steps.{Steps}
 use Rattle.grid_sides.specs.Counts.{side_of}
-use Rattle.grid_sides.specs.Lengths.{square_of, step_of, squares_to, length_sq}
+use Rattle.grid_sides.specs.Lengths.{square_of, step_of, squares_to}
 use Rattle.quotient.specs.declared.Grid.{Grid}
 use Rattle.quotient.specs.Shape.{check_of, cell_count}
 use Rattle.quotient.specs.Reduce.{coord_at, vertex_of}
@@ -33,7 +33,7 @@ use Rattle.grid_words.proofs.Touched.{untouched}
 use Rattle.grid_lengths.specs.Edges.{first_end, second_end, edges_each, visits_of, corner_at, from_at, to_at, spacings_of, steps_of, square_at, same_ends, visits_edge}
 use Rattle.grid_lengths.specs.Noted.{end_of, ends_of}
 use Rattle.grid_lengths.specs.Work.{visits_each, end_point, end_reach, Valued}
-use Rattle.grid_lengths.proofs.Measuring.{some_edges, each-few, end-rise, corner-at, ends-below, place_in, cell_in}
+use Rattle.grid_lengths.proofs.Measuring.{some_edges, each-few, end-rise, corner-at, ends-below, cell_in}
 
 -- a cell has no more corners than its edges have ends
 ends-most : (d : ℕ) → 1 ≤ d → d ≤ 3 → suc d ≤ edges_each d * 2

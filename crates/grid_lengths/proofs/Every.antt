@@ -2,13 +2,13 @@
 use mathlib.Core.Path.{◌≡◌, refl, sym, ap, subst, ◌∙◌}
 use mathlib.Core.Bool.{Bool, true, false, cond}
 use mathlib.Core.List.{List, [], ◌∷◌, map}
-use Prim.Native.Nat.{ℕ, zero, suc, ◌≤◌, ◌<◌, min, max}
+use Prim.Native.Nat.{ℕ, zero, suc, ◌<◌, min, max}
 use native.Mathlib.Decide.{ℕ_discrete}
 use native.Mathlib.Omega.{arith}
 use lib.Ieee.{Float}
 use borrow.Author.Tests.{eq-eqb}
 use Rattle.grid_sides.specs.Lengths.{agrees}
-use Rattle.lists.specs.Tables.{tab, upto}
+use Rattle.lists.specs.Tables.{upto}
 use Rattle.multiindex.specs.Sort.{sort_word}
 use Rattle.lists.proofs.Tables.{map-tab}
 use Rattle.complex_cells.proofs.Words.{In}
@@ -19,7 +19,7 @@ use Rattle.quotient.specs.Reduce.{vertex_of}
 use Rattle.grid_lengths.specs.declared.EdgeLength.{EdgeLength}
 use Rattle.grid_lengths.specs.declared.EdgeLength.TheVariants.{Length, Clash, NoEdge, Refused}
 use Rattle.grid_lengths.specs.Edges.{visits_of, from_at, to_at, square_at, visits_edge, edges_of}
-use Rattle.grid_lengths.specs.Settled.{met_by, settle_from, settle, values_to, after_visit}
+use Rattle.grid_lengths.specs.Settled.{met_by, settle_from, settle, values_to}
 use Rattle.grid_lengths.specs.Noted.{one_edge, came_to, Clashed}
 use Rattle.grid_lengths.specs.Lengths.{settled_of}
 use Rattle.grid_lengths.proofs.Values.{values-more}

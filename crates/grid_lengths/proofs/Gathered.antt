@@ -2,15 +2,15 @@
 use mathlib.Core.Path.{◌≡◌, refl, sym, ap, subst, ◌∙◌}
 use mathlib.Core.Bool.{Bool, true, false, cond, ◌&&◌}
 use mathlib.Core.List.{List, [], ◌∷◌, ◌++◌, map, append-nil}
-use Prim.Native.Nat.{ℕ, zero, suc, ◌+◌, ◌-◌, ◌*◌, ◌/◌, ◌%◌, ◌≤◌, ◌<◌, ◌^◌, min, max, suc-le-suc}
-use native.Mathlib.Nat.{le_refl, mul-le-mul_left, mul-le-mul_right, mul_assoc}
+use Prim.Native.Nat.{ℕ, zero, suc, ◌+◌, ◌-◌, ◌*◌, ◌/◌, ◌%◌, ◌≤◌, ◌<◌, min, max}
+use native.Mathlib.Nat.{le_refl, mul-le-mul_left, mul_assoc}
 use native.Mathlib.Omega.{arith}
 use lib.Dec.{eqb, ltb, leb}
-use lib.ListN.{length, get_or, take, drop}
+use lib.ListN.{length, get_or, take}
 use lib.Seq.{ext_get_or}
 use borrow.Author.Tests.{ltb-true, ltb-false, leb-true, eqb-true, eq-eqb}
 use Rattle.refusal.specs.declared.Answer.TheVariants.{Fine}
-use Rattle.lists.specs.Tables.{tab, upto}
+use Rattle.lists.specs.Tables.{upto}
 use Rattle.multiindex.specs.Sort.{insert_by, insert, sort_word, sort_words}
 use Rattle.multiindex.proofs.Tables.{at-below}
 use Rattle.lists.proofs.Tables.{length-tab, get_or-tab, map-tab, list-tab}
@@ -34,9 +34,8 @@ use Rattle.grid_words.specs.WorkNumbered.{corner_of}
 use Rattle.grid_words.proofs.Corners.{dim}
 use Rattle.grid_words.proofs.Listed.{words_long}
 use Rattle.grid_words.proofs.Good.{word_at, words-pass}
-use Rattle.grid_lengths.specs.Edges.{first_end, second_end, edges_each, visits_of, from_at, to_at, same_ends, visits_edge, edges_of}
+use Rattle.grid_lengths.specs.Edges.{first_end, second_end, edges_each, visits_of, from_at, to_at, edges_of}
 use Rattle.grid_lengths.specs.Noted.{end_of, ends_of, one_edge}
-use Rattle.grid_lengths.specs.Lengths.{ends_room}
 use Rattle.grid_lengths.specs.Work.{VisitOf, Classed}
 use Rattle.grid_lengths.proofs.Measuring.{visits-few, corner-at, cell_in, first-low, second-low}
 

@@ -1,20 +1,18 @@
 -- The visits of edges: which cell and which corners visit r measures between. Assumes nothing.
 use mathlib.Core.Path.{◌≡◌, refl, sym, ap, subst, ◌∙◌}
-use mathlib.Core.Bool.{Bool, true, false, ◌&&◌}
-use mathlib.Core.List.{List, [], ◌∷◌}
-use Prim.Native.Nat.{ℕ, zero, suc, ◌+◌, ◌-◌, ◌*◌, ◌/◌, ◌%◌, ◌≤◌, ◌<◌, min, max, suc-le-suc}
-use native.Mathlib.Nat.{mod-lt, div-lt_iff_lt-mul, le_refl, le_trans, mul-le-mul_left, mul-le-mul_right}
+use mathlib.Core.Bool.{Bool, false}
+use mathlib.Core.List.{List, []}
+use Prim.Native.Nat.{ℕ, zero, suc, ◌-◌, ◌*◌, ◌/◌, ◌%◌, ◌≤◌, ◌<◌, min, max, suc-le-suc}
+use native.Mathlib.Nat.{mod-lt, div-lt_iff_lt-mul, le_refl, mul-le-mul_left}
 use native.Mathlib.Omega.{arith}
 use lib.Dec.{eqb, ltb, leb}
 use lib.Ieee.{Float}
-use lib.ListN.{length, get_or}
-use borrow.Author.Tests.{ltb-true, leb-true, eqb-true, eq-eqb, ne_eqb}
+use lib.ListN.{get_or}
+use borrow.Author.Tests.{ltb-true, leb-true, eq-eqb, ne_eqb}
 use Rattle.refusal.specs.declared.Answer.TheVariants.{Fine}
 use Rattle.multiindex.proofs.Tables.{all_below, at-below}
-use Rattle.lists.specs.Tables.{tab}
 use Rattle.lists.proofs.Tables.{get_or-tab}
 use Rattle.grid_sides.specs.declared.Sides.{Sides}
-use Rattle.grid_sides.specs.declared.Steps.{Steps}
 use Rattle.grid_sides.specs.Counts.{side_of}
 use Rattle.grid_sides.specs.Lengths.{spacing_of, length_sq}
 use Rattle.quotient.specs.declared.Axis.{Axis}
@@ -25,7 +23,7 @@ use Rattle.quotient.proofs.Taken.{taken-low, taken-cells}
 use Rattle.grid_words.specs.WorkNumbered.{cell_no, corner_of}
 use Rattle.grid_words.proofs.Corners.{dim, corner-lt, points-few}
 use Rattle.grid_words.proofs.Listed.{listed}
-use Rattle.grid_lengths.specs.Edges.{first_end, second_end, edges_each, visits_of, corner_at, from_at, to_at, spacings_of, steps_of, square_at, same_ends, visits_edge}
+use Rattle.grid_lengths.specs.Edges.{first_end, second_end, edges_each, visits_of, corner_at, from_at, to_at, spacings_of, square_at, same_ends, visits_edge}
 
 -- ---- computed tests over the dimensions
 pub each-some : (d : ℕ) → 1 ≤ d → d ≤ 3 → 0 < edges_each d

@@ -2,7 +2,7 @@
 use mathlib.Core.Path.{◌≡◌, refl, sym, ap, subst, ◌∙◌}
 use mathlib.Core.Bool.{Bool, true, false, ◌&&◌}
 use mathlib.Core.List.{List, [], ◌∷◌, map}
-use Prim.Native.Nat.{ℕ, zero, suc, ◌+◌, ◌/◌, ◌%◌, ◌≤◌, ◌<◌, min, max}
+use Prim.Native.Nat.{ℕ, ◌≤◌, ◌<◌, min, max}
 use native.Mathlib.Nat.{zero-add}
 use native.Mathlib.Omega.{arith}
 use lib.Dec.{eqb}
@@ -13,7 +13,7 @@ use Rattle.refusal.specs.declared.Answer.TheVariants as Answer
 use Rattle.lists.specs.Tables.{tab, upto}
 use Rattle.lists.proofs.Tables.{map-tab, length-tab, get_or-tab}
 use Rattle.multiindex.specs.Sort.{sort_word}
-use Rattle.complex_cells.proofs.Words.{Word, In, Each, each_of, in-at, at_in}
+use Rattle.complex_cells.proofs.Words.{In, Each, each_of, in-at, at_in}
 use Rattle.complex_cells.proofs.Order.{order_from, order-has}
 use Rattle.grid_words.proofs.Flat.{of-tab}
 use Rattle.quotient.specs.declared.Grid.{Grid}

@@ -1,27 +1,23 @@
 -- Noting the last visit of each edge: what the notes tell is what the visits so far come to. Assumes nothing.
 use mathlib.Core.Path.{◌≡◌, refl, sym, ap, subst, ◌∙◌}
 use mathlib.Core.Bool.{Bool, true, false, cond}
-use mathlib.Core.Logic.{◌⊎◌, inl, inr, ⊎_elim}
-use mathlib.Core.List.{List, [], ◌∷◌, ◌++◌}
-use Prim.Native.Nat.{ℕ, zero, suc, ◌+◌, ◌-◌, ◌*◌, ◌/◌, ◌%◌, ◌≤◌, ◌<◌}
-use native.Mathlib.Nat.{eq-or-lt_of_le, le_of_suc-le-suc}
+use mathlib.Core.List.{List, [], ◌∷◌}
+use Prim.Native.Nat.{ℕ, zero, suc, ◌+◌, ◌-◌, ◌≤◌, ◌<◌}
 use native.Mathlib.Numerals.{add-one}
-use native.Mathlib.Decide.{ℕ_discrete, dec_lt}
+use native.Mathlib.Decide.{ℕ_discrete}
 use native.Mathlib.Omega.{arith}
 use lib.Ieee.{Float}
-use lib.ListN.{length, get_or, set, length-set}
+use lib.ListN.{length, get_or, set}
 use lib.Seq.{get_or-set_same, get_or-set_other}
-use Rattle.refusal.specs.declared.Answer.TheVariants.{Fine}
 use Rattle.grid_sides.specs.Lengths.{agrees}
 use Rattle.quotient.specs.declared.Grid.{Grid}
-use Rattle.quotient.specs.Shape.{check_of}
 use Rattle.quotient.specs.Reduce.{vertex_of}
 use Rattle.grid_lengths.specs.declared.EdgeLength.{EdgeLength}
-use Rattle.grid_lengths.specs.declared.EdgeLength.TheVariants.{Length, Clash, NoEdge, Refused}
-use Rattle.grid_lengths.specs.Edges.{visits_of, from_at, to_at, square_at, visits_edge}
-use Rattle.grid_lengths.specs.Settled.{met_by, settle_from, settle, only_if, values_to, edge_values, after_visit}
-use Rattle.grid_lengths.specs.Noted.{told, is_length, one_edge, came_to, Noting, Noted, Clashed}
-use Rattle.grid_lengths.proofs.Values.{values-more, settle-append}
+use Rattle.grid_lengths.specs.declared.EdgeLength.TheVariants.{Length, Clash}
+use Rattle.grid_lengths.specs.Edges.{visits_of, from_at, to_at, square_at}
+use Rattle.grid_lengths.specs.Settled.{met_by, settle_from, settle, values_to}
+use Rattle.grid_lengths.specs.Noted.{told, is_length, one_edge, Noting, Noted, Clashed}
+use Rattle.grid_lengths.proofs.Values.{values-more}
 
 -- what the first r visits of the edge of visit x come to
 abbrev pub so_far : Grid → ℕ → ℕ → EdgeLength

@@ -1,16 +1,14 @@
 -- The work of `edge_lengths_sq`, step by step: what each call asks follows from what the calls before it gave. Assumes nothing.
 use mathlib.Core.Path.{◌≡◌, refl, sym, ap, subst, ◌∙◌}
-use mathlib.Core.Bool.{Bool, true, false, cond}
+use mathlib.Core.Bool.{Bool}
 use mathlib.Core.List.{List, [], ◌∷◌, ◌++◌, map, append-nil}
-use Prim.Native.Nat.{ℕ, zero, suc, ◌+◌, ◌-◌, ◌*◌, ◌≤◌, ◌<◌, min, max}
+use Prim.Native.Nat.{ℕ, zero, suc, ◌+◌, ◌-◌, ◌≤◌, ◌<◌, min, max}
 use native.Mathlib.Numerals.{add-one}
 use native.Mathlib.Omega.{arith}
-use lib.Dec.{eqb}
 use lib.Ieee.{Float}
 use lib.ListN.{length, get_or, take, drop, set, replicate, length-replicate, get_or-replicate, drop_of_length-le}
 use lib.Seq.{take_all}
 use Rattle.refusal.specs.declared.Answer.TheVariants.{Fine}
-use Rattle.refusal.specs.declared.Counted.{Counted}
 use Rattle.refusal.specs.declared.Counted.TheVariants.{Count, Refused}
 use Rattle.refusal.specs.Table.{two_lengths, too_short}
 use Rattle.lists.specs.Tables.{tab}
@@ -18,13 +16,12 @@ use Rattle.lists.proofs.Tables.{length-tab, tab-ext, map-tab, list-tab}
 use Rattle.quotient.specs.declared.Grid.{Grid}
 use Rattle.quotient.specs.Shape.{check_of}
 use Rattle.quotient.specs.Reduce.{vertex_of}
-use Rattle.grid_lengths.specs.declared.EdgeLength.{EdgeLength}
 use Rattle.grid_lengths.specs.declared.EdgeLength.TheVariants.{Length, Clash}
 use Rattle.grid_lengths.specs.Edges.{visits_of, from_at, to_at, square_at, same_ends, visits_edge, edges_of}
-use Rattle.grid_lengths.specs.Settled.{settle, only_if, values_to, edge_values}
-use Rattle.grid_lengths.specs.Noted.{came_to, Noting, Noted, Clashed}
+use Rattle.grid_lengths.specs.Settled.{settle, only_if, values_to}
+use Rattle.grid_lengths.specs.Noted.{Noting, Noted, Clashed}
 use Rattle.grid_lengths.specs.Lengths.{ends_room, settled_of, LengthsEnd, clashing, short, listed}
-use Rattle.grid_lengths.specs.Work.{Working, VisitOf, Classed, Handing, Worked}
+use Rattle.grid_lengths.specs.Work.{Classed, Handing, Worked}
 
 -- ---- the values of an edge, its ends in either order
 sorted-ends : (a b p q : ℕ) → same_ends (min a b) (max a b) p q ≡ same_ends a b p q

@@ -1,8 +1,8 @@
 -- An edge's values, one after the other. Assumes nothing.
-use mathlib.Core.Path.{◌≡◌, refl, sym, ap, subst, ◌∙◌}
+use mathlib.Core.Path.{◌≡◌, refl, sym, ap, ◌∙◌}
 use mathlib.Core.Bool.{Bool, true, false, cond}
 use mathlib.Core.List.{List, [], ◌∷◌, ◌++◌}
-use Prim.Native.Nat.{ℕ, zero, suc, ◌+◌, ◌≤◌, ◌<◌}
+use Prim.Native.Nat.{ℕ, suc, ◌+◌}
 use native.Mathlib.Numerals.{add-one}
 use lib.Ieee.{Float}
 use Rattle.refusal.specs.declared.Answer.{Answer}
@@ -13,8 +13,8 @@ use Rattle.quotient.specs.declared.GluedVertex.{GluedVertex}
 use Rattle.quotient.specs.Shape.{sides_check_of}
 use Rattle.grid_lengths.specs.declared.EdgeLength.{EdgeLength}
 use Rattle.grid_lengths.specs.declared.EdgeLength.TheVariants.{Length, Clash, NoEdge, Refused}
-use Rattle.grid_lengths.specs.Edges.{visits_of, square_at, visits_edge}
-use Rattle.grid_lengths.specs.Settled.{met_by, settle_from, settle, only_if, values_to, edge_values, after_visit, edge_after, edge_length_of}
+use Rattle.grid_lengths.specs.Edges.{square_at, visits_edge}
+use Rattle.grid_lengths.specs.Settled.{met_by, settle_from, settle, only_if, values_to, edge_values, after_visit, edge_length_of}
 
 -- ---- the cases of one value more
 module _ (k : EdgeLength) (v : Float) where

@@ -7,6 +7,8 @@
 //   rows     the vertex of each point, then visits in the order of their edges    last visit of each edge
 //   spare    first visit of each edge
 //   counts   buckets                               edge of each visit
+#![tactic(auto)]
+
 ghost use Rattle.std.specs.Prelude.{◌≡◌, true, false, ℕ, suc, ◌+◌, ◌-◌, ◌*◌, ◌<◌, ◌≤◌, min, max, length, get_or};
 ghost use Rattle.refusal.specs.declared.Answer.TheVariants.{Fine};
 ghost use Rattle.quotient.specs.Shape.{check_of};
@@ -25,7 +27,7 @@ use quotient::{GluedVertex, Grid, GridVertex};
 use refusal::{Answer, Counted, Room, TOO_SHORT, TWO_LENGTHS};
 
 // What the question of one edge says: its squared length, the two that clash first, or that there is no such edge.
-#[derive(Drop)]
+#[derive(Clone, Copy)]
 pub enum EdgeLength {
     Length(f64),
     Clash(f64, f64),

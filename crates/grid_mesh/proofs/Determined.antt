@@ -5,7 +5,7 @@ use Prim.Native.Nat.{ℕ}
 use native.Mathlib.Omega.{arith}
 use lib.ListN.{length}
 use Rattle.refusal.specs.declared.Counted.{Counted}
-use Rattle.refusal.specs.declared.Counted.TheVariants.{Count, Refused}
+use Rattle.refusal.specs.declared.Counted.TheVariants.{Refused}
 use Rattle.refusal.specs.Lent.{onto, lengths}
 use Rattle.refusal.proofs.Determined.{comes-one, cleared-one}
 use Rattle.quotient.specs.declared.Grid.{Grid}

@@ -1,19 +1,16 @@
 -- The work on a grid that is taken, step by step: what each call asks follows from what the calls before it gave. Assumes nothing.
 use mathlib.Core.Bool.{Bool, true, false}
-use mathlib.Core.List.{List, [], ◌∷◌, ◌++◌}
+use mathlib.Core.List.{List, [], ◌++◌}
 use mathlib.Core.Path.{◌≡◌, refl, sym, ap, ◌∙◌, subst}
 use Prim.Native.Nat.{ℕ, zero, suc, ◌+◌, ◌*◌, ◌/◌, ◌<◌, ◌≤◌}
-use native.Mathlib.Nat.{mul_comm, mul-zero, suc-mul, mul-suc, mul-le-mul_left, mul-le-mul_right, le_trans}
+use native.Mathlib.Nat.{mul_comm, mul-zero, suc-mul, mul-suc, mul-le-mul_right, le_trans}
 use native.Mathlib.Numerals.{add-one}
 use native.Mathlib.Omega.{arith}
 use lib.ListN.{length, get_or, take, drop, length-append}
-use lib.Seq.{length-take-le}
 use Rattle.refusal.specs.declared.Answer.TheVariants.{Fine}
-use Rattle.refusal.specs.declared.Counted.{Counted}
 use Rattle.refusal.specs.declared.Counted.TheVariants.{Count, Refused}
 use Rattle.refusal.specs.Limits.{many_corners, most_cells}
 use Rattle.refusal.specs.Table.{crowded_facet, too_short}
-use Rattle.refusal.specs.Lent.{onto}
 use Rattle.lists.specs.Rows.{cut, row}
 use Rattle.lists.proofs.Rows.{cut-length}
 use Rattle.lists.proofs.Tables.{length-tab}
@@ -25,19 +22,16 @@ use Rattle.sorting.specs.Bucket.{cell}
 use Rattle.sorting.specs.Order.{Table}
 use Rattle.sorting.specs.Distinct.{Distinct}
 use Rattle.sorting.specs.Gather.{rows_of}
-use Rattle.complex.specs.Check.{Passed}
 use Rattle.complex.specs.Room.{key_room}
-use Rattle.complex.specs.Facets.{Crowded, Cells, cell_at, slots}
+use Rattle.complex.specs.Facets.{Crowded, cell_at, slots}
 use Rattle.complex_cells.specs.WorkMade.{Made}
 use Rattle.complex_cells.proofs.Making.{few-corners, words-table, key_row, made-cell, made}
-use Rattle.lists.specs.Words.{none}
 use Rattle.complex_mates.specs.Table.{MateTable, Meeting}
-use Rattle.complex_mates.proofs.Meeting.{slots-most}
 use Rattle.complex_mates.proofs.Mated.{not-crowded}
 use Rattle.quotient.specs.declared.Grid.{Grid}
 use Rattle.quotient.specs.Shape.{check_of, cell_count}
 use Rattle.quotient.proofs.Taken.{taken-cells}
-use Rattle.grid_words.specs.Cells.{grid_cells, words_of, flat_words}
+use Rattle.grid_words.specs.Cells.{words_of, flat_words}
 use Rattle.grid_words.proofs.Corners.{dim}
 use Rattle.grid_words.proofs.Listed.{words-tab, words_long}
 use Rattle.grid_words.proofs.Good.{words_count, words-pass}

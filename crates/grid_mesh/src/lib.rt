@@ -6,6 +6,8 @@
 //   rows     the vertex of each point, cells  mates        the vertex of each point
 //   spare    first rows                       first rows   -
 //   counts   buckets                          classes      -
+#![tactic(auto)]
+
 ghost use Rattle.std.specs.Prelude.{◌≡◌};
 ghost use Rattle.refusal.specs.declared.Answer.TheVariants.{Fine};
 ghost use Rattle.lists.specs.Zero.{AllZero};

@@ -1,23 +1,23 @@
 -- The work of `triangulate_ordered`, step by step: what each call asks follows from what the calls before it gave. Assumes nothing.
 use mathlib.Core.Bool.{Bool, true, false}
-use mathlib.Core.List.{List, [], ◌∷◌, ◌++◌}
+use mathlib.Core.List.{List, [], ◌++◌}
 use mathlib.Core.Path.{◌≡◌, refl, sym, ap, ◌∙◌, subst}
-use Prim.Native.Nat.{ℕ, zero, suc, ◌+◌, ◌-◌, ◌*◌, ◌/◌, ◌%◌, ◌<◌, ◌≤◌}
-use native.Mathlib.Nat.{add-sub_cancel_left, mul_comm, mul-suc, suc-mul, mul-le-mul_right, le_trans}
+use Prim.Native.Nat.{ℕ, suc, ◌+◌, ◌-◌, ◌*◌, ◌/◌, ◌%◌, ◌<◌, ◌≤◌}
+use native.Mathlib.Nat.{add-sub_cancel_left, mul-le-mul_right}
 use native.Mathlib.Numerals.{add-one}
 use native.Mathlib.Omega.{arith}
 use lib.ListN.{length, get_or, take, drop, length-append, length-drop}
-use lib.Seq.{length-take-le, take_at, drop_at, get_or-take, get_or-drop}
+use lib.Seq.{length-take-le, take_at, drop_at}
 use Rattle.refusal.specs.declared.Answer.TheVariants.{Fine}
 use Rattle.refusal.specs.Limits.{many_corners}
 use Rattle.refusal.specs.Table.{too_short}
 use Rattle.refusal.specs.Lent.{onto}
-use Rattle.lists.specs.Rows.{cut, rows, row}
+use Rattle.lists.specs.Rows.{row}
 use Rattle.lists.proofs.Rows.{cut-length, cut_at, row-cell-below}
 use Rattle.multiindex.specs.Sort.{sort_word}
 use Rattle.sorting.specs.Gather.{rows_of}
 use Rattle.sorting.proofs.Rows.{rows_of-pos, pos-room}
-use Rattle.complex.specs.Facets.{cell_at, slots, Mates}
+use Rattle.complex.specs.Facets.{cell_at, slots}
 use Rattle.complex_mates.specs.Table.{MateTable}
 use Rattle.complex_mates.proofs.Mated.{facet-row, mates-row, rows_few}
 use Rattle.quotient.specs.declared.Grid.{Grid}
@@ -34,7 +34,7 @@ use Rattle.ordering.specs.WorkAgree.{row_word, AgreesAt, Clash}
 use Rattle.ordering_words.proofs.Orders.{word_first}
 use Rattle.grid_order.specs.declared.Triangulated.TheVariants.{Ordered, Unordered, Refused}
 use Rattle.grid_order.specs.Promise.{own_words, nothing}
-use Rattle.grid_order.specs.Work.{Laying, Laid, Decided, Handing, Out, short, short_order, ordered, unordered, HandedOut}
+use Rattle.grid_order.specs.Work.{Laying, Laid, Decided, Handing, short, short_order, ordered, unordered, HandedOut}
 
 -- ---- each cell's first word is the one whose number was found
 module _ (g : Grid) (fine : check_of g ≡ Fine) (m : ℕ) (rows₀ reps : List ℕ) (f : Found g m rows₀ reps) where

@@ -8,6 +8,8 @@
 //   rows               the vertex of each point, cells   the grid's words          cells, mates
 //   spare              first rows                        first rows                first rows
 //   counts             buckets                           the vertex of each point  classes
+#![tactic(auto)]
+
 ghost use Rattle.std.specs.Prelude.{◌≡◌};
 ghost use Rattle.refusal.specs.declared.Answer.TheVariants.{Fine};
 ghost use Rattle.lists.specs.Zero.{AllZero};
@@ -20,7 +22,7 @@ use quotient::Grid;
 use refusal::{Answer, CROWDED_FACET, Room, TOO_SHORT};
 
 // What `triangulate_ordered` says: how many cells there are, and whether an order is handed out with them.
-#[derive(Drop)]
+#[derive(Clone, Copy)]
 pub enum Triangulated {
     Ordered(u32),
     Unordered(u32),

@@ -1,5 +1,5 @@
 -- The sides that a maker hands out are those of the caller below d, so they fit where the caller's do. Assumes nothing.
-use Rattle.std.proofs.Common.{◌≡◌, ℕ, ◌<◌, ◌≤◌, Bool, true, false, cond, not, T, pos, sym, refl, ap, ◌∙◌, subst, le_of_eq, arith, lt-ltb}
+use Rattle.std.proofs.Common.{◌≡◌, ℕ, ◌<◌, ◌≤◌, Bool, true, false, not, T, pos, sym, refl, ◌∙◌, le_of_eq, arith, lt-ltb}
 use lib.Ieee.{fin}
 use Rattle.refusal.specs.Limits.{most_dimension}
 use Rattle.lists.specs.Tables.{tab}

@@ -1,8 +1,8 @@
 -- Where no side is refused, the longest is taken and no side is above it, so each count is at most what is asked for. Assumes nothing.
-use Rattle.std.proofs.Common.{◌≡◌, ℕ, zero, suc, ◌+◌, ◌-◌, ◌*◌, ◌^◌, ◌<◌, ◌≤◌, max, Bool, true, false, cond, not, ◌||◌, T, ◌⊎◌, sym, refl, ap, ◌∙◌, subst, inl, inr, ⊎_elim, le_refl, not-suc-le-zero, arith, ltb-false}
+use Rattle.std.proofs.Common.{◌≡◌, ℕ, zero, suc, ◌-◌, ◌*◌, ◌^◌, ◌<◌, ◌≤◌, max, Bool, true, false, cond, T, ◌⊎◌, sym, refl, subst, inl, inr, ⊎_elim, le_refl, arith, ltb-false}
 use native.Mathlib.Decide.{dec_lt}
 use borrow.Author.Tests.{not-false}
-use lib.Ieee.{Float, nan, inf, fin, binary64, up, down, le, lt}
+use lib.Ieee.{Float, nan, inf, fin, up, down, le, lt}
 use lib.Ieee.Positive.{positive, num, den, cross→le, le_trans_positive}
 use Rattle.grid_sides.specs.declared.Sides.{Sides}
 use Rattle.grid_sides.specs.Counts.{side_fits, side_of, unfit, first_bad, larger_of, longest_to, longest_of, nearest_whole, share, axis_count}

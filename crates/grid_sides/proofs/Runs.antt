@@ -1,5 +1,5 @@
 -- Laws on the runs over a grid's axes: the longest side, the sum of squares. Assumes nothing.
-use Rattle.std.proofs.Common.{◌≡◌, ℕ, zero, suc, ◌+◌, ◌-◌, ◌<◌, ◌≤◌, max, Bool, true, false, cond, not, pos, sym, refl, ap, ◌∙◌, subst, not-suc-le-zero, add-one, arith}
+use Rattle.std.proofs.Common.{◌≡◌, ℕ, zero, suc, ◌+◌, ◌-◌, ◌≤◌, max, true, false, pos, sym, not-suc-le-zero, arith}
 use lib.ListN.{get_or-eq_default}
 use lib.Ieee.{Float, fin, binary64, add}
 use Rattle.refusal.specs.Limits.{most_dimension}

@@ -1,15 +1,15 @@
 -- A side's share of the longest: extent / longest * n, for an extent that is at most the longest, rounds to no more than n. Assumes nothing.
-use Rattle.std.proofs.Common.{◌≡◌, ℕ, zero, suc, ◌+◌, ◌-◌, ◌*◌, ◌/◌, ◌%◌, ◌^◌, ◌<◌, ◌≤◌, min, Bool, true, false, cond, ◌&&◌, ◌||◌, T, eqb, ltb, ◌⊎◌, ℤ, pos, negsuc, sym, refl, ap, ◌∙◌, subst, inl, inr, ⊎_elim, le_trans, le_of_eq, le_refl, mul-le-mul_right, zero-lt-suc, mul_assoc, mul_comm, div-lt_iff_lt-mul, add-mul, mul-le-mul, mul-le-mul_left, mul-pos, one-mul, mul-zero, zero-mul, mul-one, mul_right_comm, mul_left_comm, arith, lit<, lit≤, ltb→lt, lt→ltb}
+use Rattle.std.proofs.Common.{◌≡◌, ℕ, zero, suc, ◌+◌, ◌-◌, ◌*◌, ◌/◌, ◌^◌, ◌<◌, ◌≤◌, min, true, false, T, pos, negsuc, sym, refl, ap, ◌∙◌, subst, le_trans, le_of_eq, le_refl, mul-le-mul_right, zero-lt-suc, mul_comm, div-lt_iff_lt-mul, add-mul, mul-le-mul, mul-le-mul_left, mul-pos, one-mul, mul-zero, zero-mul, mul-one, mul_left_comm, arith, lit<}
 use native.Mathlib.Nat.{mul-mul-mul_comm, min-le_left}
 use lib.Dec.{eqb-suc-zero}
 use lib.Count.{count_trailing_zeros}
-use lib.Ieee.{Float, nan, inf, fin, Format, binary64, up, down, round, size, span, climb, units, odd, div, mul, le, lt, of_int}
-use lib.Ieee.Fits.{and_l, and_r, up_pos, down_pos}
+use lib.Ieee.{Float, nan, inf, fin, Format, binary64, up, down, round, size, span, climb, units, odd, div, mul, le, of_int}
+use lib.Ieee.Fits.{and_l, and_r, down_pos}
 use lib.Ieee.Exact.{HasValue}
 use lib.Ieee.Back.{round_whole}
 use lib.Ieee.Order.{round_mono}
 use lib.Ieee.Scale.{round_same}
-use lib.Ieee.Positive.{positive, num, den, den_pos, own_value, positive_of_value, value_pos, le→cross, cross→le, values_of_le, between, mul_at}
+use lib.Ieee.Positive.{positive, num, den, den_pos, own_value, positive_of_value, value_pos, le→cross, values_of_le, between, mul_at}
 use Rattle.grid_sides.specs.Counts.{least, most, side_fits, nearest_whole, share}
 
 -- a quotient of two values above zero

@@ -1,5 +1,5 @@
 -- A comparison from below sees the magnitude of x as -x where x is below zero, and as x otherwise: -0 too, since no comparison tells it from +0. Assumes nothing.
-use Rattle.std.proofs.Common.{◌≡◌, ℕ, zero, suc, ◌+◌, ◌*◌, ◌<◌, ◌≤◌, Bool, true, false, cond, not, ◌&&◌, ◌||◌, T, eqb, ltb, ℤ, pos, sym, refl, ap, ◌∙◌, subst, zero-lt-suc, mul-pos, zero-add, zero-mul, arith, ltb-false, ltb-true, le-ltb, lt-ltb}
+use Rattle.std.proofs.Common.{◌≡◌, ℕ, zero, suc, ◌+◌, ◌*◌, ◌<◌, ◌≤◌, true, false, ◌||◌, T, ℤ, pos, sym, refl, subst, zero-lt-suc, mul-pos, zero-add, zero-mul, arith, ltb-false, ltb-true, le-ltb}
 use lib.Ieee.{Float, nan, inf, fin, up, down, neg, le, lt, eq, below, level}
 use lib.Ieee.Fits.{up_pos}
 use Rattle.grid_sides.specs.Lengths.{magnitude}

@@ -1,13 +1,13 @@
 -- The nearest whole number by doubling: a float of 2 ^ 63 or less doubles exactly, and the whole part of x + 1/2 is half that of 2 * x + 1. Assumes nothing.
-use Rattle.std.proofs.Common.{◌≡◌, ℕ, zero, suc, ◌+◌, ◌-◌, ◌*◌, ◌/◌, ◌%◌, ◌^◌, ◌<◌, ◌≤◌, min, Bool, true, false, cond, ◌&&◌, ◌||◌, T, eqb, ltb, leb, ◌⊎◌, ℤ, pos, negsuc, sym, refl, ap, ◌∙◌, subst, inl, inr, ⊎_elim, lt_of_lt_of_le, le_of_lt, mul_assoc, mul_comm, div-lt_iff_lt-mul, add-mul, lt_of_mul-lt-mul_right, mul-lt-mul_of_pos_right, mul-pos, one-mul, le-div_iff_mul-le, mul-one, mul-add, mul_right_comm, not-le_of_lt, mul_left_comm, arith, lit<, lit≤, ltb→lt, lt→ltb, leb→le, pow_pos, pow_mono, pow-add, shl_lt, ltb-false, ltb-true}
-use native.Mathlib.Nat.{mul-lt-mul_of_pos_left, min-eq_left, min-eq_right, div-div-eq-div-mul, div-eq_of_lt, mul-div-mul_right, add-mul-div_right}
+use Rattle.std.proofs.Common.{◌≡◌, ℕ, zero, suc, ◌+◌, ◌-◌, ◌*◌, ◌/◌, ◌%◌, ◌^◌, ◌<◌, ◌≤◌, true, false, ◌&&◌, T, eqb, ltb, leb, ◌⊎◌, ℤ, pos, negsuc, sym, refl, ap, ◌∙◌, subst, inl, inr, ⊎_elim, lt_of_lt_of_le, mul_assoc, mul_comm, div-lt_iff_lt-mul, add-mul, lt_of_mul-lt-mul_right, mul-lt-mul_of_pos_right, mul-pos, one-mul, le-div_iff_mul-le, mul-one, mul_right_comm, not-le_of_lt, mul_left_comm, arith, lit≤, ltb→lt, lt→ltb, leb→le, pow_pos, pow_mono, pow-add, shl_lt, ltb-false, ltb-true}
+use native.Mathlib.Nat.{min-eq_left, min-eq_right, div-div-eq-div-mul, div-eq_of_lt, mul-div-mul_right, add-mul-div_right}
 use lib.Pow.{pow-lt}
 use native.Mathlib.Decide.{dec_le, dec_lt}
-use lib.Ieee.{Float, nan, inf, fin, Format, binary64, prec, emax, low, up, down, round, sum, add, le, lt, eq, to_unsigned, fits}
-use lib.Ieee.Fits.{up_pos, down_pos, and_l, and_r}
+use lib.Ieee.{Float, nan, inf, fin, binary64, up, down, sum, add, le, lt, eq, to_unsigned, fits}
+use lib.Ieee.Fits.{down_pos, and_l, and_r}
 use lib.Ieee.Exact.{HasValue, round_exact}
 use lib.Ieee.Nearest.{div_same}
-use lib.Ieee.Positive.{positive, num, den, le→cross, cross→le, above_of_le, first_pos}
+use lib.Ieee.Positive.{cross→le, above_of_le, first_pos}
 use Rattle.grid_sides.specs.Counts.{nearest_whole}
 
 -- ---- what a float of a known value gives

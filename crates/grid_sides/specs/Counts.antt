@@ -1,5 +1,5 @@
 -- Sides of a grid, and the counts that make its cells near cubical (document 01, "Gluing"), in the operations of IEEE 754. Assumes nothing.
-use Rattle.std.specs.Prelude.{ℕ, zero, suc, ◌+◌, ◌-◌, ◌*◌, ◌/◌, ◌^◌, min, max, Bool, true, false, cond, not, ◌&&◌, List, [], ◌∷◌, ℤ, pos, negsuc, nat_lt, slice_index_or, Float}
+use Rattle.std.specs.Prelude.{ℕ, zero, suc, ◌+◌, ◌-◌, ◌*◌, ◌/◌, ◌^◌, min, max, Bool, false, cond, not, ◌&&◌, List, [], ◌∷◌, pos, negsuc, nat_lt, slice_index_or, Float}
 use Rattle.lists.specs.Words.{first_where}
 use Rattle.grid_sides.specs.declared.Sides.{Sides}
 use Rattle.std.specs.Float.{nan, inf, fin, binary64}

@@ -1,10 +1,10 @@
 -- Squared lengths of edges, in the operations of IEEE 754. Assumes nothing.
-use Rattle.std.specs.Prelude.{ℕ, zero, suc, ◌-◌, Bool, true, false, cond, List, [], ◌∷◌, ℤ, pos, negsuc, from_bits, slice_index, Float}
+use Rattle.std.specs.Prelude.{ℕ, zero, suc, ◌-◌, Bool, false, List, [], ◌∷◌, pos, from_bits, slice_index, Float}
 use Rattle.grid_sides.specs.declared.Sides.{Sides}
 use Rattle.grid_sides.specs.declared.Steps.{Steps}
 use Rattle.grid_sides.specs.Counts.{side_of}
 use Rattle.std.specs.Float.{nan, inf, fin, binary64}
-use Rattle.std.specs.Float.Ieee.{le, lt, add, sub, mul, div, neg, of_int}
+use Rattle.std.specs.Float.Ieee.{le, add, sub, mul, div, of_int}
 
 -- side / n, one rounding
 abbrev pub spacing_of : Float → ℕ → Float

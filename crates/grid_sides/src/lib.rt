@@ -1,6 +1,8 @@
 // Sides of a grid, the counts of cells that follow from them, and squared lengths of edges: every operation on floats is rounded once, and the promises name the
 // operations in their order.
 // Follows `quasi_uniform_counts` (crates/regge/src/mesher.rs), and the sides and lengths of `FlatQuotient` (crates/regge/src/mesher/quotient.rs).
+#![tactic(auto)]
+
 ghost use Rattle.std.specs.Prelude.{◌≡◌, ℕ, suc, ◌+◌, ◌*◌, ◌^◌, ◌<◌, ◌≤◌, min, max};
 ghost use Rattle.std.specs.Float.{binary64};
 ghost use Rattle.grid_sides.specs.Counts.{side_fits, nearest_whole, share, axis_count, larger_of, side_of, unfit, first_bad, longest_of, kept_side, sides_below};
@@ -9,7 +11,7 @@ ghost use Rattle.grid_sides.specs.Lengths.{spacing_of, square_of, agrees, step_o
 use refusal::MOST_DIMENSION;
 
 // A number for each axis, as its side or its spacing.
-#[derive(Drop)]
+#[derive(Clone, Copy)]
 pub struct Sides {
     pub first: f64,
     pub second: f64,
@@ -17,7 +19,7 @@ pub struct Sides {
 }
 
 // A step along each axis.
-#[derive(Drop)]
+#[derive(Clone, Copy)]
 pub struct Steps {
     pub first: u32,
     pub second: u32,

@@ -1,12 +1,10 @@
 -- A swath is the single calls one after the other: over what `reduce` promises and what `swath` promises. Assumes nothing.
 use mathlib.Core.List.{List, []}
-use mathlib.Core.Path.{◌≡◌, refl, sym, ap, ◌∙◌}
-use mathlib.Core.Bool.{Bool, true, false}
-use Prim.Native.Nat.{ℕ, ◌≤◌, ◌<◌}
+use mathlib.Core.Path.{◌≡◌, refl, ap, ◌∙◌}
+use Prim.Native.Nat.{ℕ, ◌<◌}
 use native.Mathlib.Omega.{arith}
 use lib.Dec.{ltb}
 use lib.ListN.{length, get_or, length-map, get_or-append}
-use borrow.Author.Tests.{le-ltb}
 use Rattle.lists.proofs.Laws.{map_at}
 use Rattle.refusal.specs.declared.Answer.{Answer}
 use Rattle.refusal.specs.declared.Answer.TheVariants.{Fine, Refused}

@@ -1,5 +1,7 @@
 // Whole swaths: many grid points reduced in one call, each as the single call does it. The port added it (document 02, K10). The grid is checked once for the list; a number past the last
 // grid point is marked as no vertex.
+#![tactic(auto)]
+
 ghost use Rattle.std.specs.Prelude.{◌≡◌, length};
 ghost use Rattle.refusal.specs.declared.Answer.TheVariants as Answer;
 ghost use Rattle.refusal.specs.Lent.{onto};

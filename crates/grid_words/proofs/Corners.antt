@@ -1,18 +1,17 @@
 -- The corners of a cell: each is one step further than the one before it, and all are corners of one box. Assumes nothing.
 use mathlib.Core.Path.{◌≡◌, refl, sym, ap, subst, ◌∙◌}
-use mathlib.Core.Bool.{Bool, true, false, cond, ◌&&◌}
-use mathlib.Core.Logic.{◌⊎◌, inl, inr, ⊎_elim}
+use mathlib.Core.Bool.{Bool, true, false, cond}
+use mathlib.Core.Logic.{◌⊎◌, ⊎_elim}
 use mathlib.Core.List.{List, [], ◌∷◌}
-use Prim.Native.Nat.{ℕ, zero, suc, ◌+◌, ◌-◌, ◌*◌, ◌/◌, ◌%◌, ◌≤◌, ◌<◌, ◌^◌, suc-le-suc}
-use native.Mathlib.Nat.{mod-lt, mul-suc, mul-zero, mul-one, one-mul, mul_comm, mul_assoc, le_trans, mul-le-mul_left, mul-le-mul_right, add-zero, le_refl, le_of_suc-le-suc, div-div-eq-div-mul}
+use Prim.Native.Nat.{ℕ, zero, suc, ◌+◌, ◌-◌, ◌*◌, ◌/◌, ◌%◌, ◌≤◌, ◌<◌, suc-le-suc}
+use native.Mathlib.Nat.{mod-lt, mul-suc, one-mul, mul_comm, mul_assoc, le_trans, mul-le-mul_left, mul-le-mul_right, le_refl, le_of_suc-le-suc, div-div-eq-div-mul}
 use native.Mathlib.Numerals.{add-one}
 use native.Mathlib.Omega.{arith}
-use native.Mathlib.Decide.{dec_lt}
-use lib.Dec.{eqb, leb, ltb}
+use lib.Dec.{eqb, ltb}
 use lib.ListN.{length, get_or, take}
 use borrow.Author.Tests.{eqb-true, ltb-true, ltb-false}
 use Rattle.refusal.specs.declared.Answer.TheVariants.{Fine}
-use Rattle.refusal.specs.Limits.{most_cells, most_dimension}
+use Rattle.refusal.specs.Limits.{most_cells}
 use Rattle.lists.specs.Words.{same}
 use Rattle.multiindex.specs.Permutation.{orders, order_of}
 use Rattle.multiindex.proofs.Tables.{all_below, at-below}
@@ -22,12 +21,12 @@ use Rattle.quotient.specs.Fold.{product, factorial}
 use Rattle.quotient.specs.Shape.{cells_on, points_on, closed_at, closed_floor, open_floor, check_of, cell_count}
 use Rattle.quotient.specs.Reduce.{coord_at, vertex_of}
 use Rattle.quotient.specs.Points.{from_digits, points_of, point_of, InBox}
-use Rattle.quotient.proofs.Laws.{lt-or-ge, lt-or-eq, product-mono, product-pos, product-step, place}
-use Rattle.quotient.proofs.Taken.{taken-low, taken-high, taken-cells, enough}
-use Rattle.quotient.proofs.Radix.{number_same, number_lt, point-lt, coord-of-point}
+use Rattle.quotient.proofs.Laws.{lt-or-eq, product-mono, product-pos, product-step, place}
+use Rattle.quotient.proofs.Taken.{taken-high, taken-cells, enough}
+use Rattle.quotient.proofs.Radix.{number_same, point-lt, coord-of-point}
 use Rattle.quotient.proofs.Boxes.{corners, box-one}
 use Rattle.grid_words.specs.Cells.{boxes_of, box_at, step_along, met}
-use Rattle.grid_words.specs.WorkNumbered.{stride_of, each_box, order_at, cell_no, corner_of}
+use Rattle.grid_words.specs.WorkNumbered.{stride_of, each_box, order_at, corner_of}
 
 -- ---- one step along an axis
 step-before : (f c : ℕ → ℕ) (a k : ℕ) → k ≤ a → from_digits f (step_along a c) k ≡ from_digits f c k
@@ -45,7 +44,8 @@ step_after f c a (suc k) h =
     (λ (l : a ≡ k).
     let z : same a k ≡ 1 = same-yes a k l in
     let e : c k + same a k ≡ suc (c k) = omega arith in
-    rw (e, l) (omega (arith, step-before f c k k (le_refl k), mul-suc (product f k) (c k))))
+    let p : product f a ≡ product f k = ap (product f) l in
+    rw e (omega (arith, p, step-before f c a k (omega arith), mul-suc (product f k) (c k))))
     (lt-or-eq a k h)
 
 -- how often axis k stands in an order

@@ -1,7 +1,6 @@
 -- Document 01's figures: the words of 3×1 with axis 0 twisted over 1, and with axis 0 periodic. Assumes nothing.
 use mathlib.Core.Path.{◌≡◌, refl}
-use mathlib.Core.List.{List, [], ◌∷◌}
-use Prim.Native.Nat.{ℕ}
+use mathlib.Core.List.{[], ◌∷◌}
 use lib.IntN.{pos}
 use lib.Ieee.{fin}
 use mathlib.Core.Bool.{false}

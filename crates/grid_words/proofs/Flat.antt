@@ -1,18 +1,17 @@
 -- Lists of words one after the other, gathered lists and their members. Assumes nothing.
-use mathlib.Core.Path.{◌≡◌, refl, sym, ap, subst, ◌∙◌}
+use mathlib.Core.Path.{◌≡◌, refl, sym, ap, ◌∙◌}
 use mathlib.Core.Logic.{◌⊎◌, inl, inr, ⊎_elim}
 use mathlib.Core.List.{List, [], ◌∷◌, ◌++◌, map}
-use Prim.Native.Nat.{ℕ, zero, suc, ◌+◌, ◌-◌, ◌*◌, ◌/◌, ◌%◌, ◌≤◌, ◌<◌}
-use native.Mathlib.Nat.{suc-mul, zero-mul, mul-le-mul_right, div-add-mod', div-lt_iff_lt-mul, mod-lt, le_of_suc-le-suc}
+use Prim.Native.Nat.{ℕ, zero, suc, ◌+◌, ◌-◌, ◌*◌, ◌/◌, ◌%◌, ◌<◌}
+use native.Mathlib.Nat.{suc-mul, zero-mul, div-add-mod', div-lt_iff_lt-mul, mod-lt, le_of_suc-le-suc}
 use native.Mathlib.Omega.{arith}
 use lib.ListN.{length, get_or, length-append, get_or-append}
 use lib.Seq.{get_or-append-add}
 use Rattle.lists.specs.Rows.{flat}
 use Rattle.lists.specs.Tables.{tab}
 use Rattle.multiindex.specs.Permutation.{gather}
-use Rattle.lists.proofs.Tables.{get_or-tab, list-tab}
+use Rattle.lists.proofs.Tables.{list-tab}
 use Rattle.complex_cells.proofs.Words.{Word, In}
-use Rattle.quotient.proofs.Laws.{lt-or-ge}
 
 -- ---- words of n numbers, one after the other
 pub flat-length : (n count : ℕ) (F : ℕ → List ℕ) → ((x : ℕ) → x < count → length (F x) ≡ n) → length (flat (tab count F)) ≡ count * n

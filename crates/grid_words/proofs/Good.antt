@@ -1,40 +1,35 @@
 -- The words of a grid that is taken pass the checks of a cell list: no word names a vertex twice, and no vertex number is left out. Assumes nothing.
 use mathlib.Core.Path.{◌≡◌, refl, sym, ap, subst, ◌∙◌}
 use mathlib.Core.Bool.{Bool, true, false, ◌||◌}
-use mathlib.Core.Logic.{◌⊎◌, inl, inr, ⊎_elim}
-use mathlib.Core.List.{List, [], ◌∷◌, ◌++◌, map}
-use Prim.Native.Nat.{ℕ, zero, suc, ◌+◌, ◌-◌, ◌*◌, ◌/◌, ◌%◌, ◌≤◌, ◌<◌, max}
-use native.Mathlib.Nat.{mod-lt, le_refl, le_trans, suc-mul, mul-suc, mul_comm, mul-le-mul_right, div-add-mod', div-lt_iff_lt-mul, le_of_suc-le-suc, zero-mul}
+use mathlib.Core.Logic.{◌⊎◌, inl, inr}
+use mathlib.Core.List.{List, [], ◌∷◌}
+use Prim.Native.Nat.{ℕ, zero, suc, ◌+◌, ◌-◌, ◌*◌, ◌/◌, ◌%◌, ◌≤◌, ◌<◌}
+use native.Mathlib.Nat.{mod-lt, suc-mul, mul-suc, mul_comm, mul-le-mul_right}
 use native.Mathlib.Numerals.{add-one}
 use native.Mathlib.Omega.{arith}
 use native.Mathlib.Decide.{dec_lt}
 use lib.Dec.{eqb}
 use lib.Arith.{digits_div, digits_mod, digits_lt}
-use lib.ListN.{length, get_or, take, drop}
-use lib.Seq.{length-take-le}
+use lib.ListN.{length, get_or, take}
 use borrow.Author.Tests.{eq-eqb, ne_eqb}
 use Rattle.refusal.specs.declared.Answer.TheVariants.{Fine}
-use Rattle.refusal.specs.Limits.{most_cells, most_vertices}
 use Rattle.multiindex.specs.Permutation.{orders, order_of}
-use Rattle.lists.specs.Words.{among, has_repeat, largest_of, same}
+use Rattle.lists.specs.Words.{among, has_repeat, largest_of}
 use Rattle.lists.proofs.Members.{Mem, Mem-of, All, All-of, Pairs, Pairs-of}
-use Rattle.lists.proofs.Words.{below-largest}
 use Rattle.lists.specs.Rows.{row}
 use Rattle.sorting.proofs.Colex.{row-cell, row-length}
 use Rattle.complex.specs.Check.{Passed}
 use Rattle.quotient.specs.declared.Grid.{Grid}
-use Rattle.quotient.specs.Fold.{product}
 use Rattle.quotient.specs.Shape.{cells_on, points_on, check_of, cell_count, vertices_of}
 use Rattle.quotient.specs.Reduce.{coord_at, vertex_of}
-use Rattle.quotient.specs.Points.{from_digits, points_of, point_of, InBox, Cornered}
-use Rattle.quotient.proofs.Laws.{lt-or-ge, lt-or-eq, product-pos}
+use Rattle.quotient.specs.Points.{from_digits, InBox}
 use Rattle.quotient.proofs.Taken.{taken-low, taken-cells, taken-vertices}
 use Rattle.quotient.proofs.Radix.{number_lt, number_same, number-one, number_digits, digit_of, digit_lt, point-of-coords}
 use Rattle.quotient.proofs.Onto.{vertex-lt}
 use Rattle.quotient.proofs.Boxes.{every-corner}
 use Rattle.grid_words.specs.Cells.{boxes_of, box_at, flat_words}
-use Rattle.grid_words.specs.WorkNumbered.{each_box, order_at, cell_no, corner_of}
-use Rattle.grid_words.proofs.Corners.{times_in, dim, some-cell, some-order, orders-factorial, order_long, box-lt, at, corner-point, corner-lt, corners-apart}
+use Rattle.grid_words.specs.WorkNumbered.{each_box, order_at, corner_of}
+use Rattle.grid_words.proofs.Corners.{times_in, dim, some-cell, some-order, orders-factorial, at, corner-point, corner-lt, corners-apart}
 use Rattle.grid_words.proofs.Listed.{words_long, words-at}
 
 -- ---- numbers in lists

@@ -1,26 +1,24 @@
 -- The cells by number are the cells of the grid in colex order: boxes in the order of their numbers have rising last corners, and inside a box the later order comes
 -- first (proofs/Inside). A rising list is determined by its members. Assumes nothing.
 use mathlib.Core.Path.{◌≡◌, refl, sym, ap, subst, ◌∙◌}
-use mathlib.Core.Bool.{Bool, true, false}
-use mathlib.Core.Logic.{◌⊎◌, inl, inr, ⊎_elim}
-use mathlib.Core.List.{List, [], ◌∷◌, ◌++◌, map}
+use mathlib.Core.Logic.{◌⊎◌, inl, ⊎_elim}
+use mathlib.Core.List.{List, [], ◌∷◌, map}
 use Prim.Native.Nat.{ℕ, zero, suc, ◌+◌, ◌-◌, ◌*◌, ◌/◌, ◌%◌, ◌≤◌, ◌<◌}
-use native.Mathlib.Nat.{mul-suc, mul_comm, suc-mul, mul-le-mul_left, mul-le-mul_right, mod-lt, div-add-mod, div-add-mod', div-lt_iff_lt-mul, le_refl, le_trans, mul-one}
+use native.Mathlib.Nat.{mul-suc, mul_comm, suc-mul, mul-le-mul_left, mul-le-mul_right, mod-lt, div-add-mod, div-lt_iff_lt-mul, le_refl}
 use native.Mathlib.Numerals.{add-one}
 use native.Mathlib.Omega.{arith}
-use lib.Dec.{ltb}
 use lib.Arith.{digits_div, digits_mod}
 use lib.ListN.{length, get_or, take, length-map}
 use lib.Seq.{take_all}
-use borrow.Author.Tests.{ltb-true, ltb-false, le-ltb}
+use borrow.Author.Tests.{le-ltb}
 use Rattle.refusal.specs.declared.Answer.TheVariants.{Fine}
 use Rattle.lists.specs.Rows.{flat}
 use Rattle.lists.proofs.Laws.{map_at}
-use Rattle.lists.specs.Tables.{tab, upto}
+use Rattle.lists.specs.Tables.{tab}
 use Rattle.multiindex.specs.Permutation.{orders, order_of}
 use Rattle.multiindex.specs.Sort.{insert_by, insert, sort_word}
 use Rattle.lists.proofs.Tables.{length-tab, get_or-tab, tab-ext, map-tab}
-use Rattle.lists.proofs.Members.{All, All-at, All-of, Pairs, Pairs-of}
+use Rattle.lists.proofs.Members.{All, All-of, Pairs, Pairs-of}
 use Rattle.complex.specs.Cells.{in_order}
 use Rattle.complex_cells.proofs.Words.{Word, In, Each, Rising, each_of, rising-by, one_list}
 use Rattle.complex_cells.proofs.Order.{Colex, colex-irr, colex-trans, order-rising, order_from, order-has}
@@ -28,8 +26,8 @@ use Rattle.quotient.specs.declared.Grid.{Grid}
 use Rattle.quotient.specs.Fold.{product}
 use Rattle.quotient.specs.Shape.{cells_on, points_on, check_of, cell_count}
 use Rattle.quotient.specs.Reduce.{vertex_of}
-use Rattle.quotient.specs.Points.{from_digits, points_of, point_of}
-use Rattle.quotient.proofs.Laws.{lt-or-ge, lt-or-eq, place, product-pos}
+use Rattle.quotient.specs.Points.{from_digits, point_of}
+use Rattle.quotient.proofs.Laws.{lt-or-ge, product-pos}
 use Rattle.quotient.proofs.Radix.{number_lt, number_same, number_digits}
 use Rattle.grid_words.specs.Cells.{boxes_of, box_at, step_along, met, chains, grid_cells, words_of, flat_words}
 use Rattle.grid_words.specs.WorkNumbered.{stride_of, each_box, order_at, cell_no, corner_of}

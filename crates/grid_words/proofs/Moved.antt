@@ -1,9 +1,9 @@
 -- Every box is the first box, moved to its origin: a corner lies as far from its box's origin as the same corner of box 0 lies from point 0. And the origin of the next box in
 -- a row of axis 0 is the next point. Assumes nothing.
 use mathlib.Core.Path.{◌≡◌, refl, sym, ap, subst, ◌∙◌}
-use mathlib.Core.List.{List, [], ◌∷◌, ◌++◌}
+use mathlib.Core.List.{List, ◌++◌}
 use Prim.Native.Nat.{ℕ, zero, suc, ◌+◌, ◌-◌, ◌*◌, ◌/◌, ◌%◌, ◌≤◌, ◌<◌}
-use native.Mathlib.Nat.{le_of_suc-le-suc, div-eq_of_lt, mod-lt, mod-eq_of_lt, zero-mul, mul-one, one-mul, mul_assoc, mul_comm, mul-zero, suc-mul, mul-le-mul_left, mul-le-mul_right, mul-add, add-mul, le_refl, le_trans, zero-div, zero-mod, div-one, div-div-eq-div-mul, div-add-mod', div-lt_iff_lt-mul, add_assoc, mul-mul-mul_comm, mul_right_comm}
+use native.Mathlib.Nat.{le_of_suc-le-suc, div-eq_of_lt, mod-lt, mod-eq_of_lt, zero-mul, mul-one, one-mul, mul_assoc, mul_comm, mul-zero, suc-mul, mul-le-mul_left, mul-le-mul_right, mul-add, add-mul, le_refl, le_trans, zero-div, zero-mod, div-one, div-div-eq-div-mul, div-add-mod', div-lt_iff_lt-mul, mul-mul-mul_comm, mul_right_comm}
 use native.Mathlib.Numerals.{add-one}
 use native.Mathlib.Omega.{arith}
 use lib.Arith.{digits_div, digits_mod}
@@ -13,7 +13,7 @@ use Rattle.lists.proofs.Laws.{store, copied, front-part, back-length}
 use Rattle.refusal.specs.declared.Answer.TheVariants.{Fine}
 use Rattle.lists.specs.Tables.{tab}
 use Rattle.lists.specs.Words.{same}
-use Rattle.multiindex.specs.Permutation.{orders, order_of}
+use Rattle.multiindex.specs.Permutation.{order_of}
 use Rattle.lists.proofs.Words.{same-yes, same-no}
 use Rattle.lists.proofs.Tables.{length-tab, get_or-tab, tab-ext}
 use Rattle.quotient.specs.declared.Grid.{Grid}
@@ -26,7 +26,7 @@ use Rattle.quotient.proofs.Radix.{number_same}
 use Rattle.grid_words.specs.Cells.{boxes_of, box_at, step_along, flat_words}
 use Rattle.grid_words.specs.WorkNumbered.{each_box, order_at, corner_of}
 use Rattle.grid_words.specs.Work.{vertex_table, reach_long, reach_of, moved_to, moved_by, Moving}
-use Rattle.grid_words.proofs.Corners.{few-orders, times_in, step_after, dim, some-cell, some-order, box-lt, points-few, corner-point, corner-coord, corner-lt, orders-factorial, cells-product}
+use Rattle.grid_words.proofs.Corners.{few-orders, times_in, step_after, dim, some-cell, some-order, points-few, corner-point, corner-coord, corner-lt, cells-product}
 use Rattle.grid_words.proofs.Listed.{flat-words}
 
 -- ---- numbers add digit by digit

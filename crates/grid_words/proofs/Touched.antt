@@ -1,10 +1,9 @@
 -- The corners of a box: a step along some of the axes from its origin. Every corner of a cell of the box is one of them, so a box none of whose corners is a vertex has no cell with
 -- that vertex. Assumes nothing.
-use mathlib.Core.Path.{◌≡◌, refl, sym, ap, subst, ◌∙◌}
+use mathlib.Core.Path.{◌≡◌, sym, ap, subst, ◌∙◌}
 use mathlib.Core.Bool.{Bool, true, false}
-use mathlib.Core.List.{List}
 use Prim.Native.Nat.{ℕ, zero, suc, ◌+◌, ◌-◌, ◌*◌, ◌/◌, ◌%◌, ◌≤◌, ◌<◌}
-use native.Mathlib.Nat.{mod-lt, mul-le-mul_left, mul-le-mul_right, le_trans, le_refl, div-div-eq-div-mul}
+use native.Mathlib.Nat.{mod-lt, mul-le-mul_left, mul-le-mul_right, le_trans, div-div-eq-div-mul}
 use native.Mathlib.Numerals.{add-one}
 use native.Mathlib.Omega.{arith}
 use lib.Dec.{eqb}

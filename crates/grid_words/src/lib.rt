@@ -6,6 +6,8 @@
 // last to the first, so a cell's number tells its box and its order, and nothing has to be sorted.
 //
 // Every box is the first one moved to its origin, so each point is reduced once, into a table, and each corner is read from it.
+#![tactic(auto)]
+
 ghost use Rattle.std.specs.Prelude.{◌≡◌, ℕ, suc, ◌+◌, ◌*◌, ◌<◌, ◌≤◌, length};
 ghost use Rattle.refusal.specs.declared.Answer.TheVariants.{Fine};
 ghost use Rattle.quotient.specs.Fold.{product};

@@ -8,7 +8,7 @@ use native.Mathlib.Numerals.{add-one}
 use native.Mathlib.Nat.{le_of_eq, le_trans, lt_of_lt_of_le, suc-mul, mul-le-mul_right}
 use native.Mathlib.Omega.{arith}
 use lib.Dec.{eqb}
-use lib.ListN.{length, get_or, take, drop, set, drop_of_length-le, length-drop, length-set, length-replicate, replicate, get_or-replicate}
+use lib.ListN.{length, get_or, take, drop, set, drop_of_length-le, length-drop, length-replicate, replicate, get_or-replicate}
 use lib.Seq.{drop-cons, take_all, get_or-set_same, get_or-set_other, lt-length-set}
 use borrow.Author.Tests.{eq-eqb, ne_eqb, eqb-true, eqb-false}
 use Rattle.lists.specs.Words.{same_word, same, among, has_repeat, largest_of, found_at, first_where, marked}

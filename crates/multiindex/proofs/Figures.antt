@@ -1,7 +1,7 @@
 -- Signs of small words, computed: the parity of their pairs out of order. Assumes nothing.
-use mathlib.Core.List.{List, [], ◌∷◌}
+use mathlib.Core.List.{[], ◌∷◌}
 use mathlib.Core.Path.{◌≡◌, refl}
-use Prim.Native.Nat.{ℕ, ◌%◌}
+use Prim.Native.Nat.{◌%◌}
 use Rattle.multiindex.specs.Sort.{add_if, smaller, inversions}
 
 pub sign-012 : inversions (0 ∷ 1 ∷ 2 ∷ []) % 2 ≡ 0

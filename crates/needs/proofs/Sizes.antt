@@ -1,10 +1,10 @@
 -- How long words are one after the other, and each cell of a checked word list; it has no more vertices than corners. Assumes nothing.
 use mathlib.Core.List.{List, [], ◌∷◌}
 use mathlib.Core.Path.{◌≡◌, ap}
-use Prim.Native.Nat.{ℕ, zero, suc, ◌+◌, ◌*◌, ◌≤◌}
+use Prim.Native.Nat.{ℕ, suc, ◌+◌, ◌*◌, ◌≤◌}
 use native.Mathlib.Omega.{arith}
 use lib.ListN.{length, length-append}
-use Rattle.lists.specs.Rows.{rows, flat}
+use Rattle.lists.specs.Rows.{flat}
 use Rattle.lists.specs.Words.{largest_of}
 use Rattle.multiindex.proofs.SortLaws.{sort-length}
 use Rattle.complex.specs.Check.{Passed}

@@ -1,5 +1,7 @@
 // What the functions that tell the lengths of a call's lists are made of: the corners that a call can come to work on, and the keys of its rows. What it means that lists are
 // long enough stands in specs/Enough, that a call of the common shape never says 12 then in proofs/Enough. The port added it: the Rust has no lent lists.
+#![tactic(auto)]
+
 ghost use Rattle.std.specs.Prelude.{◌≡◌, suc, ◌*◌, ◌≤◌};
 ghost use Rattle.refusal.specs.Limits.{most_cells, most_dimension};
 ghost use Rattle.complex.specs.Room.{key_room};

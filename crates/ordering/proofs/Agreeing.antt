@@ -16,13 +16,11 @@ use Rattle.lists.proofs.Laws.{front-part}
 use Rattle.multiindex.specs.Sort.{inversions}
 use Rattle.multiindex.specs.Sign.{Sign, plus, minus, opposite, induced}
 use Rattle.multiindex.proofs.SortLaws.{sort-length}
-use Rattle.complex.specs.Facets.{cell_at, slots, Mates}
-use Rattle.complex_mates.specs.Table.{MateTable}
-use Rattle.lists.proofs.Rows.{row-cell-below, row-slot-below}
-use Rattle.complex_mates.proofs.Meeting.{slots-most}
+use Rattle.complex.specs.Facets.{cell_at, slots}
+use Rattle.lists.proofs.Rows.{row-cell-below}
 use Rattle.orientation_walk.specs.WorkSigns as walk
 use Rattle.orientation_signs.specs.WorkFound.{sign_of}
-use Rattle.complex_mates.proofs.Mated.{mate-below, facet-row, mates-row, rows_few}
+use Rattle.complex_mates.proofs.Mated.{facet-row, mates-row, rows_few}
 use Rattle.lists.specs.Words.{without, none}
 use Rattle.ordering_words.specs.Order.{words_by, word_of, AgreeOnFacets}
 use Rattle.ordering.specs.WorkAgree.{row_word, AgreesAt, Clash, mark_at}

@@ -1,5 +1,4 @@
 -- The ends of the work of `ordering`: the cells, the words by cell and the mates are ready, or the call is refused. Assumes nothing.
-use mathlib.Core.Bool.{Bool, true, false}
 use mathlib.Core.List.{List, [], ◌++◌}
 use mathlib.Core.Path.{◌≡◌, refl, sym, ap, ◌∙◌, subst}
 use Prim.Native.Nat.{ℕ, suc, ◌+◌, ◌-◌, ◌*◌, ◌<◌, ◌≤◌}
@@ -21,7 +20,6 @@ use Rattle.complex_mates.proofs.Meeting.{slots-most}
 use Rattle.complex_cells.proofs.Making.{few-corners}
 use Rattle.complex_mates.proofs.Mated.{mate-below}
 use Rattle.ordering_words.specs.Order.{words_by}
-use Rattle.ordering.specs.declared.Ordered.{Ordered}
 use Rattle.ordering.specs.declared.Ordered.TheVariants.{Agree, Differ, Refused}
 use Rattle.ordering.specs.WorkAgree.{AgreesAt, Clash, Agreeing}
 use Rattle.ordering.specs.Promise.{Preparing, Ready, Prepared, Ends, Worked}

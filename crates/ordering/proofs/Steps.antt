@@ -1,14 +1,14 @@
 -- The work on an order, step by step: what each call asks follows from what the calls before it gave. Assumes nothing.
 use mathlib.Core.Bool.{Bool, true, false}
-use mathlib.Core.List.{List, [], ◌∷◌, ◌++◌, append-nil}
+use mathlib.Core.List.{List, ◌++◌, append-nil}
 use mathlib.Core.Path.{◌≡◌, refl, sym, ap, ◌∙◌, subst}
-use Prim.Native.Nat.{ℕ, zero, suc, ◌+◌, ◌-◌, ◌*◌, ◌<◌, ◌≤◌}
+use Prim.Native.Nat.{ℕ, suc, ◌+◌, ◌-◌, ◌*◌, ◌≤◌}
 use native.Mathlib.Omega.{arith}
-use lib.ListN.{length, get_or, take, drop, length-append, length-drop, drop_of_length-le}
-use lib.Seq.{length-take-le, take_at, drop_at}
+use lib.ListN.{length, take, drop, length-append, length-drop, drop_of_length-le}
+use lib.Seq.{length-take-le, drop_at}
 use Rattle.refusal.specs.declared.Counted.TheVariants as Counted
 use Rattle.refusal.specs.Table.{crowded_facet, bad_order}
-use Rattle.lists.specs.Rows.{cut, rows, flat}
+use Rattle.lists.specs.Rows.{cut, flat}
 use Rattle.lists.proofs.Flat.{flat-cut}
 use Rattle.lists.proofs.Rows.{cut-length}
 use Rattle.lists.proofs.Words.{tail-part}
@@ -19,9 +19,9 @@ use Rattle.complex_cells.specs.WorkMade.{Making, Made}
 use Rattle.complex_mates.proofs.Mated.{not-crowded}
 use Rattle.complex_facets.specs.WorkAcross.{Keeping, Linked}
 use Rattle.orientation.proofs.Steps.{keeping}
-use Rattle.ordering_words.specs.Order.{words_by, by_cell, Orders}
+use Rattle.ordering_words.specs.Order.{words_by, Orders}
 use Rattle.ordering_words.specs.WorkArrange.{Arranging, Arranged}
-use Rattle.ordering.specs.Promise.{Preparing, Ready, Prepared, crowded, unordered, ready, Joined}
+use Rattle.ordering.specs.Promise.{Preparing, Prepared, crowded, unordered, ready, Joined}
 use Rattle.ordering_words.proofs.Lists.{made_again}
 
 module _ (d at : ℕ) (ws keys rows₀ spare counts : List ℕ) (w : Preparing d at ws keys rows₀ spare counts) where

@@ -2,15 +2,13 @@
 use mathlib.Core.Bool.{Bool, true, false}
 use mathlib.Core.List.{List}
 use mathlib.Core.Path.{◌≡◌, refl, sym, ap, ◌∙◌, subst}
-use Prim.Native.Nat.{ℕ, suc, ◌+◌, ◌*◌, ◌%◌, ◌<◌, ◌≤◌}
+use Prim.Native.Nat.{ℕ, suc, ◌+◌, ◌*◌, ◌<◌, ◌≤◌}
 use native.Mathlib.Nat.{mul-le-mul_left, mul-suc}
 use native.Mathlib.Numerals.{add-one}
 use native.Mathlib.Omega.{arith}
-use lib.ListN.{length, get_or, take, drop, length-drop}
-use lib.Seq.{length-take-le}
+use lib.ListN.{length, get_or, drop, length-drop}
 use Rattle.refusal.specs.declared.Counted.{Counted}
 use Rattle.refusal.specs.declared.Counted.TheVariants as Counted
-use Rattle.refusal.specs.declared.Verdict.{Verdict}
 use Rattle.refusal.specs.declared.Verdict.TheVariants.{Yes, No, Refused}
 use Rattle.refusal.specs.Table.{crowded_facet, bad_order}
 use Rattle.refusal.specs.Limits.{many_corners}
@@ -18,12 +16,10 @@ use Rattle.lists.specs.Rows.{row}
 use Rattle.multiindex.specs.Sort.{inversions}
 use Rattle.complex.specs.Cells.{cells_of}
 use Rattle.complex.specs.Facets.{cell_at, slots}
-use Rattle.lists.specs.Words.{none}
 use Rattle.complex_facets.specs.WorkAcross.{Linked}
 use Rattle.complex_mates.proofs.Meeting.{slots-most}
 use Rattle.complex_cells.proofs.Making.{few-corners}
 use Rattle.orientation_walk.specs.WorkSigns as walk
-use Rattle.orientation_signs.specs.Signs.{Coherent}
 use Rattle.orientation_signs.specs.WorkFound.{sign_of}
 use Rattle.orientation_by.specs.WorkTest.{Weighing, Tested}
 use Rattle.orientation_by.proofs.Determined.{coherent-same}

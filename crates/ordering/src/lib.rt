@@ -9,6 +9,8 @@
 //   rows               cells            cells                  mates          the cell across each slot
 //   spare              first rows       first rows             first rows     whether signs differ across each slot
 //   counts             buckets          classes                classes        facets of rows, then the words' signs
+#![tactic(auto)]
+
 ghost use Rattle.std.specs.Prelude.{◌≡◌, ◌<◌, length};
 ghost use Rattle.refusal.specs.Limits.{many_corners};
 ghost use Rattle.lists.specs.Zero.{AllZero};
@@ -20,7 +22,7 @@ use refusal::{Answer, BAD_ORDER, CROWDED_FACET, Counted, Room, TOO_SHORT, Verdic
 pub mod agreement;
 
 // What a call on an order says: how many cells there are, and whether the order agrees on every facet of two of them.
-#[derive(Drop)]
+#[derive(Clone, Copy)]
 pub enum Ordered {
     Agree(u32),
     Differ(u32),

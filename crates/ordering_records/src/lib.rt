@@ -7,6 +7,8 @@
 //   rows               cells            cells                  mates
 //   spare              first rows       first rows             first rows
 //   counts             buckets          classes                other rows of the facets
+#![tactic(auto)]
+
 ghost use Rattle.std.specs.Prelude.{◌≡◌, get_or};
 ghost use Rattle.lists.specs.Zero.{AllZero};
 ghost use Rattle.ordering.specs.Promise.{Preparing};

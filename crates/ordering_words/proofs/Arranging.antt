@@ -1,12 +1,12 @@
 -- Arranging an order's words by cell, by its ways out. Assumes nothing.
 use mathlib.Core.Bool.{Bool, true, false}
-use mathlib.Core.List.{List, [], ◌∷◌, ◌++◌}
+use mathlib.Core.List.{List, [], ◌++◌}
 use mathlib.Core.Path.{◌≡◌, refl, sym, ap, ◌∙◌, subst}
-use Prim.Native.Nat.{ℕ, zero, suc, ◌+◌, ◌-◌, ◌*◌, ◌/◌, ◌%◌, ◌<◌, ◌≤◌, ◌^◌}
-use native.Mathlib.Nat.{add-sub_cancel_left, div-add-mod', mul-div_cancel, mul-mod_left, mod-lt, div-lt_iff_lt-mul, mul-suc, le_trans, mul-le-mul_right, suc-mul}
+use Prim.Native.Nat.{ℕ, suc, ◌+◌, ◌-◌, ◌*◌, ◌/◌, ◌%◌, ◌<◌, ◌≤◌}
+use native.Mathlib.Nat.{add-sub_cancel_left, div-add-mod', mul-div_cancel, mul-mod_left, mod-lt, div-lt_iff_lt-mul, mul-suc}
 use native.Mathlib.Numerals.{add-one}
 use native.Mathlib.Omega.{arith}
-use lib.ListN.{length, get_or, take, drop, length-append, length-drop}
+use lib.ListN.{length, get_or, take, drop}
 use lib.Seq.{length-take-le, take_at, drop_at, get_or-take}
 use Rattle.refusal.specs.Limits.{many_corners}
 use Rattle.lists.specs.Rows.{cut, rows, flat, row}
@@ -15,13 +15,13 @@ use Rattle.lists.proofs.Members.{All, All-at, All-of}
 use Rattle.multiindex.specs.Sort.{sort_word}
 use Rattle.sorting.specs.Gather.{rows_of}
 use Rattle.sorting.proofs.Colex.{row-cell, row-length}
-use Rattle.sorting.proofs.Rows.{RowIn, rows_of-length, rows_of-pos, pos-room}
+use Rattle.sorting.proofs.Rows.{rows_of-pos, pos-room}
 use Rattle.complex.specs.Cells.{in_order, cells_of}
 use Rattle.complex_cells.specs.WorkMade.{Made}
 use Rattle.complex_cells.proofs.Words.{Word, Each, Rising, In, each_of, in-at, at_in}
 use Rattle.complex_cells.proofs.Order.{Colex, order-rising, order-has}
 use Rattle.ordering_words.specs.Order.{word_of, by_cell, IsOrder, Orders}
-use Rattle.ordering_words.specs.WorkArrange.{Matching, Fits, Matched, Arranging, Arranged}
+use Rattle.ordering_words.specs.WorkArrange.{Matching, Matched, Arranging, Arranged}
 use Rattle.ordering_words.proofs.Orders.{order_same, same-order, by-cell-rows}
 use Rattle.ordering_words.proofs.Lists.{sort-back}
 

@@ -3,11 +3,11 @@ use mathlib.Core.Bool.{Bool, true, false}
 use mathlib.Core.List.{List, [], ◌∷◌, ◌++◌}
 use mathlib.Core.Path.{◌≡◌, refl, sym, ap, ◌∙◌, subst}
 use Prim.Native.Nat.{ℕ, zero, suc, ◌+◌, ◌-◌, ◌*◌, ◌<◌, ◌≤◌}
-use native.Mathlib.Nat.{suc-mul, add-sub_cancel_left, mul-le-mul_right, zero-add}
+use native.Mathlib.Nat.{suc-mul, add-sub_cancel_left, zero-add}
 use native.Mathlib.Omega.{arith}
 use lib.Dec.{ltb}
 use lib.ListN.{length, get_or, take, drop, length-drop}
-use lib.Seq.{length-take-le, take_at, drop_at, take-take, drop-drop, drop-append-add, take-append-le, get_or-take}
+use lib.Seq.{length-take-le, take_at, drop_at, take-take, drop-drop, drop-append-add, get_or-take}
 use Rattle.lists.specs.Rows.{cut, flat}
 use Rattle.lists.proofs.Flat.{flat-cut}
 use Rattle.lists.proofs.Members.{All}

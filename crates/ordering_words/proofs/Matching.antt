@@ -1,8 +1,8 @@
 -- The comparison of the order's words with the cells. Assumes nothing.
 use mathlib.Core.Bool.{Bool, true, false}
-use mathlib.Core.List.{List, [], ◌∷◌, ◌++◌}
+use mathlib.Core.List.{List, [], ◌++◌}
 use mathlib.Core.Path.{◌≡◌, refl, sym, ap, ◌∙◌, subst}
-use Prim.Native.Nat.{ℕ, zero, suc, ◌+◌, ◌-◌, ◌*◌, ◌<◌, ◌≤◌, ◌^◌}
+use Prim.Native.Nat.{ℕ, zero, suc, ◌+◌, ◌-◌, ◌*◌, ◌<◌, ◌≤◌}
 use native.Mathlib.Nat.{add-sub_cancel_left, le_trans, mul-le-mul_right, mul-suc}
 use native.Mathlib.Omega.{arith}
 use lib.ListN.{length, get_or, take, drop, length-append, length-drop}
@@ -20,7 +20,7 @@ use Rattle.complex.specs.Cells.{in_order}
 use Rattle.complex_cells.proofs.Words.{Word}
 use Rattle.complex_cells.proofs.Making.{key-table, key-length, key_row, made-cell, made-same}
 use Rattle.ordering_words.specs.Order.{word_of}
-use Rattle.ordering_words.specs.WorkArrange.{Matching, Fits, Matched}
+use Rattle.ordering_words.specs.WorkArrange.{Matching, Matched}
 use Rattle.ordering_words.proofs.Orders.{word_first}
 use Rattle.ordering_words.proofs.Lists.{cut-front, front_cut, words-drop}
 

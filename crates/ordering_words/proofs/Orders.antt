@@ -1,18 +1,15 @@
 -- Words are an order of the cells exactly if there are as many as cells and, sorted and in order, they are the cells. Assumes nothing.
-use mathlib.Core.Bool.{Bool, true, false, ◌&&◌}
-use mathlib.Core.List.{List, [], ◌∷◌, ◌++◌}
+use mathlib.Core.Bool.{Bool, true, false}
+use mathlib.Core.List.{List, [], ◌∷◌}
 use mathlib.Core.Path.{◌≡◌, refl, sym, ap, ◌∙◌, subst}
 use mathlib.Core.Logic.{◌⊎◌, inl, inr, ⊎_elim}
-use Prim.Native.Nat.{ℕ, zero, suc, ◌+◌, ◌*◌, ◌<◌, ◌≤◌}
+use Prim.Native.Nat.{ℕ, zero, suc, ◌<◌, ◌≤◌}
 use native.Mathlib.Omega.{arith}
-use lib.Dec.{eqb}
 use lib.ListN.{length, get_or}
-use borrow.Author.Tests.{eqb-true, eqb-false, eq-eqb, ne_eqb}
 use Rattle.lists.specs.Rows.{flat, row}
 use Rattle.multiindex.specs.Sort.{sort_word}
 use Rattle.complex.specs.Cells.{comes_before, placed, place, in_order}
-use Rattle.complex.specs.Facets.{cell_at}
-use Rattle.complex_cells.proofs.Words.{Word, Each, Rising, In, each_in, each_of, in-at, at_in}
+use Rattle.complex_cells.proofs.Words.{Word, Each, Rising, In, each_in, in-at, at_in}
 use Rattle.complex_cells.proofs.Order.{Colex, colex-irr, colex-trans, order-rising, order_from, order-has}
 use Rattle.sorting.specs.Gather.{rows_of}
 use Rattle.lists.specs.Words.{same_word}

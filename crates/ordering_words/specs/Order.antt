@@ -1,6 +1,6 @@
 -- Document 01: an order gives each cell one word. It agrees on a facet if its cells list the facet's vertices in one sequence. 16: order words not one for each cell,
 -- no more. Assumes nothing.
-use Rattle.std.specs.Prelude.{Bool, true, false, List, [], ◌∷◌, ◌≡◌, ℕ, zero, suc, ◌%◌, ◌<◌, length, get_or}
+use Rattle.std.specs.Prelude.{Bool, true, false, List, [], ◌∷◌, ◌≡◌, ℕ, suc, ◌%◌, ◌<◌, length, get_or}
 use Rattle.lists.specs.Rows.{rows}
 use Rattle.lists.specs.Words.{same_word, without}
 use Rattle.multiindex.specs.Sort.{sort_word}

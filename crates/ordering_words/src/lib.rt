@@ -1,5 +1,7 @@
 // An order's words by cell: matched to the cells, for sorted and then in order they are the cells, or they are no order.
 // Follows `CellOrdering::try_new` (crates/simplicial/src/topology/ordering.rs).
+#![tactic(auto)]
+
 ghost use Rattle.std.specs.Prelude.{true, false, ◌≡◌, ◌++◌, ℕ, ◌+◌, ◌*◌, ◌<◌, ◌≤◌, length, get_or, take, drop};
 ghost use Rattle.multiindex.specs.Sort.{sort_words};
 ghost use Rattle.ordering_words.specs.WorkArrange.{Matching, Matched, Arranging, Arranged};

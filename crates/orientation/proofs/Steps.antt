@@ -3,20 +3,17 @@ use mathlib.Core.Bool.{Bool, true, false}
 use mathlib.Core.List.{List, [], ◌∷◌, ◌++◌}
 use mathlib.Core.Path.{◌≡◌, refl, sym, ap, ◌∙◌, subst}
 use Prim.Native.Nat.{ℕ, zero, suc, ◌+◌, ◌*◌, ◌<◌, ◌≤◌}
-use native.Mathlib.Nat.{mul_comm, mul-zero, suc-mul, mul-suc, mul-le-mul_left, mul-le-mul_right, le_trans}
+use native.Mathlib.Nat.{mul_comm, mul-zero, suc-mul, mul-suc, mul-le-mul_left, mul-le-mul_right}
 use native.Mathlib.Omega.{arith}
 use lib.IntN.{ℤ}
 use lib.ListN.{length, get_or, take, drop}
 use lib.Seq.{length-take-le}
 use Rattle.orientation.specs.declared.Coherence.TheVariants.{Signs, OneSided, Refused}
 use Rattle.refusal.specs.Table.{crowded_facet, too_short}
-use Rattle.refusal.specs.Lent.{onto}
-use Rattle.complex.specs.Check.{Passed}
 use Rattle.lists.specs.Rows.{cut}
 use Rattle.complex.specs.Cells.{cells_of}
 use Rattle.lists.proofs.Rows.{cut-length}
-use Rattle.complex.specs.Facets.{Crowded, Cells, slots}
-use Rattle.lists.specs.Words.{none}
+use Rattle.complex.specs.Facets.{Crowded, slots}
 use Rattle.complex_mates.specs.Table.{Meeting}
 use Rattle.complex_facets.specs.WorkAcross.{Keeping, Linked}
 use Rattle.complex_mates.proofs.Meeting.{slots-most}

@@ -1,7 +1,6 @@
 -- What the work of `orientation` asks of its lists, of just the lengths that are needed, and what it gives. Assumes nothing.
 use Rattle.std.specs.Prelude.{List, ◌≡◌, ℕ, ◌*◌, ℤ, length}
 use Rattle.refusal.specs.Lent.{onto}
-use Rattle.lists.specs.Zero.{AllZero}
 use Rattle.complex.specs.Check.{Passed}
 use Rattle.complex.specs.Room.{key_room}
 use Rattle.complex.specs.Cells.{cells_of}

@@ -7,6 +7,8 @@
 //   rows     cells            mates          other rows of the facets  the cell across each slot
 //   spare    first rows       first rows     first rows                whether signs differ across each slot
 //   counts   buckets          facets of rows facets of rows            signs, 1 for + and 2 for -
+#![tactic(auto)]
+
 ghost use Rattle.std.specs.Prelude.{◌≡◌, ◌*◌, ◌<◌, ◌≤◌, length};
 ghost use Rattle.lists.specs.Zero.{AllZero};
 ghost use Rattle.orientation.specs.Promise.{Orientation, counted_of};
@@ -15,7 +17,7 @@ ghost use Rattle.orientation.specs.Work.{Furnished, Worked};
 use refusal::{Answer, CROWDED_FACET, Counted, NO_SIGNS, Room, TOO_SHORT};
 
 // What the call says: how many cells got signs, or that there are no coherent signs, each with the facet looks of the walk; or another refusal, with its number and place.
-#[derive(Drop)]
+#[derive(Clone, Copy)]
 pub enum Coherence {
     Signs(u32, u32),
     OneSided(u32),

@@ -1,14 +1,14 @@
 -- The promise of `orient_by` determines what it says and every list, yes is said exactly of coherent signs above dimension 0, and reversing the signs of a whole
 -- facet-connected piece keeps coherence. Assumes nothing.
 use mathlib.Core.List.{List}
-use mathlib.Core.Path.{◌≡◌, refl, sym, ap, ◌∙◌, subst}
+use mathlib.Core.Path.{◌≡◌, refl, sym, ap, ◌∙◌}
 use mathlib.Core.Bool.{Bool, true, false}
 use Prim.Native.Nat.{ℕ, ◌<◌}
 use native.Mathlib.Omega.{arith}
 use lib.IntN.{ℤ}
 use lib.ListN.{length}
 use Rattle.refusal.specs.declared.Verdict.{Verdict}
-use Rattle.refusal.specs.declared.Verdict.TheVariants.{Yes, No, Refused}
+use Rattle.refusal.specs.declared.Verdict.TheVariants.{Yes, Refused}
 use Rattle.refusal.specs.Lent.{lengths}
 use Rattle.refusal.proofs.Determined.{comes-one, cleared-one}
 use Rattle.complex.specs.Check.{answer_of}

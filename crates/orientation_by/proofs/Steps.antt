@@ -1,8 +1,8 @@
 -- The work of `orient_by`, step by step: what each call asks follows from what the calls before it gave. Assumes nothing.
 use mathlib.Core.Bool.{Bool, true, false}
 use mathlib.Core.List.{List}
-use mathlib.Core.Path.{◌≡◌, refl, sym, ap, ◌∙◌, subst}
-use Prim.Native.Nat.{ℕ, suc, ◌*◌, ◌<◌, ◌≤◌}
+use mathlib.Core.Path.{◌≡◌, sym, ap, ◌∙◌, subst}
+use Prim.Native.Nat.{ℕ, suc, ◌≤◌}
 use native.Mathlib.Nat.{mul-suc}
 use native.Mathlib.Omega.{arith}
 use lib.IntN.{ℤ}
@@ -16,7 +16,6 @@ use Rattle.complex.specs.Facets.{Crowded}
 use Rattle.complex_facets.specs.WorkAcross.{Linked}
 use Rattle.complex_cells.specs.WorkMade.{Made}
 use Rattle.multiindex.specs.Sign.{Sign}
-use Rattle.orientation_signs.specs.Signs.{Coherent}
 use Rattle.orientation_signs.specs.WorkFound.{sign_of}
 use Rattle.complex_mates.proofs.Mated.{not-crowded}
 use Rattle.orientation.specs.Work.{Furnished}

@@ -6,6 +6,8 @@
 //   rows     cells            mates          other rows of the facets  the cell across each slot
 //   spare    first rows       first rows     first rows                whether signs differ across each slot
 //   counts   buckets          facets of rows facets of rows            the signs, 1 for + and 2 for -
+#![tactic(auto)]
+
 ghost use Rattle.std.specs.Prelude.{true, false, ◌≡◌, List, ℕ, ◌<◌, ◌≤◌, length, get_or};
 ghost use Rattle.lists.specs.Zero.{AllZero};
 ghost use Rattle.complex_mates.specs.Table.{MateTable};

@@ -1,7 +1,7 @@
 -- Coherent signs of a list that passes its checks: `orient_by` says yes to them above dimension 0, and `orientation` never says 13. Both are read off the promises: no
 -- other way to end is left. Assumes nothing.
 use mathlib.Core.List.{List, []}
-use mathlib.Core.Path.{◌≡◌, refl, sym, ap, ◌∙◌}
+use mathlib.Core.Path.{◌≡◌, refl}
 use Prim.Native.Nat.{ℕ, ◌<◌}
 use native.Mathlib.Omega.{arith}
 use lib.IntN.{ℤ}

@@ -1,26 +1,26 @@
 -- The walk's table of links says what the mates of cells say: a link across slots s and s' is a facet without positions d - s and d - s', and the signs are opposed there
 -- exactly if they are as the link's flip has them. Assumes nothing.
-use mathlib.Core.List.{List, [], ◌∷◌}
+use mathlib.Core.List.{List}
 use mathlib.Core.Path.{◌≡◌, refl, sym, ap, ◌∙◌, subst}
 use mathlib.Core.Logic.{◌⊎◌, inl, inr, ⊎_elim}
 use Prim.Native.Nat.{ℕ, zero, suc, ◌+◌, ◌-◌, ◌*◌, ◌/◌, ◌%◌, ◌<◌, ◌≤◌}
-use native.Mathlib.Nat.{mul-add-div_right, mul-add-mod_self_right, mod-eq_of_lt, div-eq_of_lt, mul-le-mul_left, suc-mod, add-zero, zero-add, suc-add, mul-suc, suc-mul, mul-le-mul_right, add_comm}
+use native.Mathlib.Nat.{suc-mod, zero-add, suc-add, mul-suc}
 use native.Mathlib.Numerals.{add-one}
 use native.Mathlib.Omega.{arith}
 use lib.ListN.{length, get_or}
-use Rattle.complex.specs.Facets.{FacetOf, Mates, Crowded, slots}
+use Rattle.complex.specs.Facets.{Mates, slots}
 use Rattle.lists.specs.Words.{none}
-use Rattle.complex_mates.specs.Table.{Meet, MateTable, Across, Crossing}
+use Rattle.complex_mates.specs.Table.{MateTable, Across, Crossing}
 use Rattle.complex_facets.specs.WorkAcross.{Linked}
-use Rattle.lists.proofs.Rows.{row_in, row-div, row-mod, row-cell-below, row-slot-below, row_is, slots-some}
-use Rattle.complex_mates.proofs.Meeting.{slots-most, slots-dim}
+use Rattle.lists.proofs.Rows.{row_in, row-div, row-mod, row-cell-below, row-slot-below, slots-some}
+use Rattle.complex_mates.proofs.Meeting.{slots-most}
 use Rattle.complex_mates.proofs.Places.{slots-pos}
 use Rattle.complex_mates.proofs.Mated.{moved, rows_few, mate-below, facet-row, mates-row}
 use Rattle.orientation_walk.specs.WorkSigns as walk
 use Rattle.orientation_walk.specs.WorkSigns.{turned, Link}
 use Rattle.orientation_walk.specs.WorkSigns.Way.{here, on}
 use Rattle.multiindex.specs.Sign.{Sign, plus, minus, opposite, times, induced}
-use Rattle.orientation_signs.specs.Signs.{Coherent, Joined, Lowest, Oriented}
+use Rattle.orientation_signs.specs.Signs.{Coherent, Joined, Oriented}
 use Rattle.orientation_signs.specs.Signs.Joined.{here as start, across}
 use Rattle.orientation_signs.specs.WorkFound.{sign_of, Searching, Finding}
 use Rattle.orientation_signs.proofs.Unique.{double, cancel, forced}

@@ -1,13 +1,11 @@
 -- Oriented signs are determined, and with them all that the call comes to. Assumes nothing.
-use mathlib.Core.List.{List, [], ◌∷◌}
-use mathlib.Core.Path.{◌≡◌, refl, sym, ap, ◌∙◌, subst}
-use Prim.Native.Nat.{ℕ, zero, suc, ◌<◌, ◌≤◌}
+use mathlib.Core.List.{List}
+use mathlib.Core.Path.{◌≡◌, refl, sym, ap, ◌∙◌}
+use Prim.Native.Nat.{ℕ, zero, suc, ◌<◌}
 use native.Mathlib.Decide.{dec_lt}
 use native.Mathlib.Omega.{arith}
-use lib.IntN.{ℤ}
 use lib.ListN.{length}
-use Rattle.complex.specs.Facets.{Mates, FacetOf}
-use Rattle.multiindex.specs.Sign.{Sign, plus, minus, opposite, times, induced, sign_number}
+use Rattle.multiindex.specs.Sign.{Sign, plus, minus, opposite, times, induced}
 use Rattle.orientation_signs.specs.Signs.{Coherent, Joined, here, across, Lowest, Oriented, sign_list}
 
 -- ---- signs

@@ -1,8 +1,8 @@
 -- Document 01: a facet drops position i, with induced sign + for even i, - for odd i. Signs are coherent if on each facet of two cells the products of cell sign
 -- and induced sign are opposite. The lowest cell of each facet-connected piece is +1. Assumes nothing.
-use Rattle.std.specs.Prelude.{List, [], ◌∷◌, ◌≡◌, ℕ, zero, suc, ◌<◌, ◌≤◌, ℤ, pos, negsuc, length}
+use Rattle.std.specs.Prelude.{List, [], ◌∷◌, ◌≡◌, ℕ, zero, suc, ◌<◌, ◌≤◌, ℤ, length}
 use Rattle.complex.specs.Facets.{Mates}
-use Rattle.multiindex.specs.Sign.{Sign, plus, minus, opposite, times, induced, sign_number}
+use Rattle.multiindex.specs.Sign.{Sign, plus, opposite, times, induced, sign_number}
 
 -- on each facet of two cells the products of cell sign and induced sign are opposite
 pub record Coherent (d : ℕ) (cs : List (List ℕ)) (σ : ℕ → Sign) : Type 0 where

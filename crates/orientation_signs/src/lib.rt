@@ -1,11 +1,13 @@
 // Coherent signs over the cells across facets.
 // Follows `Complex::compute_orientation` (crates/simplicial/src/topology/orientation.rs): the signs that its walk asks across a facet.
+#![tactic(auto)]
+
 ghost use Rattle.std.specs.Prelude.{true, false, ◌≡◌, List, ℕ, suc, ◌+◌, ◌*◌, ◌<◌, ◌≤◌, length, get_or, take};
 ghost use Rattle.complex_facets.specs.WorkAcross.{Linked};
 ghost use Rattle.orientation_signs.specs.WorkFound.{Searching, Found, mark_number, handed_out};
 
 // What a search for coherent signs comes to: whether it found them, and its facet looks.
-#[derive(Drop)]
+#[derive(Clone, Copy)]
 pub struct Searched {
     pub found: bool,
     pub looks: u32,

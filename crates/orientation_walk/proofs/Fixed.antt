@@ -1,17 +1,14 @@
 -- The walk is determined: from one state its relations lead to one state, and two answers for the same lists are equal. Assumes nothing.
-use Prim.Native.Nat.{ℕ, zero, suc, ◌+◌, ◌-◌, ◌*◌, ◌<◌, ◌≤◌}
-use mathlib.Core.Path.{◌≡◌, refl, sym, ap, subst, ◌∙◌}
+use Prim.Native.Nat.{ℕ, ◌+◌, ◌-◌, ◌*◌, ◌<◌}
+use mathlib.Core.Path.{◌≡◌, refl, sym, ap, ◌∙◌}
 use mathlib.Core.Bool.{Bool, true, false}
-use mathlib.Core.Logic.{◌⊎◌, inl, inr, ⊎_elim}
 use mathlib.Core.List.{List}
 use native.Mathlib.Omega.{arith}
 use native.Mathlib.Decide.{ℕ_discrete, dec_lt}
-use lib.ListN.{length, get_or, set}
-use Rattle.orientation_walk.specs.WorkSigns.{turned, Table, CoherentMarks, OrientedMarks}
-use Rattle.orientation_walk.specs.WorkSteps.{Look, Clash, Slots, Stuck, Drain, Broken, Pieces, Refused, wiped, Looks, Answer}
+use lib.ListN.{get_or, set}
+use Rattle.orientation_walk.specs.WorkSteps.{Look, Clash, Slots, Stuck, Drain, Broken, Pieces, Refused, Answer}
 use Rattle.orientation_walk.specs.WorkSteps.Look.{edge, fresh, fits}
 use Rattle.orientation_walk.specs.WorkSteps.Pieces.{signed, begun}
-use Rattle.orientation_walk.proofs.Lemmas.{not-both}
 
 -- one state of the walk
 record Same (g t : List ℕ) (h : ℕ) (g' t' : List ℕ) (h' : ℕ) : Type 0 where

@@ -4,15 +4,15 @@ use mir.Syntax.{w64}
 use mir.Val.{Fits}
 use mathlib.Core.Path.{◌≡◌, refl, sym, ap, subst, ◌∙◌}
 use mathlib.Core.Bool.{Bool, true, false}
-use mathlib.Core.Logic.{◌⊎◌, inl, inr, ⊎_elim}
+use mathlib.Core.Logic.{◌⊎◌, ⊎_elim}
 use mathlib.Core.List.{List, ◌++◌}
 use native.Mathlib.Omega.{arith}
-use native.Mathlib.Nat.{eq-zero-or-pos, mul-le-mul_right, suc-mul}
+use native.Mathlib.Nat.{mul-le-mul_right, suc-mul}
 use native.Mathlib.Decide.{ℕ_discrete}
 use lib.ListN.{length, get_or, set, length-set, replicate, drop}
 use lib.Seq.{get_or-set_same, get_or-set_other}
-use Rattle.orientation_walk.specs.WorkSigns.{turned, Sign, Link, Table, CoherentMarks, Way, Lowest, OrientedMarks}
-use Rattle.orientation_walk.specs.WorkSteps.{blank, zeros, Fit, Look, Clash, Slots, Stuck, Drain, Broken, Pieces, Refused, Ready, Looked, Taking, Took, Draining, Drained, Starting, Walking, Spread, wiped, Looks, Answer}
+use Rattle.orientation_walk.specs.WorkSigns.{turned, Sign, Table}
+use Rattle.orientation_walk.specs.WorkSteps.{blank, zeros, Fit, Look, Slots, Drain, Pieces, Ready, Looked, Taking, Took, Draining, Drained, Starting, Walking, Spread, wiped}
 use Rattle.orientation_walk.specs.WorkSteps.Look.{edge, fresh, fits}
 use Rattle.orientation_walk.specs.WorkSteps.Slots.{none_yet, one_more}
 use Rattle.orientation_walk.specs.WorkSteps.Pieces.{signed, begun}

@@ -3,22 +3,22 @@ use Prim.Native.Nat.{ℕ, zero, suc, ◌+◌, ◌-◌, ◌*◌, ◌^◌, ◌<◌
 use mathlib.Core.Path.{◌≡◌, refl, sym, ap, subst, ◌∙◌}
 use mathlib.Core.Bool.{Bool, true, false}
 use mathlib.Core.Logic.{◌⊎◌, inl, inr, ⊎_elim}
-use mathlib.Core.List.{List, ◌++◌}
+use mathlib.Core.List.{List}
 use native.Mathlib.Omega.{arith}
 use native.Mathlib.Nat.{eq-zero-or-pos}
 use native.Mathlib.Decide.{ℕ_discrete, dec_lt}
-use lib.ListN.{length, get_or, set, length-set, length-append, length-replicate, replicate, drop, get_or-append, get_or-replicate}
+use lib.ListN.{length, get_or, set, length-append, length-replicate, replicate, drop, get_or-append, get_or-replicate}
 use mir.Syntax.{w64}
 use mir.Val.{Fits}
-use lib.Seq.{get_or-set_same, get_or-set_other}
-use Rattle.orientation_walk.specs.WorkSigns.{turned, Sign, Link, Table, CoherentMarks, Way, Lowest, OrientedMarks}
+use lib.Seq.{get_or-set_other}
+use Rattle.orientation_walk.specs.WorkSigns.{turned, Sign, Link, Table, CoherentMarks, Way, OrientedMarks}
 use Rattle.orientation_walk.specs.WorkSigns.Way.{here, on}
-use Rattle.orientation_walk.specs.WorkSteps.{blank, zeros, Fit, Look, Clash, Slots, Stuck, Drain, Broken, Pieces, Refused, Ready, Looked, Taking, Draining, Starting, Walking, Spread, wiped, Looks, Answer}
+use Rattle.orientation_walk.specs.WorkSteps.{blank, zeros, Fit, Look, Clash, Slots, Drain, Pieces, Refused, Taking, Draining, Starting, Walking, Spread, wiped, Answer}
 use Rattle.orientation_walk.specs.WorkSteps.Look.{edge, fresh, fits}
 use Rattle.orientation_walk.specs.WorkSteps.Slots.{none_yet, one_more}
 use Rattle.orientation_walk.specs.WorkSteps.Pieces.{signed, begun}
-use Rattle.orientation_walk.proofs.Lemmas.{turned-sign, Grows, grows-set, Moved, moved-look, moved-slots, or_set, or-top, at_top, below_top, at_j, slot-in, not-both, ready, zeros-all, Paused, Spent, taking-top, spent-drain, start-draining, start-sum, sign-plus, blank-pos, paused, spread-starting}
-use Rattle.orientation_walk.proofs.Ways.{way-sign, way_end, forced, same_sign_lem, lowest-plus}
+use Rattle.orientation_walk.proofs.Lemmas.{turned-sign, Grows, grows-set, moved-look, moved-slots, or_set, or-top, at_top, below_top, at_j, slot-in, not-both, ready, taking-top, spent-drain, start-draining, start-sum, sign-plus, blank-pos, paused, spread-starting}
+use Rattle.orientation_walk.proofs.Ways.{way-sign, forced, same_sign_lem, lowest-plus}
 
 -- x is on the stack
 abbrev On : List ℕ → ℕ → ℕ → Type 0

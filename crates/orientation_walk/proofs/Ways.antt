@@ -1,11 +1,10 @@
 -- What the links of a table force on coherent signs, and that oriented signs are determined. Assumes nothing.
-use Prim.Native.Nat.{ℕ, zero, suc, ◌+◌, ◌-◌, ◌*◌, ◌<◌, ◌≤◌}
+use Prim.Native.Nat.{ℕ, zero, suc, ◌-◌, ◌<◌, ◌≤◌}
 use mathlib.Core.Path.{◌≡◌, refl, sym, ap, subst, ◌∙◌}
 use mathlib.Core.List.{List}
 use native.Mathlib.Omega.{arith}
 use native.Mathlib.Decide.{ℕ_discrete, dec_lt}
-use lib.ListN.{length, get_or}
-use Rattle.orientation_walk.specs.WorkSigns.{turned, Sign, Link, Table, CoherentMarks, Way, Lowest, OrientedMarks}
+use Rattle.orientation_walk.specs.WorkSigns.{turned, Sign, Table, CoherentMarks, Way, Lowest, OrientedMarks}
 use Rattle.orientation_walk.specs.WorkSigns.Way.{here, on}
 use Rattle.orientation_walk.proofs.Lemmas.{turned-sign}
 

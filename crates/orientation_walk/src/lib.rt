@@ -1,5 +1,7 @@
 // The walk that gives cells coherent signs, over a flat table of neighbours.
 // Follows the walk of `Complex::compute_orientation` (crates/simplicial/src/topology/orientation.rs).
+#![tactic(auto)]
+
 ghost use Rattle.std.specs.Prelude.{◌≡◌, ℕ, ◌+◌, ◌-◌, ◌*◌, ◌<◌, ◌≤◌, length, get_or, set};
 ghost use Rattle.orientation_walk.specs.WorkSigns.{turned, Table};
 ghost use Rattle.orientation_walk.specs.WorkSteps.{Ready, Looked, Taking, Took, Draining, Drained, Starting, Walking, Spread, Answer, wiped};
@@ -54,7 +56,7 @@ fn look(
 }
 
 // What the looks at one cell's slots, from the first to the last, come to: the stack's new height, or the slot of the clash.
-#[derive(Drop)]
+#[derive(Clone, Copy)]
 struct Seen {
     stopped: bool,
     top: usize,
@@ -97,7 +99,7 @@ fn cell(
 }
 
 // What emptying the stack comes to: the cells taken off whole, and the slot of the clash in the next.
-#[derive(Drop)]
+#[derive(Clone, Copy)]
 struct Emptied {
     stopped: bool,
     taken: usize,
@@ -205,7 +207,7 @@ fn wipe(n: usize, signs: &mut [u32])
     }
 }
 
-#[derive(Drop)]
+#[derive(Clone, Copy)]
 pub struct Walked {
     pub ok: bool,
     pub looks: usize,

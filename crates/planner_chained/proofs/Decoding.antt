@@ -1,5 +1,4 @@
 -- A returned class decodes: the header's macros give back the refusal's number and place, or 0 and the class. Assumes nothing.
-use Prim.Native.Nat.{ℕ}
 use Rattle.refusal.specs.declared.Counted.{Counted}
 use Rattle.refusal.specs.declared.Counted.TheVariants as Counted
 use Rattle.grid_chained.specs.declared.Classed.{Classed}

@@ -1,3 +1,5 @@
 // The calls of honest gluing as C functions. The convention of all C functions stands in planner_passing. The port added it: the Rust has no C face.
+#![tactic(auto)]
+
 pub mod chained;
 pub mod said;

@@ -1,5 +1,4 @@
 -- What is returned of dropped cells decodes: the header's macros give back the refusal's number and place, or 0 and the number of words kept. Assumes nothing.
-use Prim.Native.Nat.{ℕ}
 use Rattle.refusal.specs.declared.Counted.{Counted}
 use Rattle.refusal.specs.declared.Counted.TheVariants as Counted
 use Rattle.complex_dropped.specs.declared.Dropped.{Dropped}

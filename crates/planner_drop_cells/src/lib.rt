@@ -1,4 +1,6 @@
 // Added by the port: the call `drop_cells` as a C function. The convention of all C functions stands in planner_passing.
+#![tactic(auto)]
+
 ghost use Rattle.std.specs.Prelude.{◌≡◌};
 ghost use Rattle.complex_dropped.specs.Promise.{DropCells};
 ghost use Rattle.planner_passing.specs.Said.{Said};

@@ -1,5 +1,7 @@
 // The call on map files as a C function, by the one convention of all of them (crate `planner_passing`, include/planner.h): a thin call of the proved one, with its
 // promise, that asks nothing of its caller. The port added it.
+#![tactic(auto)]
+
 ghost use Rattle.file_geojson.specs.Promise.{GeoJson};
 ghost use Rattle.planner_passing.specs.Said.{Said, counted_code};
 ghost use Rattle.planner_passing.specs.Given.{plain_given};

@@ -1,4 +1,6 @@
 // Added by the port: the calls on faces, the boundary operator and the cells at each vertex as C functions. The convention of all C functions stands in planner_passing.
+#![tactic(auto)]
+
 ghost use Rattle.complex_incidence.specs.Promise.{Indexed};
 ghost use Rattle.complex_boundary.specs.Promise.{Faced, Bounded};
 ghost use Rattle.file_market.specs.Promise.{Marketed};

@@ -1,5 +1,4 @@
 -- What is returned of a file that was read decodes: the header's macros give back the refusal's number and place, or 0 and the number of cells. Assumes nothing.
-use Prim.Native.Nat.{ℕ}
 use Rattle.refusal.specs.declared.Counted.{Counted}
 use Rattle.refusal.specs.declared.Counted.TheVariants as Counted
 use Rattle.file_mesh_read.specs.declared.Reading.{Reading}

@@ -3,6 +3,8 @@
 //
 // What is returned, and in which order the parameters stand, is as for all of the planner's C functions (planner_passing): one 64-bit number, the refusal's number in its
 // upper half and its place in the lower; upper half 0 is no refusal, and the lower half is the answer.
+#![tactic(auto)]
+
 ghost use Rattle.std.specs.Prelude.{◌≡◌};
 ghost use Rattle.file_mesh_write.specs.Promise.{MeshWritten, mesh_of};
 ghost use Rattle.file_mesh_read.specs.Promise.{MeshRead};

@@ -6,19 +6,15 @@ use native.Mathlib.Omega.{arith}
 use lib.IntN.{ℤ}
 use lib.ListN.{length}
 use Rattle.lists.specs.Rows.{flat}
-use Rattle.refusal.specs.declared.Answer.{Answer}
-use Rattle.refusal.specs.declared.Answer.TheVariants as Answer
 use Rattle.refusal.specs.declared.Counted.{Counted}
 use Rattle.refusal.specs.declared.Counted.TheVariants as Counted
 use Rattle.refusal.specs.declared.Verdict.{Verdict}
 use Rattle.refusal.specs.declared.Verdict.TheVariants as Verdict
-use Rattle.refusal.specs.declared.Room.{Room}
 use Rattle.refusal.specs.Table.{too_short}
-use Rattle.refusal.specs.Lent.{Roomy, lengths}
+use Rattle.refusal.specs.Lent.{lengths}
 use Rattle.complex.specs.Check.{answer_of, Passed}
 use Rattle.complex.specs.Cells.{cells_of}
-use Rattle.complex.specs.Facets.{Crowded}
-use Rattle.complex.specs.Room.{key_room, need_of}
+use Rattle.complex.specs.Room.{need_of}
 use Rattle.complex.specs.Skeleton.{edges_of, facets_of, border_of}
 use Rattle.complex.proofs.Fine.{fine-passed}
 use Rattle.complex_facets.specs.Sides.{table_of}

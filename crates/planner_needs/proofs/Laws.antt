@@ -1,7 +1,7 @@
 -- The lists as the functions write them down. Assumes nothing.
 use mathlib.Core.List.{List, [], ◌∷◌}
 use mathlib.Core.Path.{◌≡◌, ap, ◌∙◌}
-use Prim.Native.Nat.{ℕ, suc, ◌+◌, ◌*◌, ◌/◌}
+use Prim.Native.Nat.{ℕ, ◌+◌, ◌*◌, ◌/◌}
 use native.Mathlib.Numerals.{add-one}
 use Rattle.complex.specs.Room.{key_room}
 use Rattle.needs.specs.Needs.{worked, Worked}

@@ -1,5 +1,5 @@
 -- How long the lists of a call must be, in the order of its parameters: result lists at most, and then what the call's own definition needs of the working lists. Assumes nothing.
-use Rattle.std.specs.Prelude.{List, [], ◌∷◌, ℕ, suc, ◌*◌, ◌/◌}
+use Rattle.std.specs.Prelude.{List, ◌∷◌, ℕ, suc, ◌*◌, ◌/◌}
 use Rattle.complex.specs.Room.{key_room, need_of}
 use Rattle.complex_facets.specs.Records.{record_need}
 use Rattle.skeleton.specs.Parts.{edge_need}

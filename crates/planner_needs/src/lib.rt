@@ -1,5 +1,7 @@
 // How long the lists of each C function must be, told before it is called: result lists at most, working lists exactly, in the order of its parameters. With lists of these
 // lengths the call never says 12 (proofs/Enough). The needs are those that the calls test, cited and not written again. The port added it: the Rust has no lent lists.
+#![tactic(auto)]
+
 ghost use Rattle.std.specs.Prelude.{◌≡◌};
 ghost use Rattle.needs.specs.Needs.{worked};
 ghost use Rattle.planner_needs.specs.Needs.{cells_need, edges_need, facets_need, border_need, signs_need, plain_need, ordered_need, turns_need};

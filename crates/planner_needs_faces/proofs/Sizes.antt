@@ -1,24 +1,22 @@
 -- How long the results are at most: faces and entries no longer than the rows, an index no longer than the corners, and what stays no longer than what was there. Assumes nothing.
 use mathlib.Core.Bool.{not}
-use mathlib.Core.List.{List, [], ◌∷◌, ◌++◌}
-use mathlib.Core.Path.{◌≡◌, refl, sym, ap, ◌∙◌, subst}
+use mathlib.Core.List.{List, [], ◌∷◌}
+use mathlib.Core.Path.{◌≡◌, refl, ap}
 use Prim.Native.Nat.{ℕ, zero, suc, ◌+◌, ◌*◌, ◌/◌, ◌<◌, ◌≤◌}
 use native.Mathlib.Nat.{mul-le-mul_left, mul-le-mul_right, mul_assoc, mul_comm, suc-mul, le_trans}
-use native.Mathlib.Numerals.{add-one}
 use native.Mathlib.Omega.{arith}
 use lib.ListN.{length, get_or, length-append}
 use Rattle.lists.specs.Rows.{flat, rows}
-use Rattle.lists.specs.Tables.{tab}
 use Rattle.lists.specs.Words.{among, largest_of}
 use Rattle.lists.proofs.Tables.{length-tab}
 use Rattle.lists.proofs.Rows.{cut-length}
 use Rattle.complex.specs.Check.{Passed}
 use Rattle.complex.specs.Cells.{cells_of}
 use Rattle.complex.specs.Facets.{cell_at}
-use Rattle.complex_cells.proofs.Words.{Word, Each, In, each_in, each_of, in-at}
+use Rattle.complex_cells.proofs.Words.{Word, each_in, each_of, in-at}
 use Rattle.complex_cells.proofs.Making.{whole_words}
 use Rattle.complex_faces.specs.Faces.{faces_of}
-use Rattle.complex_faces.specs.Entries.{Entry, entry_at, entries_at, entries_below, entries_of}
+use Rattle.complex_faces.specs.Entries.{entry_at, entries_at, entries_below, entries_of}
 use Rattle.complex_faces.specs.Index.{cells_at, starts_from, starts_of, word_index}
 use Rattle.complex_faces.proofs.Members.{face-long}
 use Rattle.complex_faces.proofs.Shape.{faces-most}

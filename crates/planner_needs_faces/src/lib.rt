@@ -1,5 +1,7 @@
 // How long the lists of the C functions on faces, on the cells at each vertex and on meshes without some of their cells must be, as planner_needs tells it for cells. With
 // lists of these lengths the call never says 12 (proofs/Enough). The port added it: the Rust has no lent lists.
+#![tactic(auto)]
+
 ghost use Rattle.std.specs.Prelude.{◌≡◌};
 ghost use Rattle.needs.specs.Needs.{worked};
 ghost use Rattle.planner_needs_faces.specs.Needs.{index_need, faces_need, boundary_need, market_need, dropped_need};

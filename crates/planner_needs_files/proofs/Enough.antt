@@ -1,7 +1,7 @@
 -- With lists of the lengths that are told, writing and reading a mesh file never say 12. Assumes nothing.
-use mathlib.Core.Bool.{true, false}
+use mathlib.Core.Bool.{true}
 use mathlib.Core.List.{List, [], ◌∷◌}
-use mathlib.Core.Path.{◌≡◌, refl, sym, ap, ◌∙◌, subst}
+use mathlib.Core.Path.{◌≡◌, refl, sym, ap, subst}
 use Prim.Native.Nat.{ℕ, zero, suc, ◌+◌, ◌*◌, ◌/◌, ◌≤◌}
 use native.Mathlib.Nat.{mul-le-mul_right, mul-le-mul_left, le_trans, le-div_iff_mul-le, zero-lt-suc}
 use native.Mathlib.Numerals.{add-one}

@@ -1,6 +1,6 @@
 -- The bytes of a file are refused with 20, 21 or 22, never with 12. Assumes nothing.
 use mathlib.Core.Bool.{Bool, true, false, cond, ◌&&◌}
-use mathlib.Core.List.{List, [], ◌∷◌, ◌++◌}
+use mathlib.Core.List.{List, []}
 use mathlib.Core.Path.{◌≡◌}
 use Prim.Native.Nat.{ℕ, zero, suc, ◌+◌, ◌*◌}
 use native.Mathlib.Omega.{arith}
@@ -9,10 +9,10 @@ use lib.ListN.{length, take, drop}
 use Rattle.refusal.specs.Table.{file_ends, unknown_kind, bad_file, too_short}
 use Rattle.file_bytes.specs.Bytes.{said, fours_of}
 use Rattle.file_mesh.specs.declared.Run.{Run}
-use Rattle.file_mesh.specs.Mesh.{Mesh, past}
+use Rattle.file_mesh.specs.Mesh.{past}
 use Rattle.file_mesh.specs.File.{head_kind, word_kind, birth_kind, end_kind, head_length, word_length, birth_length, end_length}
 use Rattle.file_mesh.specs.Rules.{no_birth, more, follows, number_fits, refinement_fits, count_fits, vertex_fits, weight_fits, run_ends, weights_of}
-use Rattle.file_mesh.specs.Read.{Part, no, got, and_then, asked, number, field, numbers, Opening, opening_from, Header, header_from, word_from, words_from, pairs_from, of_birth, Birth, birth_from, Births, no_births, with_birth, nothing, births_read_from, read_file}
+use Rattle.file_mesh.specs.Read.{Part, no, got, and_then, asked, number, field, numbers, opening_from, header_from, word_from, words_from, pairs_from, of_birth, birth_from, no_births, nothing, births_read_from, read_file}
 
 -- another refusal than 12, or a part
 abbrev pub Fair : {A : Type 0} → Part A → Type 0

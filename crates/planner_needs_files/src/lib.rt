@@ -1,5 +1,7 @@
 // How long the lists of the C functions on mesh files must be, as planner_needs tells it for cells: those of the writer by the lengths of a mesh's lists, those of the reader by
 // the length of a file. With lists of these lengths the call never says 12 (proofs/Enough). The port added it: the Rust has no lent lists.
+#![tactic(auto)]
+
 ghost use Rattle.std.specs.Prelude.{◌≡◌};
 ghost use Rattle.needs.specs.Needs.{worked};
 ghost use Rattle.planner_needs_files.specs.Needs as told;

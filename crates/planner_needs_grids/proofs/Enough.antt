@@ -1,8 +1,7 @@
 -- With lists of the lengths that are told, a call on a grid never says 12. Assumes nothing.
-use mathlib.Core.Bool.{Bool, true, false}
 use mathlib.Core.List.{List, [], ◌∷◌, map}
-use mathlib.Core.Path.{◌≡◌, refl, sym, ap, ◌∙◌, subst}
-use Prim.Native.Nat.{ℕ, zero, suc, ◌+◌, ◌*◌, ◌/◌, ◌<◌, ◌≤◌}
+use mathlib.Core.Path.{◌≡◌, refl, ap, subst}
+use Prim.Native.Nat.{ℕ, zero, suc, ◌+◌, ◌*◌, ◌≤◌}
 use native.Mathlib.Nat.{mul-le-mul_right, mul_assoc, mul_comm, mul-div_cancel, zero-lt-suc}
 use native.Mathlib.Omega.{arith}
 use lib.Dec.{ltb}
@@ -14,12 +13,10 @@ use Rattle.refusal.specs.declared.Answer.{Answer}
 use Rattle.refusal.specs.declared.Answer.TheVariants as Answer
 use Rattle.refusal.specs.declared.Counted.{Counted}
 use Rattle.refusal.specs.declared.Counted.TheVariants as Counted
-use Rattle.refusal.specs.declared.Room.{Room}
 use Rattle.refusal.specs.Limits.{most_dimension, most_cells, most_vertices}
 use Rattle.refusal.specs.Table.{bad_dimension, too_many_cells, too_many_vertices, short_axis_number, bad_reflection_number, bad_side, too_short}
-use Rattle.refusal.specs.Lent.{Roomy, lengths}
+use Rattle.refusal.specs.Lent.{lengths}
 use Rattle.sorting.proofs.Sorts.{length-upto}
-use Rattle.complex.specs.Room.{need_of}
 use Rattle.grid_sides.specs.Counts.{first_bad}
 use Rattle.quotient.specs.declared.Grid.{Grid}
 use Rattle.quotient.specs.Shape.{bad_reflection, short_axis, shape_check, check_of, sides_check_of, cell_count, vertices_of}
@@ -35,7 +32,7 @@ use Rattle.grid_order.specs.declared.Triangulated.TheVariants as Triangulated
 use Rattle.grid_order.specs.Promise as order
 use Rattle.grid_lengths.specs.Edges.{edges_each, visits_of, from_at, to_at, edges_of}
 use Rattle.grid_lengths.specs.Lengths as spans
-use Rattle.file_geojson.specs.Kind.{band_grid, from_pole, latitudes_fit}
+use Rattle.file_geojson.specs.Kind.{from_pole}
 use Rattle.file_geojson.specs.Promise as maps
 use Rattle.file_geojson.proofs.Ends.{file-long, mapped}
 use Rattle.needs.specs.Needs.{worked}

@@ -1,5 +1,7 @@
 // How long the lists of the C functions on grids must be, as planner_needs tells it for those on cell lists: the corners of a grid's words take the place of a word list's
 // length. With lists of these lengths the call never says 12 (proofs/Enough, proofs/EnoughChained). The port added it: the Rust has no lent lists.
+#![tactic(auto)]
+
 ghost use Rattle.std.specs.Prelude.{◌≡◌};
 ghost use Rattle.planner_passing.specs.Said.{counted_code};
 ghost use Rattle.planner_passing.specs.Given.{plain_given};

@@ -1,8 +1,8 @@
 -- With lists of the lengths that are told, a refinement never says 12. Assumes nothing.
 use mathlib.Core.Bool.{Bool, true, false, cond, false≢true}
 use mathlib.Core.List.{List, [], ◌∷◌}
-use mathlib.Core.Path.{◌≡◌, refl, sym, ap, ◌∙◌, subst}
-use Prim.Native.Nat.{ℕ, zero, suc, ◌+◌, ◌*◌, ◌/◌, ◌^◌, ◌≤◌}
+use mathlib.Core.Path.{◌≡◌, refl, sym, ap, ◌∙◌}
+use Prim.Native.Nat.{ℕ, zero, suc, ◌*◌, ◌/◌, ◌^◌, ◌≤◌}
 use native.Mathlib.Nat.{mul_assoc, mul-le-mul_right, one-mul}
 use native.Mathlib.Omega.{arith}
 use lib.Dec.{ltb}
@@ -21,7 +21,7 @@ use Rattle.refusal.proofs.Chain.{refused-number}
 use Rattle.complex.specs.Check.{answer_of, Passed}
 use Rattle.complex.specs.Cells.{cells_of}
 use Rattle.complex.proofs.Fine.{fine-passed}
-use Rattle.ordering_words.specs.Order.{by_cell, Orders}
+use Rattle.ordering_words.specs.Order.{by_cell}
 use Rattle.refine_lattice.specs.Pattern.{pattern_of}
 use Rattle.refine_pattern.specs.Promise as pattern
 use Rattle.refine_results.specs.declared.Refinement.{Refinement}

@@ -2,17 +2,17 @@
 use mathlib.Core.Bool.{Bool, cond}
 use mathlib.Core.List.{List, [], ◌∷◌}
 use mathlib.Core.Path.{◌≡◌, refl, sym, ap, ◌∙◌, subst}
-use Prim.Native.Nat.{ℕ, zero, suc, ◌+◌, ◌*◌, ◌/◌, ◌^◌, ◌<◌, ◌≤◌, min}
+use Prim.Native.Nat.{ℕ, suc, ◌+◌, ◌*◌, ◌/◌, ◌^◌, ◌<◌, ◌≤◌, min}
 use native.Mathlib.Nat.{zero-mul, mul-le-mul_right, div-le_self, div-lt_iff_lt-mul, suc-mul}
 use native.Mathlib.Numerals.{add-one}
 use native.Mathlib.Omega.{arith}
 use borrow.Author.Tests.{lt-ltb, le-ltb}
 use Rattle.refusal.specs.Limits.{most_dimension, most_cells, most_vertices, most_refinement, most_corners, row_most, square_most}
-use Rattle.refine.specs.Space.{counted, children_room, space_of}
+use Rattle.refine.specs.Space.{counted, children_room}
 use Rattle.refine.proofs.Needed.{children-most, children-in, corners-few, pattern-few}
 use Rattle.needs.specs.Needs.{worked, Worked}
 use Rattle.needs.proofs.Laws.{some-low, some-few}
-use Rattle.planner_needs_refinement.specs.Needs.{ten, eight, refine_need, corners_need}
+use Rattle.planner_needs_refinement.specs.Needs.{eight, refine_need, corners_need}
 use Rattle.planner_needs_refinement.specs.Work.{Told}
 
 -- ---- the children that there is room for

@@ -3,29 +3,29 @@ use mathlib.Core.Bool.{Bool, true, false, ◌||◌}
 use mathlib.Core.List.Memᴰ
 use mathlib.Core.List.{List, [], ◌∷◌, ◌++◌, map, Memᴰ}
 use mathlib.Core.Path.{◌≡◌, refl, sym, ap, ◌∙◌}
-use Prim.Native.Nat.{ℕ, zero, suc, ◌+◌, ◌*◌, ◌/◌, ◌^◌, ◌≤◌, min}
+use Prim.Native.Nat.{ℕ, suc, ◌+◌, ◌*◌, ◌^◌, ◌≤◌, min}
 use native.Mathlib.Nat.{mul-le-mul_right, le_trans}
 use native.Mathlib.Omega.{arith}
 use lib.Dec.{eqb, ltb}
-use lib.ListN.{length, get_or, length-append, length-map}
+use lib.ListN.{length, length-append, length-map}
 use Rattle.lists.specs.Rows.{flat}
-use Rattle.refusal.specs.Limits.{most_cells, most_vertices, square_most}
-use Rattle.complex_cells.proofs.Words.{Word, Each, In, each_in, each_of}
+use Rattle.refusal.specs.Limits.{most_vertices, square_most}
+use Rattle.complex_cells.proofs.Words.{Word, Each, each_in, each_of}
 use Rattle.complex_cells.proofs.Order.{order_from}
 use Rattle.multiindex.proofs.SortLaws.{sort-length}
 use Rattle.ordering_words.specs.Order.{word_if, word_of, by_cell}
 use Rattle.lists.specs.Words.{same_word}
 use Rattle.multiindex.specs.Sort.{sort_word}
-use Rattle.refine_lattice.specs.Children.{gather, children, pick}
+use Rattle.refine_lattice.specs.Children.{children, pick}
 use Rattle.refine_lattice.specs.Refine.{point, positives, place, number, births_from, births, visits, words, vertices, share}
 use Rattle.refine_lattice.proofs.Count.{length-gather}
 use Rattle.refine_lattice.proofs.Enumerate.{of-gather}
 use Rattle.refine_lattice.proofs.Pattern.{child-corners}
 use Rattle.refine_births.proofs.Complex.{words-flat, words-many}
-use Rattle.refine_births.specs.Promise.{birth_vertices_of, birth_weights_of}
+use Rattle.refine_births.specs.Promise.{birth_weights_of}
 use Rattle.refine_jacobian.specs.Entries.{share_of, whole_of, float_of}
 use Rattle.refine_results.specs.Refined.{refined_cells, refined_words, parent_of}
-use Rattle.refine_results.specs.Results.{Refines, Lengths, Holds, results_of}
+use Rattle.refine_results.specs.Results.{Lengths, Holds, results_of}
 use Rattle.refine_results.proofs.Writing.{vertices_size, weights_size}
 use Rattle.complex.specs.Facets.{cell_at}
 use Rattle.skeleton.proofs.Sizes.{order-most}

@@ -1,5 +1,5 @@
 -- How long the lists of a refinement must be, in the order of its parameters: result lists at most, and then what the call's own definition needs of the working lists. Assumes nothing.
-use Rattle.std.specs.Prelude.{cond, List, [], ◌∷◌, ◌++◌, ℕ, suc, ◌*◌, ◌/◌, min, ltb}
+use Rattle.std.specs.Prelude.{cond, List, [], ◌∷◌, ℕ, suc, ◌*◌, ◌/◌, min, ltb}
 use Rattle.refusal.specs.Limits.{most_dimension, most_vertices, square_most}
 use Rattle.refine.specs.declared.Space.{Space}
 use Rattle.refine.specs.Space.{children_room, space_of}

@@ -1,5 +1,7 @@
 // How long the lists of the C functions of refinement must be, as planner_needs tells it for cells. With lists of these lengths the call never says 12 (proofs/Enough). The
 // port added it: the Rust has no lent lists.
+#![tactic(auto)]
+
 ghost use Rattle.std.specs.Prelude.{◌≡◌, min, ◌≤◌};
 ghost use Rattle.refusal.specs.Limits.{most_cells, most_dimension, most_vertices};
 ghost use Rattle.refine.specs.Space as space;

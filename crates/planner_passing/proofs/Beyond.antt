@@ -1,30 +1,26 @@
 -- A gluing's number from 768 on is refused with 9, as a set is that names an axis outside the grid. Assumes nothing.
-use mathlib.Core.Path.{◌≡◌, refl, sym, ap, ◌∙◌}
+use mathlib.Core.Path.{◌≡◌, sym, ap, ◌∙◌}
 use mathlib.Core.Bool.{true, false≢true}
 use mathlib.Core.Logic.{⊎_elim}
 use mathlib.Core.List.{List}
 use Prim.Native.Nat.{ℕ, ◌+◌, ◌*◌, ◌≤◌, ◌<◌}
 use native.Mathlib.Omega.{arith}
-use lib.Dec.{ltb}
 use lib.Ieee.{Float}
-use lib.ListN.{get_or}
 use borrow.Author.Tests.{lt-ltb, le-ltb}
 use Rattle.refusal.specs.declared.Answer.{Answer}
 use Rattle.refusal.specs.declared.Answer.TheVariants.{Refused}
 use Rattle.refusal.specs.Table.{bad_reflection_number}
 use Rattle.refusal.specs.Limits.{most_dimension}
-use Rattle.lists.specs.Tables.{tab}
 use Rattle.lists.proofs.Tables.{get_or-tab}
 use Rattle.lists.proofs.Words.{first-before}
 use Rattle.grid_sides.specs.Counts.{first_bad}
 use Rattle.quotient.specs.declared.Axis.{Axis}
-use Rattle.quotient.specs.declared.Glue.{Glue}
 use Rattle.quotient.specs.declared.Grid.{Grid}
 use Rattle.quotient.specs.Fold.{member}
 use Rattle.quotient.specs.Shape.{no_axis, axis_of, mask_of, mask_at, bad_set, reflects_badly, bad_reflection, check_of, sides_check_of}
 use Rattle.quotient.proofs.Laws.{lt-or-ge}
 use Rattle.quotient.proofs.Masks.{bad-own}
-use Rattle.planner_passing.specs.Given.{every_axis, glue_of, entry, axis_given, sides_given, grid_given}
+use Rattle.planner_passing.specs.Given.{every_axis, entry, axis_given, sides_given, grid_given}
 use Rattle.planner_passing.proofs.Laws.{glue-past}
 
 -- the answer is 9, at axis k or one before it

@@ -1,6 +1,5 @@
 -- The returned number decodes: for every answer the header's macros give back its refusal's number and place, or 0 and the answer. Assumes nothing.
-use mathlib.Core.Path.{◌≡◌, refl, sym, ap, subst, ◌∙◌}
-use Prim.Native.Nat.{ℕ, ◌+◌, ◌*◌, ◌/◌, ◌%◌, ◌≤◌, ◌<◌}
+use Prim.Native.Nat.{ℕ, ◌+◌, ◌≤◌, ◌<◌}
 use native.Mathlib.Omega.{arith}
 use Rattle.refusal.specs.Limits.{most_cells}
 use Rattle.refusal.specs.declared.Answer.{Answer}
@@ -26,7 +25,7 @@ use Rattle.grid_lengths.specs.declared.EdgeLength.TheVariants as EdgeLength
 use Rattle.refine_results.specs.declared.Refinement.{Refinement}
 use Rattle.refine_results.specs.declared.Refinement.TheVariants as Refinement
 use Rattle.planner_passing.specs.Said.{refused_code, counted_code, coherence_code, verdict_code, answer_code, parity_code, reduced_code, made_code, ordered_code, triangulated_code, length_code, refined_code}
-use Rattle.planner_passing.specs.Decoding.{number_said, value_said, count_said, yes_said, Told, refusal, value, counted, InRange, Decodes, told_counted, told_coherence, told_verdict, told_answer, told_parity, told_reduced, told_made, told_ordered, told_triangulated, told_length, told_refined}
+use Rattle.planner_passing.specs.Decoding.{refusal, value, counted, InRange, Decodes, told_counted, told_coherence, told_verdict, told_answer, told_parity, told_reduced, told_made, told_ordered, told_triangulated, told_length, told_refined}
 
 -- ---- the three ways to tell, and how each is returned
 refusal-decodes : (number place : ℕ) → InRange (refusal number place) → Decodes (refused_code number place) (refusal number place)

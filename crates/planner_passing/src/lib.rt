@@ -7,5 +7,7 @@
 //   - the order of parameters: numbers, lists that are read, result lists, the working lists (four; ten for a refinement), arrays of fixed length;
 //   - how a grid is given: d, a list with a count and a gluing for each axis, and a list of sides where the call reads them. A gluing is 0 (open), 256 (periodic) or
 //     512 plus the mask of the reflected axes. An axis that is not in the list has no cells, a side that is not there is 0: both are refused as such.
+#![tactic(auto)]
+
 pub mod given;
 pub mod said;

@@ -1,4 +1,6 @@
 // The calls of refinement as C functions. The convention of all C functions stands in planner_passing. The port added it: the Rust has no C face.
+#![tactic(auto)]
+
 pub mod patterns;
 pub mod refinements;
 pub mod values;

@@ -1,7 +1,7 @@
 -- What is taken within less is taken within more; and bandsum's own limits are document 01's. Assumes nothing.
 use mathlib.Core.Path.{◌≡◌, refl}
-use mathlib.Core.Bool.{Bool, true, false}
-use Prim.Native.Nat.{ℕ, ◌≤◌, ◌<◌}
+use mathlib.Core.Bool.{Bool, false}
+use Prim.Native.Nat.{ℕ, ◌≤◌}
 use native.Mathlib.Nat.{le_trans}
 use lib.Dec.{ltb}
 use borrow.Author.Tests.{le-ltb, ltb-false}
@@ -12,7 +12,7 @@ use Rattle.refusal.specs.Table.{bad_dimension, too_many_cells, too_many_vertices
 use Rattle.refusal.specs.Limits.{band_dimension, band_cells, band_vertices}
 use Rattle.refusal.proofs.Chain.{refuse-fine}
 use Rattle.quotient.specs.declared.Grid.{Grid}
-use Rattle.quotient.specs.Shape.{bad_reflection, short_axis, cell_count, vertices_of, shape_within, check_within, check_of}
+use Rattle.quotient.specs.Shape.{bad_reflection, short_axis, cell_count, vertices_of, check_within, check_of}
 
 -- no test of the chain passed
 tests-passed : (a b c d e f : Bool) (m n : ℕ)

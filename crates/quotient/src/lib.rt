@@ -11,6 +11,8 @@
 //   reduce      `reduce` leads from a grid point to its vertex, and tells where it crossed the seam
 //   preserving  `is_orientation_preserving`
 //   makers      `torus`, `klein`, `quasi_uniform`, `moebius`
+#![tactic(auto)]
+
 pub mod check;
 pub mod gluing;
 pub mod makers;
@@ -25,7 +27,7 @@ use refusal::MOST_DIMENSION;
 const AXES: usize = MOST_DIMENSION as usize;
 
 // How an axis's two ends are glued: not at all, by a shift, or by a shift that reflects a set of axes, given as a mask.
-#[derive(Drop)]
+#[derive(Clone, Copy)]
 pub enum Glue {
     Open,
     Periodic,
@@ -33,14 +35,14 @@ pub enum Glue {
 }
 
 // An axis: its cells, and how its ends are glued.
-#[derive(Drop)]
+#[derive(Clone, Copy)]
 pub struct Axis {
     pub count: u32,
     pub glue: Glue,
 }
 
 // A grid of dimension d: its axes and their sides. `axis(i)` and `sides.side(i)` read them by number.
-#[derive(Drop)]
+#[derive(Clone, Copy)]
 pub struct Grid {
     pub d: u32,
     pub first: Axis,
@@ -50,7 +52,7 @@ pub struct Grid {
 }
 
 // A gluing for each axis.
-#[derive(Drop)]
+#[derive(Clone, Copy)]
 pub struct Glues {
     pub first: Glue,
     pub second: Glue,
@@ -58,15 +60,15 @@ pub struct Glues {
 }
 
 // The number of a point of the grid, axis 0 varying fastest.
-#[derive(Drop)]
+#[derive(Clone, Copy)]
 pub struct GridVertex(pub u32);
 
 // The number of a vertex after gluing. Only `reduce`, and `crossed` below it, lead from a grid point to its vertex.
-#[derive(Drop)]
+#[derive(Clone, Copy)]
 pub struct GluedVertex(pub u32);
 
 // How a point went across the seam: its vertex, the closed axes on which it was wrapped, and the axes that came out reversed, each set as a mask.
-#[derive(Drop)]
+#[derive(Clone, Copy)]
 pub struct Crossing {
     pub vertex: GluedVertex,
     pub wrapped: u8,
@@ -74,14 +76,14 @@ pub struct Crossing {
 }
 
 // How many cells and vertices a grid has, each at most one more than its limit.
-#[derive(Drop)]
+#[derive(Clone, Copy)]
 struct Sizes {
     cells: usize,
     vertices: usize,
 }
 
 // A grid point taken apart: its coordinates, what is left of its number above them, and the two sets of its crossing.
-#[derive(Drop)]
+#[derive(Clone, Copy)]
 struct Spread {
     coordinates: [u32; AXES],
     rest: u32,
@@ -90,14 +92,14 @@ struct Spread {
 }
 
 // What `reduce` says: a point's crossing. Past the last grid point 4294967295 stands for the vertex, and is none; both sets are empty there.
-#[derive(Drop)]
+#[derive(Clone, Copy)]
 pub enum Reduced {
     At(Crossing),
     Refused(u32, u32),
 }
 
 // What `is_orientation_preserving` says: even where every axis reflects an even number of axes.
-#[derive(Drop)]
+#[derive(Clone, Copy)]
 pub enum Parity {
     Even,
     Odd,
@@ -105,7 +107,7 @@ pub enum Parity {
 }
 
 // What a maker says: the grid, which every check takes, or its refusal.
-#[derive(Drop)]
+#[derive(Clone, Copy)]
 pub enum Made {
     Taken(Grid),
     Refused(u32, u32),

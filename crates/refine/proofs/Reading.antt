@@ -23,7 +23,7 @@ use Rattle.complex_mates.proofs.Mated.{not-crowded}
 use Rattle.ordering_words.specs.Order.{by_cell, Orders}
 use Rattle.ordering_words.specs.WorkArrange.{Arranging, Arranged}
 use Rattle.ordering_words.proofs.Lists.{cut-front, front_at}
-use Rattle.refine_results.specs.Refined.{coarse, order_words}
+use Rattle.refine_results.specs.Refined.{order_words}
 use Rattle.refine.specs.WorkReading.{words_along, OrderedBy, Making, Reads}
 use Rattle.refine.specs.WorkReading.Reads.{crowded as reads-crowded, unordered as reads-unordered, read as reads-read}
 use Rattle.refine.specs.WorkCoarse.{Listing, Listed, Naming, Named}

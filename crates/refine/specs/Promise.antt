@@ -6,7 +6,7 @@ use Rattle.complex.specs.Check.{answer_of}
 use Rattle.complex.specs.Cells.{cells_of}
 use Rattle.complex.specs.Facets.{Crowded}
 use Rattle.refine_results.specs.declared.Refinement.{Refinement}
-use Rattle.refine_results.specs.declared.Refinement.TheVariants.{Made, Refused}
+use Rattle.refine_results.specs.declared.Refinement.TheVariants.{Refused}
 use Rattle.refine_results.specs.Refined.{coarse}
 use Rattle.refine_results.specs.Results.{Results, nothing, Lengths, lengths_of, Finishes, Stored}
 use Rattle.refine.specs.declared.Space.{Space}

@@ -12,6 +12,7 @@
 //   sorted   -                -                      -                              the children's words sorted
 //   firsts   -                -                      -                              the first child of each refined cell
 //   buckets  -                -                      -                              buckets
+#![tactic(auto)]
 
 mod coarse;
 mod room;
@@ -27,7 +28,7 @@ use refine_results::Refinement;
 use refusal::{Answer, Counted, TOO_SHORT};
 
 // Lengths of the ten working lists: what a call needs of them, or what it is lent.
-#[derive(Drop)]
+#[derive(Clone, Copy)]
 pub struct Space {
     pub cells: usize,
     pub along: usize,

@@ -1,16 +1,14 @@
 -- The births written from their rows. Assumes nothing.
 use mathlib.Core.Path.{◌≡◌, refl, sym, ap, ◌∙◌, subst}
-use mathlib.Core.Logic.{◌≢◌, ◌⊎◌, inl, inr, ⊎_elim}
+use mathlib.Core.Logic.{◌⊎◌, ⊎_elim}
 use mathlib.Core.List.{List, [], ◌∷◌, ◌++◌, map}
 use Prim.Native.Nat.{ℕ, zero, suc, ◌+◌, ◌*◌, ◌-◌, ◌≤◌, ◌<◌, suc-le-suc}
-use native.Mathlib.Nat.{not-suc-le-zero, le_of_suc-le-suc, le_refl, suc-mul, eq-or-lt_of_le}
+use native.Mathlib.Nat.{not-suc-le-zero, le_of_suc-le-suc, suc-mul, eq-or-lt_of_le}
 use native.Mathlib.Decide.{dec_lt, ℕ_discrete}
 use native.Mathlib.Omega.{arith}
-use native.Mathlib.Numerals.{add-one}
-use lib.ListN.{length, get_or, set, take, drop, length-append, length-drop, length-set, length-map, get_or-append, get_or-eq_default, drop_of_length-le, take-append-drop}
-use lib.Seq.{ext_get_or, get_or-drop, get_or-set_same, get_or-set_other, length-take-le, take_at, drop_at, drop-drop}
+use lib.ListN.{length, get_or, set, take, drop, length-drop, length-set, take-append-drop}
+use lib.Seq.{ext_get_or, get_or-set_same, get_or-set_other, drop-drop}
 use Rattle.lists.specs.Rows.{flat, row}
-use Rattle.lists.specs.Tables.{tab}
 use Rattle.refine_lattice.specs.Refine.{positives}
 use Rattle.lists.proofs.Tables.{length-tab, get_or-tab}
 use Rattle.lists.specs.Words.{none}

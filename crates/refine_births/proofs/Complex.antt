@@ -4,7 +4,7 @@ use mathlib.Core.Path.{◌≡◌, refl, sym, ap, ◌∙◌, subst}
 use mathlib.Core.List.Memᴰ
 use mathlib.Core.List.{List, [], ◌∷◌, ◌++◌, map, map-map, map-append, Memᴰ}
 use Prim.Native.Nat.{ℕ, suc, ◌+◌, ◌*◌, ◌^◌, ◌/◌, ◌%◌, ◌≤◌, ◌<◌}
-use native.Mathlib.Nat.{le_refl, suc-mul, mul_assoc}
+use native.Mathlib.Nat.{le_refl, mul_assoc}
 use native.Mathlib.Omega.{arith}
 use lib.Dec.{eqb, ltb}
 use lib.ListN.{length, get_or, take, drop, replicate, length-append, length-map, length-replicate, get_or-replicate, take-append-drop}
@@ -12,7 +12,7 @@ use lib.Seq.{ext_get_or, get_or-take, length-take-le}
 use Rattle.lists.specs.Rows.{cut, flat, row}
 use Rattle.lists.proofs.Flat.{flat_append, cut-before}
 use Rattle.lists.proofs.Laws.{front-part, map_at}
-use Rattle.lists.proofs.Rows.{cut-length, cut_at, row_fits, row-cell-below, row-slot-below, row_is, slots-some}
+use Rattle.lists.proofs.Rows.{cut-length, cut_at, row_fits, row-cell-below, row-slot-below, row_is}
 use Rattle.sorting.specs.Bucket.{cell}
 use Rattle.sorting.specs.Order.{Table}
 use Rattle.sorting.specs.Distinct.{Distinct}
@@ -33,7 +33,7 @@ use Rattle.lists.specs.Words.{none}
 use Rattle.refine_births.specs.Support.{row_of, total}
 use Rattle.refine_births.specs.WorkVisits.{visit_at, Visiting, Visited}
 use Rattle.refine_births.specs.WorkNumbers.{Classing, Classed, Numbering, Told, Numbered}
-use Rattle.refine_births.specs.Promise.{Resolving, Resolved, Supports}
+use Rattle.refine_births.specs.Promise.{Resolving, Resolved}
 use Rattle.refine_births.proofs.Numbering.{enter}
 use Rattle.refine_births.proofs.Points.{row_told, row_below, positives-most, point-most}
 

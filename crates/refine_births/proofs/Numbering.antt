@@ -1,10 +1,10 @@
 -- The visits numbered one after the other: births by first visit, one number for one point. Assumes nothing.
-use mathlib.Core.Bool.{Bool, true, false, not, ◌||◌}
+use mathlib.Core.Bool.{Bool, true, false, ◌||◌}
 use mathlib.Core.Path.{◌≡◌, refl, sym, ap, ◌∙◌, subst}
-use mathlib.Core.Logic.{◌≢◌, ◌⊎◌, inl, inr, ⊎_elim}
-use mathlib.Core.List.{List, [], ◌∷◌, ◌++◌, map}
-use Prim.Native.Nat.{ℕ, zero, suc, ◌+◌, ◌*◌, ◌-◌, ◌≤◌, ◌<◌, suc-le-suc}
-use native.Mathlib.Nat.{not-suc-le-zero, le_of_suc-le-suc, le_refl}
+use mathlib.Core.Logic.{◌⊎◌, inl, inr, ⊎_elim}
+use mathlib.Core.List.{List, [], ◌∷◌, ◌++◌}
+use Prim.Native.Nat.{ℕ, suc, ◌+◌, ◌*◌, ◌-◌, ◌≤◌, ◌<◌}
+use native.Mathlib.Nat.{not-suc-le-zero, le_refl}
 use native.Mathlib.Decide.{dec_lt, ℕ_discrete}
 use native.Mathlib.Omega.{arith}
 use native.Mathlib.Numerals.{add-one}
@@ -17,7 +17,7 @@ use Rattle.refine_lattice.specs.Children.{pick}
 use Rattle.lists.specs.Words.{same_word, none}
 use Rattle.refine_lattice.specs.Refine.{positives, first, place, births_from, number}
 use Rattle.refine_lattice.proofs.Refines.{yes-pick, no-pick, dec-T, equal-eq, equal-refl}
-use Rattle.refine_births.specs.Support.{supporters, row_of, Starts}
+use Rattle.refine_births.specs.Support.{Starts}
 use Rattle.refine_births.specs.WorkNumbers.{Numbering, Told, Numbered}
 use Rattle.refine_births.proofs.Points.{supporters-first, supporters-high, row-vertex}
 use Rattle.refine_births.proofs.Seek.{eqb_yes, one-first}

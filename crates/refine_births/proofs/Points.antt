@@ -1,22 +1,19 @@
 -- Points by their shares of all vertices: the support tells the point, and a point with weights over a word has no more vertices than the word. Assumes nothing.
 use mathlib.Core.Path.{◌≡◌, refl, sym, ap, ◌∙◌, subst}
-use mathlib.Core.Logic.{◌≢◌, ◌⊎◌, inl, inr, ⊎_elim}
-use mathlib.Core.List.{List, [], ◌∷◌, ◌++◌, map}
+use mathlib.Core.List.{List, [], ◌∷◌}
 use Prim.Native.Nat.{ℕ, zero, suc, ◌+◌, ◌*◌, ◌-◌, ◌≤◌, ◌<◌, suc-le-suc}
 use native.Mathlib.Nat.{not-suc-le-zero, le_of_suc-le-suc, le_refl, mul-le-mul_left}
 use native.Mathlib.Decide.{dec_lt, ℕ_discrete}
 use native.Mathlib.Omega.{arith}
-use native.Mathlib.Numerals.{add-one}
-use lib.ListN.{length, get_or, take, drop, length-append, length-drop, get_or-append, get_or-eq_default, drop_of_length-le}
-use lib.Seq.{ext_get_or, drop-cons, get_or-drop, get_or-append-add}
+use lib.ListN.{length, get_or, length-append, get_or-append, get_or-eq_default}
+use lib.Seq.{ext_get_or, get_or-append-add}
 use Rattle.lists.specs.Tables.{tab}
-use Rattle.refine_lattice.specs.Lattice.{dot}
-use Rattle.lists.specs.Words.{same, none}
+use Rattle.lists.specs.Words.{same}
 use Rattle.refine_lattice.specs.Complex.{weigh}
 use Rattle.refine_lattice.specs.Refine.{positives, first}
-use Rattle.lists.proofs.Tables.{length-tab, get_or-tab, tab-ext}
-use Rattle.lists.proofs.Words.{same_self, same-yes, same-no, same-eq}
-use Rattle.refine_births.specs.Support.{supporters, shares, padded, row_of, total, Next, Starts}
+use Rattle.lists.proofs.Tables.{length-tab, get_or-tab}
+use Rattle.lists.proofs.Words.{same-yes, same-no}
+use Rattle.refine_births.specs.Support.{supporters, shares, padded, row_of, total}
 
 -- ---- the support of a list of shares
 pub supporters-long : (v : ℕ) (l : List ℕ) → length (supporters v l) ≡ positives l

@@ -1,8 +1,8 @@
 -- The rows of the visits, written one after the other. Assumes nothing.
-use mathlib.Core.Path.{◌≡◌, refl, sym, ap, ◌∙◌, subst}
+use mathlib.Core.Path.{◌≡◌, sym, ap, ◌∙◌}
 use mathlib.Core.Logic.{◌⊎◌, ⊎_elim}
-use mathlib.Core.List.{List, [], ◌∷◌, ◌++◌, map}
-use Prim.Native.Nat.{ℕ, zero, suc, ◌+◌, ◌*◌, ◌-◌, ◌/◌, ◌%◌, ◌≤◌, ◌<◌}
+use mathlib.Core.List.{List, ◌++◌}
+use Prim.Native.Nat.{ℕ, ◌+◌, ◌*◌, ◌-◌, ◌/◌, ◌%◌, ◌≤◌, ◌<◌}
 use native.Mathlib.Nat.{suc-mul, mul-le-mul_right, eq-or-lt_of_le, add-sub_cancel_left}
 use native.Mathlib.Omega.{arith}
 use lib.ListN.{length, get_or, take, drop}
@@ -12,8 +12,7 @@ use Rattle.lists.proofs.Rows.{row_fits, row-cell-below, row-slot-below, slots-so
 use Rattle.complex_mates.proofs.Laws.{put-before, put-here, put-length}
 use Rattle.lists.specs.Tables.{tab}
 use Rattle.refine_lattice.specs.Complex.{weigh}
-use Rattle.lists.specs.Words.{none}
-use Rattle.refine_births.specs.Support.{row_of, total, Weighing, Supporting}
+use Rattle.refine_births.specs.Support.{row_of, Supporting}
 use Rattle.refine_births.specs.WorkVisits.{visit_at, Visiting, Visited}
 use Rattle.refine_births.proofs.Points.{row-long}
 

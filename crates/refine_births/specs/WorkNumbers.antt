@@ -1,5 +1,5 @@
 -- The numbers of visits that stand in classes, one class for one point. Assumes nothing.
-use Rattle.std.specs.Prelude.{◌≡◌, List, [], ℕ, suc, ◌+◌, ◌*◌, ◌≤◌, ◌<◌, length, get_or}
+use Rattle.std.specs.Prelude.{◌≡◌, List, [], ℕ, ◌+◌, ◌*◌, ◌≤◌, ◌<◌, length, get_or}
 use Rattle.lists.specs.Rows.{row}
 use Rattle.sorting.specs.Order.{Table}
 use Rattle.refine_lattice.specs.Refine.{positives, births_from, number}

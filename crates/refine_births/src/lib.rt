@@ -8,6 +8,8 @@
 //   rows    the visits sorted, then the number of each class
 //   spare   the first visit of each class, then of each birth
 //   counts  buckets, then the class of each visit, then its number: the children's words
+#![tactic(auto)]
+
 ghost use Rattle.std.specs.Prelude.{◌≡◌, List, [], ℕ, suc, ◌+◌, ◌*◌, ◌≤◌, ◌<◌, length, get_or, replicate};
 ghost use Rattle.lists.specs.Rows.{cut};
 ghost use Rattle.lists.specs.Words.{none};

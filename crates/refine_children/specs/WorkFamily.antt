@@ -1,6 +1,5 @@
 -- The children by number, where size children go to a parent: child x has its parent's number x / size, and x % size is its place in the pattern. Assumes nothing.
-use Rattle.std.specs.Prelude.{List, [], ◌++◌, ◌≡◌, ℕ, zero, suc, ◌+◌, ◌*◌, ◌/◌, ◌%◌, ◌≤◌, ◌<◌, ℤ, Float, length, get_or, take, drop}
-use Rattle.refusal.specs.Limits.{most_dimension}
+use Rattle.std.specs.Prelude.{List, [], ◌++◌, ℕ, zero, suc, ◌+◌, ◌*◌, ◌/◌, ◌%◌, ◌≤◌, ◌<◌, ℤ, Float, length, get_or}
 use Rattle.lists.specs.Rows.{row}
 use Rattle.refine_jacobian.specs.Entries.{whole_of, float_of}
 use Rattle.refine_jacobian.specs.WorkWeights.{weight_of, Seated}

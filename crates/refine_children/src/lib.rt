@@ -2,6 +2,8 @@
 // Follows the last part of `Complex::refine_with`, which brings the children into colex order (crates/simplicial/src/topology/refine.rs).
 //
 // The children's words stand in visiting order, parent after parent, `size` of them for each parent. The functions here are for the crate above, which checks before it calls them.
+#![tactic(auto)]
+
 ghost use Rattle.std.specs.Prelude.{◌≡◌, ℕ, suc, ◌*◌, ◌/◌, ◌≤◌, ◌<◌, length, get_or};
 ghost use Rattle.refusal.specs.Limits.{square_most};
 ghost use Rattle.lists.specs.Tables.{tab};

@@ -1,6 +1,6 @@
 -- A complex with coherent signs, whose words agree on facets, refined by R: the inherited signs are coherent. The cells' words with their signs are lattice's `Signs`,
 -- each child's word descends from its parent's, and lattice's theorem that descending keeps the signs coherent is read back at the children's cells. Assumes nothing.
-use mathlib.Core.Bool.{Bool, cond}
+use mathlib.Core.Bool.{cond}
 use mathlib.Core.Path.{◌≡◌, refl, sym, ap, ◌∙◌, subst}
 use mathlib.Core.Logic.{◌≢◌, ◌⊎◌}
 use mathlib.Core.List.{List, []}
@@ -16,15 +16,13 @@ use Rattle.lists.proofs.Rows.{row-div, row-mod}
 use Rattle.refusal.specs.Limits.{most_dimension}
 use Rattle.lists.proofs.Laws.{map_at}
 use Rattle.multiindex.specs.Sign.{Sign, times, induced, sign_number}
-use Rattle.complex.specs.Facets.{cell_at, Mates}
+use Rattle.complex.specs.Facets.{cell_at}
 use Rattle.orientation_signs.specs.Signs.{Coherent}
-use Rattle.refine_lattice.specs.Lattice.{Child}
-use Rattle.refine_lattice.specs.Complex.{Names}
 use Rattle.refine_lattice.specs.Complex as lattice
 use Rattle.refine_lattice.specs.Refine.{words, vertices, share, In}
 use Rattle.refine_lattice.specs.Conform.{Meet}
 use Rattle.refine_lattice.specs.Signs.{Signs, Odd, CoherentByRank, rank}
-use Rattle.refine_lattice.specs.Jacobian.{Matrix, flips, Sorted, jacobian, laplace, Descends}
+use Rattle.refine_lattice.specs.Jacobian.{Matrix, Sorted, jacobian, laplace, Descends}
 use Rattle.refine_lattice.proofs.Enumerate.{times-at, place-of}
 use Rattle.refine_lattice.proofs.Fits.{Stage}
 use Rattle.refine_lattice.proofs.Jacobian.{determinant}
@@ -36,7 +34,6 @@ use Rattle.refine_jacobian.proofs.Laws.{corner-in, entry_in}
 use Rattle.refine_results.specs.Refined.{refined_cells, refined_words, parent_of, parents}
 use Rattle.refine_results.specs.Results.{Results, results_of}
 use Rattle.refine_values.specs.declared.OneChild.{OneChild}
-use Rattle.refine_values.specs.Reading.{child_of}
 use Rattle.refine_values.proofs.Handed.{child-handed}
 use Rattle.refine_laws.specs.Refinement.{Split}
 use Rattle.refine_laws.proofs.Listed.{Listed, counts-at, long-at, plain_at, word_in, one_cell, meets, mates-of}

@@ -3,10 +3,9 @@
 use mathlib.Core.Path.{◌≡◌, sym, ap, ◌∙◌, subst}
 use mathlib.Core.List.{List, Memᴰ}
 use Prim.Native.Nat.{ℕ, suc, ◌≤◌, ◌<◌}
-use native.Mathlib.Omega.{arith}
 use lib.ListN.{length}
 use Rattle.refusal.specs.Limits.{most_dimension}
-use Rattle.lists.specs.Rows.{rows, flat}
+use Rattle.lists.specs.Rows.{flat}
 use Rattle.lists.proofs.Flat.{rows-flat}
 use Rattle.multiindex.specs.Sign.{Sign}
 use Rattle.complex.specs.Check.{Passed}

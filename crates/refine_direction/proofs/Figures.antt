@@ -1,6 +1,6 @@
 -- Two triangles with one edge, along the words 012 and 312, refined by 2: the premises can be met, and the determinants and signs in numbers. Then a tetrahedron, and the
 -- empty determinant. Assumes nothing.
-use mathlib.Core.Bool.{true, ◌||◌}
+use mathlib.Core.Bool.{true}
 use mathlib.Core.Path.{◌≡◌, refl, sym, subst}
 use mathlib.Core.List.{List, [], ◌∷◌, map}
 use Prim.Native.Nat.{ℕ, zero, suc, ◌<◌}
@@ -8,7 +8,7 @@ use native.Mathlib.Omega.{arith}
 use lib.IntN.{pos, negsuc}
 use lib.ListN.{length}
 use Rattle.lists.specs.Tables.{upto}
-use Rattle.lists.specs.Words.{among, has_repeat, largest_of, found_at, first_where, same_word, without}
+use Rattle.lists.specs.Words.{among, has_repeat, largest_of, found_at, first_where}
 use Rattle.lists.specs.Rows.{cut, rows}
 use Rattle.multiindex.specs.Sign.{Sign, plus, minus}
 use Rattle.multiindex.specs.Sort.{insert_by, insert, sort_word}

@@ -1,14 +1,13 @@
 -- Document 01's periodic band, 3 by 1, with the signs that `orientation` gives it, along its own words, refined by 2: the inherited signs are coherent, and not + at the
 -- lowest cell. Assumes nothing.
-use mathlib.Core.Bool.{true, ◌||◌}
+use mathlib.Core.Bool.{true}
 use mathlib.Core.Path.{◌≡◌, refl, sym, subst}
 use mathlib.Core.List.{List, [], ◌∷◌, map}
 use Prim.Native.Nat.{ℕ, zero, suc, ◌<◌}
 use native.Mathlib.Omega.{arith}
-use lib.IntN.{pos, negsuc}
 use lib.ListN.{length}
 use Rattle.lists.specs.Tables.{upto}
-use Rattle.lists.specs.Words.{among, has_repeat, largest_of, found_at, first_where, same_word, without}
+use Rattle.lists.specs.Words.{among, has_repeat, largest_of, found_at, first_where}
 use Rattle.lists.specs.Rows.{cut, rows}
 use Rattle.multiindex.specs.Sign.{Sign, plus, minus}
 use Rattle.multiindex.specs.Sort.{insert_by, insert, sort_word}
@@ -19,9 +18,9 @@ use Rattle.orientation_signs.specs.Signs.{Coherent}
 use Rattle.ordering_words.specs.Order.{word_if, word_of, by_cell, IsOrder, Orders, AgreeOnFacets}
 use Rattle.refine_lattice.specs.Refine.{vertices}
 use Rattle.refine_results.specs.Refined.{coarse, order_words, refined_cells, visit_of}
-use Rattle.refine_results.specs.Results.{Results, Refines, results_of}
+use Rattle.refine_results.specs.Results.{Refines, results_of}
 use Rattle.refine_laws.specs.Composition.{Accepted}
-use Rattle.refine_direction.specs.Direction.{determinant_of, inherited, Inherits, InheritLaw}
+use Rattle.refine_direction.specs.Direction.{inherited, Inherits, InheritLaw}
 use Rattle.refine_direction.proofs.Direction.{inherit}
 use Rattle.refine_direction.proofs.Tested.{call, all_fair, all_thin, fair-agrees, fair-coherent, thin-uncrowded}
 

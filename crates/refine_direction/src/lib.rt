@@ -5,3 +5,4 @@
 // How the proof goes: a call that is not refused hands out the defined lists (proofs/Direction); the coarse words with their cells' signs are what refine_lattice calls
 // Signs, and each child's word descends from its parent's (proofs/Children); there the theorem `children-inherit` holds, by determinants of lattice children; read back
 // at the children's cells, a vertex's rank in the word is its place in the cell (proofs/Ranks), and signs are parities (proofs/Parity).
+#![tactic(auto)]

@@ -1,5 +1,5 @@
 -- A share as a float, and a matrix of at most `most_dimension` columns as `square_most` numbers, in whole numbers and in floats. Assumes nothing.
-use Rattle.std.specs.Prelude.{cond, false, List, map, ℕ, suc, ◌*◌, ◌/◌, ◌%◌, ltb, ℤ, pos, get_or, Float}
+use Rattle.std.specs.Prelude.{cond, false, List, ℕ, suc, ◌*◌, ◌/◌, ◌%◌, ltb, ℤ, pos, get_or, Float}
 use Rattle.std.specs.Float.{fin, binary64}
 use Rattle.std.specs.Float.Ieee.{sub, mul, div, of_int}
 use Rattle.refusal.specs.Limits.{square_most}

@@ -3,6 +3,8 @@
 //
 // A child's corners are known by their weights over the places of the parent's word (the pattern's part of the child). Its Jacobian goes by sorted vertices: column j is the child's
 // corner j + 1 minus its corner 0, row l the share of the parent's vertex l + 1. The functions here are for the crates above, which check before they call them.
+#![tactic(auto)]
+
 ghost use Rattle.std.specs.Prelude.{◌≡◌, map, ℕ, suc, ◌*◌, ◌/◌, ◌%◌, ◌<◌, ◌≤◌, length, get_or};
 ghost use Rattle.refine_jacobian.specs.Entries.{share_of, whole_of, float_of};
 ghost use Rattle.refusal.specs.Limits.{row_most, square_most};
@@ -58,7 +60,7 @@ fn places(word: &[u32], list: &[u32]) -> [usize; ROW_MOST]
 }
 
 // The weights between which an entry of the Jacobian steps.
-#[derive(Drop)]
+#[derive(Clone, Copy)]
 struct Between {
     to: u32,
     from: u32,

@@ -1,19 +1,18 @@
 -- Which vertices stand after a vertex in a word, and the shares of a point's level by what stands after. Assumes nothing.
-use mathlib.Core.Path.{◌≡◌, refl, sym, ap, ◌∙◌, subst}
+use mathlib.Core.Path.{◌≡◌, refl, sym, ap, ◌∙◌}
 use mathlib.Core.Logic.{◌≢◌, ◌⊎◌, inl, inr}
 use mathlib.Core.List.{List, [], ◌∷◌, map}
-use Prim.Native.Nat.{ℕ, zero, suc, ◌+◌, ◌*◌, ◌-◌, ◌/◌, ◌≤◌, ◌<◌, suc-le-suc}
+use Prim.Native.Nat.{ℕ, zero, suc, ◌+◌, ◌*◌, ◌-◌, ◌≤◌, ◌<◌}
 use native.Mathlib.Nat.{not-suc-le-zero, le_of_suc-le-suc, suc_inj}
 use native.Mathlib.Decide.{dec_lt, ℕ_discrete}
 use native.Mathlib.Omega.{arith}
 use lib.ListN.{length, get_or}
-use Rattle.lists.specs.Tables.{tab, sum}
+use Rattle.lists.specs.Tables.{sum}
 use Rattle.refine_lattice.specs.Lattice.{Falls, dot, weights}
 use Rattle.lists.specs.Words.{same}
 use Rattle.refine_lattice.specs.Complex.{occurrences, keep, common, weigh}
-use Rattle.lists.proofs.Tables.{tab-ext}
-use Rattle.lists.proofs.Words.{same_self, same-yes, same-no, same-eq}
-use Rattle.lists.proofs.Sums.{sum-ext, sum-add, sum-zero, sum-pick}
+use Rattle.lists.proofs.Words.{same-yes, same-no, same-eq}
+use Rattle.lists.proofs.Sums.{sum-ext}
 use Rattle.refine_lattice.proofs.Shares.{pull, map_is}
 use Rattle.refine_lattice.proofs.Weights.{dot-const}
 

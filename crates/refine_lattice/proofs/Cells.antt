@@ -1,24 +1,21 @@
 -- Signs of words and signs of cells: where the words agree on facets, the one are coherent exactly where the others are. So children's cells inherit direction.
 -- Assumes nothing.
 use mathlib.Core.Path.{◌≡◌, refl, sym, ap, ◌∙◌, subst}
-use mathlib.Core.Logic.{◌≢◌, ◌⊎◌, inl, inr, ⊎_elim}
-use mathlib.Core.List.{List, [], ◌∷◌, map}
-use Prim.Native.Nat.{ℕ, zero, suc, ◌+◌, ◌*◌, ◌-◌, ◌≤◌, ◌<◌, suc-le-suc}
-use native.Mathlib.Nat.{not-suc-le-zero, le_of_suc-le-suc, suc_inj}
-use native.Mathlib.Decide.{ℕ_discrete, dec_lt}
+use mathlib.Core.Logic.{◌≢◌}
+use mathlib.Core.List.{List}
+use Prim.Native.Nat.{ℕ, suc, ◌+◌, ◌*◌, ◌-◌, ◌≤◌, ◌<◌}
+use native.Mathlib.Decide.{ℕ_discrete}
 use native.Mathlib.Omega.{arith}
 use lib.ListN.{length, get_or}
 use Rattle.lists.specs.Tables.{sum}
-use Rattle.lists.specs.Words.{same}
-use Rattle.refine_lattice.specs.Complex.{Words, occurrences, common, Names, Complex, Refined, WordsAgreeOnFacets}
-use Rattle.refine_lattice.specs.Conform.{rest, Meet, Distinct}
+use Rattle.refine_lattice.specs.Complex.{Words, occurrences, common, Complex, Refined, WordsAgreeOnFacets}
+use Rattle.refine_lattice.specs.Conform.{Meet, Distinct}
 use Rattle.multiindex.specs.Sort.{inversions}
 use Rattle.refine_lattice.specs.Signs.{Even, Odd, Signs, CoherentByPlace, CoherentByRank, less, rank, Handed, Directed}
 use Rattle.refine_lattice.proofs.Tab.{step}
-use Rattle.lists.proofs.Words.{same_self, same-yes, same-no, same-eq}
+use Rattle.lists.proofs.Words.{same_self, same-no}
 use Rattle.lists.proofs.Sums.{sum-ext}
-use Rattle.refine_lattice.proofs.Enumerate.{times-at, place-of}
-use Rattle.refine_lattice.proofs.Conform.{apart-at, Row, closes, meet-sym, plain-refined, long-refined, distinct-refined}
+use Rattle.refine_lattice.proofs.Conform.{apart-at, Row, closes, meet-sym, distinct-refined}
 use Rattle.refine_lattice.proofs.Inherit.{all_but_one, facets-refined}
 use Rattle.refine_lattice.proofs.Inversions.{inversions-sum}
 use Rattle.refine_lattice.proofs.Parity.{less-step, inverse, falling, sum-2, skip, lower, beneath, minor}

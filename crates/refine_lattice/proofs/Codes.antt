@@ -1,19 +1,19 @@
 -- The children are the codes: a base and a time for each axis. Corner k has coordinate j one above its base exactly when axis j was stepped before k.
 -- Assumes nothing.
 use mathlib.Core.Path.{◌≡◌, refl, sym, ap, ◌∙◌, subst}
-use mathlib.Core.Logic.{◌≢◌, ◌⊎◌, inl, inr, ⊎_elim}
-use mathlib.Core.List.{List, [], ◌∷◌, map}
-use Prim.Native.Nat.{ℕ, zero, suc, ◌+◌, ◌*◌, ◌-◌, ◌≤◌, ◌<◌, suc-le-suc}
+use mathlib.Core.Logic.{◌≢◌}
+use mathlib.Core.List.{List, [], ◌∷◌}
+use Prim.Native.Nat.{ℕ, zero, suc, ◌+◌, ◌-◌, ◌≤◌, ◌<◌, suc-le-suc}
 use native.Mathlib.Nat.{not-suc-le-zero, le_of_suc-le-suc}
-use native.Mathlib.Decide.{ℕ_discrete, dec_lt}
+use native.Mathlib.Decide.{dec_lt}
 use native.Mathlib.Omega.{arith}
-use lib.ListN.{length, get_or, set, length-set}
+use lib.ListN.{length, get_or, length-set}
 use lib.Seq.{get_or-set_same, get_or-set_other}
 use Rattle.lists.specs.Tables.{tab}
-use Rattle.refine_lattice.specs.Lattice.{Falls, weights, bump, chain, Perm, Order, Child}
-use Rattle.lists.proofs.Tables.{length-tab, get_or-tab, tab-ext, tab-get_or, list-tab}
-use Rattle.refine_lattice.proofs.Tab.{step, step-le, step-yes, step-no, step-one}
-use Rattle.refine_lattice.proofs.Perms.{Undoes, back, undoes, one_place, step-mono}
+use Rattle.refine_lattice.specs.Lattice.{Falls, bump, chain, Perm, Order, Child}
+use Rattle.lists.proofs.Tables.{length-tab, get_or-tab, tab-ext, list-tab}
+use Rattle.refine_lattice.proofs.Tab.{step, step-le, step-yes, step-one}
+use Rattle.refine_lattice.proofs.Perms.{Undoes, back, undoes, step-mono}
 
 -- what it is to qualify, place by place
 pub falls-top : (R : ℕ) (s : List ℕ) → Falls R s → (j : ℕ) → get_or s j 0 ≤ R

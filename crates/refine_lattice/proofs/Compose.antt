@@ -1,13 +1,12 @@
 -- Refining by a and then, along the children's own words, by b gives the words that refining by a * b gives. Assumes nothing.
 use mathlib.Core.Path.{◌≡◌, refl, sym, ap, ◌∙◌, subst}
 use mathlib.Core.Logic.{◌≢◌, ◌↔◌}
-use mathlib.Core.List.{List, [], ◌∷◌, map}
-use Prim.Native.Nat.{ℕ, zero, suc, ◌+◌, ◌*◌, ◌-◌, ◌/◌, ◌%◌, ◌≤◌, ◌<◌, suc-le-suc}
+use mathlib.Core.List.{List, map}
+use Prim.Native.Nat.{ℕ, zero, suc, ◌+◌, ◌*◌, ◌-◌, ◌/◌, ◌%◌, ◌≤◌, ◌<◌}
 use native.Mathlib.Nat.{mul-le-mul_left, mul-le-mul_right, div-add-mod, mod-lt, div-lt_iff_lt-mul}
 use native.Mathlib.Decide.{dec_lt}
 use native.Mathlib.Omega.{arith}
-use Rattle.lists.specs.Tables.{tab}
-use Rattle.refine_lattice.specs.Lattice.{weights, blend, Perm, Child, Once, Twice}
+use Rattle.refine_lattice.specs.Lattice.{weights, blend, Perm, Once, Twice}
 use Rattle.lists.proofs.Tables.{tab-ext}
 use Rattle.refine_lattice.proofs.Perms.{Undoes, back, undoes, one_place, rank, rank_lt, rank-le, rank-perm}
 use Rattle.refine_lattice.proofs.Codes.{Code, corner, corners, corner-ext, of-child, to-child}

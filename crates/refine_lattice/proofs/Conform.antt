@@ -1,23 +1,20 @@
 -- A refined complex: no vertex twice in a word, no two words over the same vertices, and no facet in three words. Assumes nothing.
 use mathlib.Core.Path.{◌≡◌, refl, sym, ap, ◌∙◌, subst}
 use mathlib.Core.Logic.{◌≢◌, ◌⊎◌, inl, inr, ⊎_elim}
-use mathlib.Core.List.{List, [], ◌∷◌, map}
-use Prim.Native.Nat.{ℕ, zero, suc, ◌+◌, ◌*◌, ◌-◌, ◌≤◌, ◌<◌, suc-le-suc}
-use native.Mathlib.Nat.{not-suc-le-zero, le_of_suc-le-suc, suc_inj}
+use mathlib.Core.List.{List}
+use Prim.Native.Nat.{ℕ, zero, suc, ◌+◌, ◌-◌, ◌≤◌, ◌<◌}
 use native.Mathlib.Decide.{ℕ_discrete, dec_lt}
 use native.Mathlib.Omega.{arith}
 use lib.ListN.{length, get_or}
-use Rattle.lists.specs.Tables.{tab}
-use Rattle.refine_lattice.specs.Lattice.{weights, Perm}
-use Rattle.lists.specs.Words.{same}
+use Rattle.refine_lattice.specs.Lattice.{weights}
 use Rattle.refine_lattice.specs.Complex.{Words, occurrences, weigh, Complex, Apart, Refined}
 use Rattle.refine_lattice.specs.Conform.{rest, Meet, Distinct, Thin}
 use Rattle.lists.proofs.Tables.{tab-ext}
 use Rattle.refine_lattice.proofs.Tab.{step}
-use Rattle.lists.proofs.Words.{same_self, same-yes, same-no, same-eq}
-use Rattle.refine_lattice.proofs.Codes.{Code, corner}
+use Rattle.lists.proofs.Words.{same-yes, same-no}
+use Rattle.refine_lattice.proofs.Codes.{Code}
 use Rattle.refine_lattice.proofs.Enumerate.{times-at, times-two, place-of}
-use Rattle.refine_lattice.proofs.Span.{low, high, load, low-in, low-out, load_is, Flat, tip, one-flat}
+use Rattle.refine_lattice.proofs.Span.{low, high, low-in, low-out, load_is, Flat, tip, one-flat}
 use Rattle.refine_lattice.proofs.Mirror.{Spot, Facing, Mirror, mirror}
 use Rattle.refine_lattice.proofs.Seats.{one_word, stray, holds-all, Sits, sits, share-at, share-out, spans, spot_of, plain_word, word-of-set}
 

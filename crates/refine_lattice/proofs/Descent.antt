@@ -1,22 +1,17 @@
 -- K12: with coherent signs of the cells and words that agree on facets, the parent's sign times the determinant of the child's Jacobian, which is 1 or -1,
 -- is coherent over the children. Assumes nothing.
-use mathlib.Core.Path.{◌≡◌, refl, sym, ap, ◌∙◌, subst}
-use mathlib.Core.Logic.{◌≢◌, ◌⊎◌, inl, inr, ⊎_elim}
-use mathlib.Core.List.{List, [], ◌∷◌}
-use Prim.Native.Nat.{ℕ, zero, suc, ◌+◌, ◌*◌, ◌-◌, ◌≤◌, ◌<◌, suc-le-suc}
-use native.Mathlib.Nat.{not-suc-le-zero, le_of_suc-le-suc, suc_inj}
-use native.Mathlib.Decide.{ℕ_discrete, dec_lt}
+use mathlib.Core.Path.{◌≡◌, refl, sym, ap, ◌∙◌}
+use mathlib.Core.Logic.{◌⊎◌, inl, inr, ⊎_elim}
+use mathlib.Core.List.{List}
+use Prim.Native.Nat.{ℕ, zero, suc, ◌+◌, ◌*◌, ◌-◌, ◌<◌}
 use native.Mathlib.Omega.{arith}
-use lib.ListN.{length, get_or}
-use lib.IntN.{ℤ, pos, negsuc, neg_ℤ, ◌*ℤ◌, pos-ne-negsuc, *ℤ-one}
-use Rattle.refine_lattice.specs.Lattice.{Child}
-use Rattle.lists.specs.Words.{same}
-use Rattle.refine_lattice.specs.Complex.{Words, occurrences, Names, Complex, Refined, WordsAgreeOnFacets, Rises}
-use Rattle.refine_lattice.specs.Conform.{Meet, Distinct}
+use lib.ListN.{get_or}
+use lib.IntN.{ℤ, pos, negsuc, neg_ℤ, ◌*ℤ◌, pos-ne-negsuc}
+use Rattle.refine_lattice.specs.Complex.{Words, Complex, Refined, WordsAgreeOnFacets}
+use Rattle.refine_lattice.specs.Conform.{Distinct}
 use Rattle.multiindex.specs.Sort.{inversions}
 use Rattle.refine_lattice.specs.Signs.{Even, Odd, Signs, CoherentByRank, rank, Directed}
-use Rattle.refine_lattice.specs.Jacobian.{Matrix, Determinant, flips, Sorted, jacobian, laplace, Descends}
-use Rattle.lists.proofs.Words.{same_self, same-yes, same-no}
+use Rattle.refine_lattice.specs.Jacobian.{flips, jacobian, laplace, Descends}
 use Rattle.refine_lattice.proofs.Columns.{flips-add, flips-even}
 use Rattle.refine_lattice.proofs.Jacobian.{determinant}
 use Rattle.refine_lattice.proofs.Laplace.{is-determinant}

@@ -1,31 +1,28 @@
 -- Children inherit direction: with coherent signs on the cells' words, which agree on facets, the parents' signs times those of the orders in which the
 -- children's axes are stepped are coherent. Assumes nothing.
 use mathlib.Core.Path.{◌≡◌, refl, sym, ap, ◌∙◌, subst}
-use mathlib.Core.Logic.{◌≢◌, ◌⊎◌, inl, inr, ⊎_elim}
-use mathlib.Core.List.{List, [], ◌∷◌, map}
+use mathlib.Core.Logic.{◌≢◌}
+use mathlib.Core.List.{List, [], ◌∷◌}
 use Prim.Native.Nat.{ℕ, zero, suc, ◌+◌, ◌*◌, ◌-◌, ◌≤◌, ◌<◌, suc-le-suc}
-use native.Mathlib.Nat.{not-suc-le-zero, le_of_suc-le-suc, suc_inj}
+use native.Mathlib.Nat.{not-suc-le-zero, le_of_suc-le-suc}
 use native.Mathlib.Decide.{ℕ_discrete, dec_lt}
 use native.Mathlib.Omega.{arith}
 use lib.ListN.{length, get_or}
-use Rattle.lists.specs.Tables.{tab, sum}
-use Rattle.refine_lattice.specs.Lattice.{weights, Perm, Child}
-use Rattle.lists.specs.Words.{same}
-use Rattle.refine_lattice.specs.Complex.{Words, occurrences, keep, common, weigh, Names, Complex, Refined, WordsAgreeOnFacets}
-use Rattle.refine_lattice.specs.Conform.{rest, Meet, Distinct}
+use Rattle.lists.specs.Tables.{sum}
+use Rattle.refine_lattice.specs.Lattice.{Perm}
+use Rattle.refine_lattice.specs.Complex.{Words, occurrences, common, Complex, Refined, WordsAgreeOnFacets}
+use Rattle.refine_lattice.specs.Conform.{Meet, Distinct}
 use Rattle.multiindex.specs.Sort.{inversions}
 use Rattle.refine_lattice.specs.Signs.{Even, Odd, Signs, CoherentByPlace, less, Handed}
-use Rattle.refine_lattice.proofs.Tab.{step, step-le, step-yes, step-no, step-one}
+use Rattle.refine_lattice.proofs.Tab.{step, step-yes, step-no, step-one}
 use Rattle.refine_lattice.proofs.Perms.{Undoes, one_place}
-use Rattle.lists.proofs.Words.{same_self, same-yes, same-no, same-eq}
-use Rattle.lists.proofs.Sums.{sum-ext}
-use Rattle.refine_lattice.proofs.Codes.{Code, corner}
+use Rattle.lists.proofs.Words.{same_self, same-yes}
+use Rattle.refine_lattice.proofs.Codes.{Code}
 use Rattle.refine_lattice.proofs.After.{keep-yes, keep-no, later}
 use Rattle.refine_lattice.proofs.Enumerate.{times-at, place-of}
-use Rattle.refine_lattice.proofs.Span.{low, high, load, low-in, low-out, load_is, Flat, tip, falls-here, rises-here}
-use Rattle.refine_lattice.proofs.Mirror.{Spot, Facing}
+use Rattle.refine_lattice.proofs.Span.{low, high, load, low-in, load_is, Flat, tip, falls-here, rises-here}
 use Rattle.refine_lattice.proofs.Seats.{one_word, Sits, sits, sits-order, spot_of}
-use Rattle.refine_lattice.proofs.Conform.{counts, inside, apart-at, Row, across, meet-sym, Seat, Blank, flat-of, facing, twin, one-blank, blank-across, differ, shared, cells_meet, plain-refined, long-refined}
+use Rattle.refine_lattice.proofs.Conform.{counts, inside, Row, across, meet-sym, Seat, Blank, flat-of, facing, twin, blank-across, differ, shared, cells_meet, plain-refined, long-refined}
 use Rattle.refine_lattice.proofs.Inherit.{all_but_one, seen, level}
 use Rattle.refine_lattice.proofs.Inversions.{inversions-sum}
 use Rattle.refine_lattice.proofs.Parity.{less-step, inverse, falling, sum-2, undone, skip, skip-not, skip_below, skip-low, compare}

@@ -1,13 +1,13 @@
 -- Up to dimension 3 it is enough that the words agree on facets; rising words agree on all faces, in any dimension. Assumes nothing.
-use mathlib.Core.Path.{◌≡◌, refl, sym, ap, ◌∙◌}
-use mathlib.Core.Logic.{◌≢◌, inl, inr}
+use mathlib.Core.Path.{◌≡◌, refl, ap}
+use mathlib.Core.Logic.{inl, inr}
 use mathlib.Core.List.{List, [], ◌∷◌}
-use Prim.Native.Nat.{ℕ, zero, suc, ◌+◌, ◌*◌, ◌≤◌, ◌<◌}
+use Prim.Native.Nat.{ℕ, ◌*◌, ◌≤◌, ◌<◌}
 use native.Mathlib.Decide.{dec_lt, ℕ_discrete}
 use native.Mathlib.Omega.{arith}
 use lib.ListN.{length}
 use Rattle.lists.specs.Words.{same}
-use Rattle.refine_lattice.specs.Complex.{Words, occurrences, keep, common, through, Complex, Refined, Alike, Agree, AgreeOnFaces, WordsAgreeOnFacets, Rises}
+use Rattle.refine_lattice.specs.Complex.{Words, occurrences, common, through, Complex, Refined, Alike, Agree, AgreeOnFaces, WordsAgreeOnFacets, Rises}
 use Rattle.lists.proofs.Words.{same_self, same-yes, same-no}
 use Rattle.refine_lattice.proofs.After.{keep-yes, keep-no, times-common}
 use Rattle.refine_lattice.proofs.Tower.{alike}

@@ -3,24 +3,21 @@ use mathlib.Core.Path.{◌≡◌, refl, sym, ap, ◌∙◌, subst}
 use mathlib.Core.Logic.{◌≢◌, ◌⊎◌, inl, inr, ⊎_elim}
 use mathlib.Core.List.Memᴰ
 use mathlib.Core.List.{List, [], ◌∷◌}
-use Prim.Native.Nat.{ℕ, zero, suc, ◌+◌, ◌*◌, ◌-◌, ◌≤◌, ◌<◌, suc-le-suc}
-use native.Mathlib.Nat.{not-suc-le-zero, le_of_suc-le-suc, suc_inj, mul-le-mul_left}
+use Prim.Native.Nat.{ℕ, zero, suc, ◌+◌, ◌*◌, ◌-◌, ◌≤◌, ◌<◌}
 use native.Mathlib.Decide.{ℕ_discrete, dec_lt}
 use native.Mathlib.Omega.{arith}
-use lib.ListN.{length, get_or}
-use lib.IntN.{ℤ, pos, negsuc, ◌*ℤ◌}
-use Rattle.refine_lattice.specs.Lattice.{Child}
+use lib.ListN.{length}
+use lib.IntN.{ℤ, pos, ◌*ℤ◌}
 use Rattle.lists.specs.Words.{same}
-use Rattle.refine_lattice.specs.Complex.{Words, occurrences, Names, Complex, Refined, WordsAgreeOnFacets, AgreeOnFaces, Rises}
+use Rattle.refine_lattice.specs.Complex.{Words, occurrences, Refined, WordsAgreeOnFacets, AgreeOnFaces, Rises}
 use Rattle.refine_lattice.specs.Refine.{words, vertices, share, In, WordsCompose}
-use Rattle.refine_lattice.specs.Conform.{Distinct, Thin, Used, Sound, Facewise}
+use Rattle.refine_lattice.specs.Conform.{Distinct, Thin, Used, Facewise}
 use Rattle.multiindex.specs.Sort.{inversions}
-use Rattle.refine_lattice.specs.Signs.{Even, Odd, Signs, CoherentByRank}
-use Rattle.refine_lattice.specs.Jacobian.{flips, Sorted, jacobian, laplace, Descends}
+use Rattle.refine_lattice.specs.Signs.{Signs, CoherentByRank}
+use Rattle.refine_lattice.specs.Jacobian.{flips, Sorted, laplace, Descends}
 use Rattle.lists.proofs.Words.{same_self, same-yes, same-no}
-use Rattle.refine_lattice.proofs.Conform.{plain-refined}
 use Rattle.refine_lattice.proofs.Refines.{refined}
-use Rattle.refine_lattice.proofs.Whole.{complex-words, sound-words}
+use Rattle.refine_lattice.proofs.Whole.{complex-words}
 use Rattle.refine_lattice.proofs.Fits.{Stage, stage-next, composes-facewise, tower-vertices, tower-words, middle-vertices, middle-words}
 use Rattle.refine_lattice.proofs.Jacobian.{determinant}
 use Rattle.refine_lattice.proofs.Laplace.{is-determinant}

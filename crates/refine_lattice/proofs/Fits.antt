@@ -1,16 +1,16 @@
 -- The tower fits where the single refinement does: as many words and as many vertices in the end, and no more in between. Assumes nothing.
-use mathlib.Core.Path.{◌≡◌, refl, sym, ap, ◌∙◌, subst}
-use mathlib.Core.Logic.{◌≢◌, ◌⊎◌, inl, inr, ⊎_elim}
-use mathlib.Core.List.{List, [], ◌∷◌, map, Memᴰ}
-use Prim.Native.Nat.{ℕ, zero, suc, ◌+◌, ◌*◌, ◌-◌, ◌^◌, ◌≤◌, ◌<◌, suc-le-suc}
-use native.Mathlib.Nat.{not-suc-le-zero, le_of_suc-le-suc, suc_inj, mul-le-mul_left, pow-zero, pow-suc, pow-le-pow_left, mul-mul-mul_comm}
-use native.Mathlib.Decide.{ℕ_discrete, dec_lt}
+use mathlib.Core.Path.{◌≡◌, sym, ap, ◌∙◌}
+use mathlib.Core.Logic.{◌⊎◌, inl, inr, ⊎_elim}
+use mathlib.Core.List.{List, [], ◌∷◌, map}
+use Prim.Native.Nat.{ℕ, zero, suc, ◌*◌, ◌-◌, ◌^◌, ◌≤◌, ◌<◌}
+use native.Mathlib.Nat.{not-suc-le-zero, le_of_suc-le-suc, mul-le-mul_left, pow-zero, pow-suc, pow-le-pow_left, mul-mul-mul_comm}
+use native.Mathlib.Decide.{ℕ_discrete}
 use native.Mathlib.Omega.{arith}
 use lib.ListN.{length, get_or, length-map}
-use Rattle.lists.specs.Tables.{tab, upto}
+use Rattle.lists.specs.Tables.{upto}
 use Rattle.lists.specs.Words.{same}
-use Rattle.refine_lattice.specs.Complex.{Words, occurrences, through, Complex, Apart, Within, Alike, Agree, AgreeOnFaces, WordsAgreeOnFacets}
-use Rattle.refine_lattice.specs.Children.{gather, children}
+use Rattle.refine_lattice.specs.Complex.{Words, occurrences, through, Complex, Apart, Within}
+use Rattle.refine_lattice.specs.Children.{children}
 use Rattle.refine_lattice.specs.Refine.{births, number, point, words, vertices, share, In, WordsCompose}
 use Rattle.refine_lattice.specs.Conform.{rest, Used, Sound, Facewise, omit}
 use Rattle.lists.proofs.Tables.{length-tab}

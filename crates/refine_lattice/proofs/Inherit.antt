@@ -1,30 +1,29 @@
 -- The words of a refined complex list what they share in one sequence where the cells' words do. Assumes nothing.
 use mathlib.Core.Path.{◌≡◌, refl, sym, ap, ◌∙◌, subst}
-use mathlib.Core.Logic.{◌≢◌, ◌⊎◌, inl, inr, ⊎_elim}
-use mathlib.Core.List.{List, [], ◌∷◌, map}
-use Prim.Native.Nat.{ℕ, zero, suc, ◌+◌, ◌*◌, ◌-◌, ◌≤◌, ◌<◌, suc-le-suc}
+use mathlib.Core.Logic.{◌≢◌}
+use mathlib.Core.List.{List, [], ◌∷◌}
+use Prim.Native.Nat.{ℕ, zero, suc, ◌+◌, ◌*◌, ◌-◌, ◌≤◌, ◌<◌}
 use native.Mathlib.Nat.{not-suc-le-zero, le_of_suc-le-suc, suc_inj}
 use native.Mathlib.Decide.{ℕ_discrete, dec_lt}
 use native.Mathlib.Omega.{arith}
 use lib.ListN.{length, get_or}
-use Rattle.lists.specs.Tables.{tab, sum}
-use Rattle.refine_lattice.specs.Lattice.{Falls, dot, weights, Perm}
+use Rattle.refine_lattice.specs.Lattice.{Falls, dot, weights}
 use Rattle.lists.specs.Words.{same}
-use Rattle.refine_lattice.specs.Complex.{Words, occurrences, keep, common, weigh, Complex, Refined, AgreeOnFaces, WordsAgreeOnFacets}
+use Rattle.refine_lattice.specs.Complex.{Words, occurrences, common, weigh, Complex, Refined, AgreeOnFaces, WordsAgreeOnFacets}
 use Rattle.lists.proofs.Tables.{length-tab}
-use Rattle.refine_lattice.proofs.Tab.{step, step-le, step-yes, step-no, step-one}
-use Rattle.lists.proofs.Words.{same_self, same-yes, same-no, same-eq}
+use Rattle.refine_lattice.proofs.Tab.{step, step-yes, step-no}
+use Rattle.lists.proofs.Words.{same_self, same-yes, same-no}
 use Rattle.lists.proofs.Sums.{sum-ext}
-use Rattle.refine_lattice.proofs.Codes.{Code, corner, falls-corner}
+use Rattle.refine_lattice.proofs.Codes.{corner, falls-corner}
 use Rattle.refine_lattice.proofs.Weights.{dot-const}
 use Rattle.refine_lattice.proofs.Shares.{map_is}
-use Rattle.refine_lattice.proofs.After.{after, after-here, after-there, after-le, after_both, keep-yes, keep-no, times-common, after-common, later, later_first, later-rest, weigh-absent}
+use Rattle.refine_lattice.proofs.After.{after, after-here, after-there, after-le, after_both, keep-yes, keep-no, times-common, after-common, later, later_first, later-rest}
 use Rattle.refine_lattice.proofs.Faces.{times-common-le, times-common-no, length-common}
 use Rattle.refine_lattice.proofs.Enumerate.{times-at, place-of}
-use Rattle.refine_lattice.proofs.Span.{low, high, load, low-in, low-out, low_up, load_is}
-use Rattle.refine_lattice.proofs.Mirror.{Spot, spot-level}
-use Rattle.refine_lattice.proofs.Seats.{Sits, share-at, share-out, plain_word}
-use Rattle.refine_lattice.proofs.Conform.{apart-at, Seat, seat, plain-refined, long-refined, Blank, one-blank}
+use Rattle.refine_lattice.proofs.Span.{low, high, low-in, low_up, load_is}
+use Rattle.refine_lattice.proofs.Mirror.{spot-level}
+use Rattle.refine_lattice.proofs.Seats.{share-at, share-out}
+use Rattle.refine_lattice.proofs.Conform.{Seat, seat, plain-refined, Blank, one-blank}
 
 no-share : (w a b : ℕ) → w ≡ 0 → w * a ≡ w * b
 no-share w a b e = ap (λ (y : ℕ). y * a) e ∙ omega arith ∙ sym (ap (λ (y : ℕ). y * b) e)

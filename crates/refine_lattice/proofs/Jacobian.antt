@@ -1,23 +1,21 @@
 -- The determinant of a child's Jacobian is the product of the signs of the parent's word, of the order of the axes, and of the child's word. Assumes nothing.
-use mathlib.Core.Path.{◌≡◌, refl, sym, ap, ◌∙◌, subst}
-use mathlib.Core.Logic.{◌≢◌, ◌⊎◌, inl, inr, ⊎_elim}
-use mathlib.Core.List.{List, [], ◌∷◌, map}
+use mathlib.Core.Path.{◌≡◌, sym, ap, ◌∙◌}
+use mathlib.Core.List.{List, [], ◌∷◌}
 use Prim.Native.Nat.{ℕ, zero, suc, ◌+◌, ◌*◌, ◌-◌, ◌≤◌, ◌<◌, suc-le-suc}
 use native.Mathlib.Nat.{not-suc-le-zero, le_of_suc-le-suc, suc_inj}
 use native.Mathlib.Decide.{ℕ_discrete, dec_lt}
 use native.Mathlib.Omega.{arith}
 use lib.ListN.{length, get_or}
-use lib.IntN.{ℤ, pos, negsuc, neg_ℤ, ◌+ℤ◌, ◌-ℤ◌, neg_ℤ-neg_ℤ, +ℤ_assoc, +ℤ_comm, +ℤ_idr, -ℤ-+ℤ_cancel, +ℤ-neg_ℤ_cancel}
+use lib.IntN.{ℤ, pos, neg_ℤ, ◌+ℤ◌, ◌-ℤ◌, +ℤ_assoc, +ℤ_comm, +ℤ_idr, +ℤ-neg_ℤ_cancel}
 use Rattle.refine_lattice.specs.Lattice.{Perm, Child}
 use Rattle.lists.specs.Tables.{sum}
 use Rattle.lists.specs.Words.{same}
-use Rattle.refine_lattice.specs.Complex.{Words, occurrences, Names, Rises}
+use Rattle.refine_lattice.specs.Complex.{occurrences, Names, Rises}
 use Rattle.multiindex.specs.Sort.{inversions}
 use Rattle.refine_lattice.specs.Signs.{less}
 use Rattle.refine_lattice.specs.Jacobian.{Matrix, Determinant, flips, Sorted, jacobian}
-use Rattle.refine_lattice.proofs.Tab.{step, step-yes, step-no}
 use Rattle.refine_lattice.proofs.Perms.{Undoes, back, undoes, one_place}
-use Rattle.lists.proofs.Words.{same_self, same-yes, same-no, same-eq}
+use Rattle.lists.proofs.Words.{same-yes, same-no}
 use Rattle.refine_lattice.proofs.Codes.{Code}
 use Rattle.refine_lattice.proofs.Enumerate.{times-at, place-of}
 use Rattle.refine_lattice.proofs.Span.{low, high, load, low-in, low-out, load_is, step-next}
@@ -25,7 +23,6 @@ use Rattle.refine_lattice.proofs.Seats.{Sits, sits, sits-order, share-at, plain_
 use Rattle.refine_lattice.proofs.Conform.{apart-at}
 use Rattle.refine_lattice.proofs.Inversions.{inversions-sum}
 use Rattle.refine_lattice.proofs.Parity.{less-step, inverse, falling, sum-2, undone, same-inverse}
-use Rattle.refine_lattice.proofs.Direct.{inversions-are}
 use Rattle.refine_lattice.proofs.Columns.{Point, flips-add, permuted, chained, fanned, chained-alternates, fanned-chained, columns-alternate}
 
 -- the place of a vertex

@@ -1,14 +1,14 @@
 -- The determinant by its first row is a determinant. Assumes nothing.
 use mathlib.Core.Path.{◌≡◌, refl, sym, ap, ◌∙◌, subst}
 use mathlib.Core.Logic.{◌≢◌}
-use Prim.Native.Nat.{ℕ, zero, suc, ◌+◌, ◌*◌, ◌-◌, ◌≤◌, ◌<◌, suc-le-suc}
-use native.Mathlib.Nat.{not-suc-le-zero, le_of_suc-le-suc, suc_inj}
-use native.Mathlib.Decide.{ℕ_discrete, dec_lt}
+use Prim.Native.Nat.{ℕ, zero, suc, ◌+◌, ◌*◌, ◌-◌, ◌<◌, suc-le-suc}
+use native.Mathlib.Nat.{not-suc-le-zero, le_of_suc-le-suc}
+use native.Mathlib.Decide.{ℕ_discrete}
 use native.Mathlib.Omega.{arith}
-use lib.IntN.{ℤ, pos, negsuc, neg_ℤ, ◌+ℤ◌, ◌-ℤ◌, ◌*ℤ◌, neg_ℤ-neg_ℤ, neg_ℤ-+ℤ, +ℤ_assoc, +ℤ_comm, +ℤ_idl, +ℤ_idr, +ℤ_invr, +ℤ_invl, -ℤ-+ℤ_cancel, +ℤ-neg_ℤ_cancel, *ℤ-one, zero-*ℤ, *ℤ-zero, suc_ℤ, pred_ℤ, suc_ℤ-*ℤ, pred_ℤ-*ℤ, +ℤ_one, -ℤ_one, *ℤ_comm, ℤ_ind}
+use lib.IntN.{ℤ, pos, negsuc, neg_ℤ, ◌+ℤ◌, ◌-ℤ◌, ◌*ℤ◌, neg_ℤ-+ℤ, +ℤ_assoc, +ℤ_comm, +ℤ_idl, +ℤ_idr, +ℤ_invr, +ℤ_invl, +ℤ-neg_ℤ_cancel, zero-*ℤ, *ℤ-zero, suc_ℤ-*ℤ, pred_ℤ-*ℤ, +ℤ_one, -ℤ_one, *ℤ_comm, ℤ_ind}
 use Rattle.lists.specs.Words.{same}
 use Rattle.refine_lattice.specs.Jacobian.{Matrix, put, Determinant, flips, beside, total, laplace}
-use Rattle.lists.proofs.Words.{same_self, same-yes, same-no}
+use Rattle.lists.proofs.Words.{same-no}
 use Rattle.refine_lattice.proofs.Parity.{skip-not, skip_below, skip-apart}
 use Rattle.refine_lattice.proofs.Columns.{put-at, put-off}
 

@@ -1,23 +1,20 @@
 -- One point seen from two cells: where the cells' words agree on the vertices of positive weight, its levels have the same shares, and where they are
 -- opposite, as on an edge they may be, the same in the opposite sequence. Assumes nothing.
-use mathlib.Core.Path.{◌≡◌, refl, sym, ap, ◌∙◌, subst}
+use mathlib.Core.Path.{◌≡◌, refl, sym, ap, ◌∙◌}
 use mathlib.Core.Logic.{◌≢◌, ◌⊎◌, inl, inr, ⊎_elim}
-use mathlib.Core.List.{List, [], ◌∷◌, map}
-use Prim.Native.Nat.{ℕ, zero, suc, ◌+◌, ◌*◌, ◌-◌, ◌/◌, ◌%◌, ◌≤◌, ◌<◌, suc-le-suc}
+use mathlib.Core.List.{List}
+use Prim.Native.Nat.{ℕ, suc, ◌+◌, ◌*◌, ◌-◌, ◌%◌, ◌≤◌, ◌<◌}
 use native.Mathlib.Nat.{mul-le-mul_right, div-add-mod, mod-lt, div-eq_of_lt-le}
 use native.Mathlib.Decide.{dec_lt, ℕ_discrete}
 use native.Mathlib.Omega.{arith}
-use lib.ListN.{length, get_or}
-use Rattle.lists.specs.Tables.{tab, sum}
-use Rattle.refine_lattice.specs.Lattice.{Falls, dot, weights}
+use lib.ListN.{get_or}
+use Rattle.lists.specs.Tables.{sum}
 use Rattle.lists.specs.Words.{same}
-use Rattle.refine_lattice.specs.Complex.{occurrences, common, weigh, Agree}
-use Rattle.lists.proofs.Words.{same_self, same-yes, same-no}
+use Rattle.refine_lattice.specs.Complex.{occurrences, common, Agree}
+use Rattle.lists.proofs.Words.{same-yes, same-no}
 use Rattle.lists.proofs.Sums.{sum-ext, sum-add, sum-pick, sum-reverse}
-use Rattle.refine_lattice.proofs.Shares.{pull, map_is}
 use Rattle.refine_lattice.proofs.Levels.{shift}
-use Rattle.refine_lattice.proofs.Weights.{dot-const}
-use Rattle.refine_lattice.proofs.After.{after, after-le, after-self, after_both, times-common, after-common, one_of_two, weigh-absent, later}
+use Rattle.refine_lattice.proofs.After.{after, after-le, after-self, after_both, times-common, after-common, one_of_two, later}
 
 -- g (w + l) - g l, w the weight of v and l that of what stands after it
 abbrev pub value : ℕ → List ℕ → (ℕ → ℕ) → (ℕ → ℕ) → ℕ → ℕ

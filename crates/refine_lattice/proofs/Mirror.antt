@@ -1,14 +1,13 @@
 -- Two children of one cell with a common facet: their other corners are the same, or lie opposite each other across the middle of two corners of the facet.
 -- Assumes nothing.
-use mathlib.Core.Path.{◌≡◌, refl, sym, ap, ◌∙◌, subst}
+use mathlib.Core.Path.{◌≡◌, sym, ap, ◌∙◌, subst}
 use mathlib.Core.Logic.{◌≢◌, ◌⊎◌, inl, inr, ⊎_elim}
-use Prim.Native.Nat.{ℕ, zero, suc, ◌+◌, ◌*◌, ◌-◌, ◌≤◌, ◌<◌, suc-le-suc}
-use native.Mathlib.Nat.{not-suc-le-zero, le_of_suc-le-suc, suc_inj}
+use Prim.Native.Nat.{ℕ, zero, suc, ◌+◌, ◌-◌, ◌≤◌, ◌<◌}
 use native.Mathlib.Decide.{ℕ_discrete, dec_lt}
 use native.Mathlib.Omega.{arith}
 use Rattle.refine_lattice.specs.Lattice.{Perm}
 use Rattle.lists.specs.Tables.{sum}
-use Rattle.refine_lattice.proofs.Tab.{step, step-le, step-yes, step-no, step-one}
+use Rattle.refine_lattice.proofs.Tab.{step, step-yes, step-no, step-one}
 use Rattle.refine_lattice.proofs.Perms.{one_place, onto}
 use Rattle.lists.proofs.Sums.{sum-ext}
 use Rattle.refine_lattice.proofs.Span.{level-of}

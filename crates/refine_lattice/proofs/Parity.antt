@@ -1,9 +1,8 @@
 -- Inversions of a map of the numbers below d: its inverse has as many, and without one place there are as many up to the place, its value and an even number.
 -- Assumes nothing.
-use mathlib.Core.Path.{◌≡◌, refl, sym, ap, ◌∙◌, subst}
+use mathlib.Core.Path.{◌≡◌, refl, sym, ap, ◌∙◌}
 use mathlib.Core.Logic.{◌≢◌}
-use mathlib.Core.List.{List, [], ◌∷◌}
-use Prim.Native.Nat.{ℕ, zero, suc, ◌+◌, ◌*◌, ◌-◌, ◌≤◌, ◌<◌, suc-le-suc}
+use Prim.Native.Nat.{ℕ, zero, suc, ◌+◌, ◌*◌, ◌-◌, ◌<◌, suc-le-suc}
 use native.Mathlib.Nat.{not-suc-le-zero, le_of_suc-le-suc, suc_inj}
 use native.Mathlib.Decide.{ℕ_discrete, dec_lt}
 use native.Mathlib.Omega.{arith}
@@ -12,9 +11,9 @@ use Rattle.lists.specs.Tables.{sum}
 use Rattle.lists.specs.Words.{same}
 use Rattle.refine_lattice.specs.Signs.{less}
 use Rattle.refine_lattice.specs.Jacobian.{beside}
-use Rattle.refine_lattice.proofs.Tab.{step, step-le, step-yes, step-no, step-one}
-use Rattle.refine_lattice.proofs.Perms.{Undoes, one_place}
-use Rattle.lists.proofs.Words.{same_self, same-yes, same-no}
+use Rattle.refine_lattice.proofs.Tab.{step, step-yes, step-no, step-one}
+use Rattle.refine_lattice.proofs.Perms.{one_place}
+use Rattle.lists.proofs.Words.{same-yes, same-no}
 use Rattle.lists.proofs.Sums.{sum-ext, sum-add, sum-scale, sum-swap, sum-pick, sum-front}
 use Rattle.refine_lattice.proofs.Span.{once, gone}
 

@@ -1,21 +1,21 @@
 -- The lists of a refined complex are a refinement, and so refining twice is refining once. Assumes nothing.
 use mathlib.Core.Path.{◌≡◌, refl, sym, ap, ◌∙◌, subst}
-use mathlib.Core.Logic.{◌≢◌, ◌⊎◌, inl, inr, ⊎_elim}
-use mathlib.Core.Bool.{Bool, true, false, not, ◌&&◌, ◌||◌}
+use mathlib.Core.Logic.{◌≢◌, ◌⊎◌, ⊎_elim}
+use mathlib.Core.Bool.{Bool, true, false, ◌||◌}
 use mathlib.Core.List.Memᴰ
 use mathlib.Core.List.{List, [], ◌∷◌, ◌++◌, map, Memᴰ}
 use Prim.Native.Nat.{ℕ, zero, suc, ◌+◌, ◌*◌, ◌-◌, ◌≤◌, ◌<◌, suc-le-suc}
 use native.Mathlib.Nat.{not-suc-le-zero, le_of_suc-le-suc, suc_inj}
-use native.Mathlib.Decide.{dec_lt, ℕ_discrete}
+use native.Mathlib.Decide.{dec_lt}
 use native.Mathlib.Omega.{arith}
 use lib.Dec.{T, eqb, eqb→eq, eqb_refl, ltb, ltb→lt, lt→ltb}
 use lib.ListN.{length, get_or, length-map}
 use lib.Seq.{ext_get_or}
 use Rattle.lists.proofs.Laws.{map_at}
-use Rattle.lists.specs.Tables.{tab, sum}
+use Rattle.lists.specs.Tables.{sum}
 use Rattle.refine_lattice.specs.Lattice.{weights, Child}
 use Rattle.lists.specs.Words.{same, same_word}
-use Rattle.refine_lattice.specs.Complex.{Words, occurrences, weigh, through, Names, Complex, Apart, Refined, Alike, Agree, AgreeOnFaces, WordsAgreeOnFacets, Rises}
+use Rattle.refine_lattice.specs.Complex.{occurrences, weigh, Names, Complex, Apart, Refined, Agree, AgreeOnFaces, WordsAgreeOnFacets, Rises}
 use Rattle.refine_lattice.specs.Children.{gather, children, pick}
 use Rattle.refine_lattice.specs.Refine.{point, visits, positives, first, place, births_from, births, number, words, vertices, share, In, WordsCompose}
 use Rattle.lists.proofs.Tables.{length-tab, get_or-tab}

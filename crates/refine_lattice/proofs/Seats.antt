@@ -1,26 +1,25 @@
 -- Words of a refined complex in their cells: what a vertex's shares tell of its place. Assumes nothing.
 use mathlib.Core.Path.{◌≡◌, refl, sym, ap, ◌∙◌, subst}
-use mathlib.Core.Logic.{◌≢◌, ◌⊎◌, inl, inr, ⊎_elim}
-use mathlib.Core.List.{List, [], ◌∷◌, map, head-eq_of_cons-eq, tail-eq_of_cons-eq}
+use mathlib.Core.List.{List, [], ◌∷◌, head-eq_of_cons-eq, tail-eq_of_cons-eq}
 use Prim.Native.Nat.{ℕ, zero, suc, ◌+◌, ◌*◌, ◌-◌, ◌≤◌, ◌<◌, suc-le-suc}
 use native.Mathlib.Nat.{not-suc-le-zero, le_of_suc-le-suc, suc_inj}
 use native.Mathlib.Decide.{ℕ_discrete, dec_lt}
 use native.Mathlib.Omega.{arith}
 use lib.ListN.{length, get_or}
 use lib.Seq.{ext_get_or}
-use Rattle.lists.specs.Tables.{tab, sum}
-use Rattle.refine_lattice.specs.Lattice.{Falls, weights, dot, Perm, Child}
+use Rattle.lists.specs.Tables.{sum}
+use Rattle.refine_lattice.specs.Lattice.{Falls, weights, Child}
 use Rattle.lists.specs.Words.{same}
-use Rattle.refine_lattice.specs.Complex.{Words, occurrences, weigh, Names, Complex, Refined}
+use Rattle.refine_lattice.specs.Complex.{occurrences, weigh, Names}
 use Rattle.lists.proofs.Tables.{length-tab, get_or-tab}
 use Rattle.refine_lattice.proofs.Tab.{step}
-use Rattle.refine_lattice.proofs.Perms.{sum-le, sum_lt, Undoes}
-use Rattle.lists.proofs.Words.{same_self, same-yes, same-no, same-eq}
+use Rattle.refine_lattice.proofs.Perms.{sum_lt, Undoes}
+use Rattle.lists.proofs.Words.{same_self, same-no}
 use Rattle.lists.proofs.Sums.{sum-ext, sum-add, sum-zero, sum-pick}
 use Rattle.refine_lattice.proofs.Codes.{Code, corner, corners, falls-corner, of-child, of-order}
 use Rattle.refine_lattice.proofs.Weights.{length-weights}
 use Rattle.refine_lattice.proofs.After.{weigh-absent}
-use Rattle.refine_lattice.proofs.Enumerate.{times-at, times-two, place-of, once-of-apart}
+use Rattle.refine_lattice.proofs.Enumerate.{times-at, place-of, once-of-apart}
 use Rattle.refine_lattice.proofs.Span.{load, weighs}
 use Rattle.refine_lattice.proofs.Mirror.{Spot, spot-level}
 

@@ -1,23 +1,20 @@
 -- Shares of vertices: what a word of the double refinement says of the first vertices. Assumes nothing.
-use mathlib.Core.Path.{◌≡◌, sym, ap, ◌∙◌, subst}
-use mathlib.Core.Logic.{◌≢◌}
+use mathlib.Core.Path.{◌≡◌, sym, ap, ◌∙◌}
 use mathlib.Core.List.{List, [], ◌∷◌, map}
-use Prim.Native.Nat.{ℕ, suc, ◌+◌, ◌*◌, ◌-◌, ◌≤◌, ◌<◌, suc-le-suc}
-use native.Mathlib.Nat.{suc_inj}
-use native.Mathlib.Decide.{dec_lt}
+use Prim.Native.Nat.{ℕ, suc, ◌+◌, ◌*◌, ◌-◌, ◌<◌}
 use native.Mathlib.Omega.{arith}
 use lib.ListN.{length, get_or, length-map}
 use Rattle.lists.proofs.Laws.{map_at}
 use Rattle.lists.specs.Tables.{tab, sum}
-use Rattle.refine_lattice.specs.Lattice.{dot, weights, blend}
+use Rattle.refine_lattice.specs.Lattice.{dot, weights}
 use Rattle.lists.specs.Words.{same}
 use Rattle.refine_lattice.specs.Complex.{occurrences, weigh, through}
-use Rattle.lists.proofs.Tables.{length-tab, get_or-tab, tab-ext, map-tab, list-tab}
+use Rattle.lists.proofs.Tables.{length-tab, get_or-tab, tab-ext, list-tab}
 use Rattle.refine_lattice.proofs.Tab.{step}
 use Rattle.lists.proofs.Words.{same_self}
 use Rattle.lists.proofs.Sums.{sum-ext, sum-add, sum-scale, sum-zero, sum-swap, sum-pick}
 use Rattle.refine_lattice.proofs.Sums.{dot-sum}
-use Rattle.refine_lattice.proofs.Codes.{Code, corner, corners}
+use Rattle.refine_lattice.proofs.Codes.{Code, corner}
 use Rattle.refine_lattice.proofs.Weights.{Base, Time, length-weights, rows}
 
 pub map_is : (f : ℕ → ℕ) (l : List ℕ) (n : ℕ) → length l ≡ n → map f l ≡ tab n (λ i. f (get_or l i 0))

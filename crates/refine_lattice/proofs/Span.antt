@@ -1,22 +1,22 @@
 -- The corners of a child in one cell: each vertex of the cell weighs at some corner, and at most one vertex weighs nothing on a facet of the child.
 -- Assumes nothing.
 use mathlib.Core.Path.{◌≡◌, refl, sym, ap, ◌∙◌, subst}
-use mathlib.Core.Logic.{◌≢◌, ◌⊎◌, inl, inr, ⊎_elim}
-use mathlib.Core.List.{List, [], ◌∷◌, map}
+use mathlib.Core.Logic.{◌≢◌}
+use mathlib.Core.List.{◌∷◌}
 use Prim.Native.Nat.{ℕ, zero, suc, ◌+◌, ◌*◌, ◌-◌, ◌≤◌, ◌<◌, suc-le-suc}
-use native.Mathlib.Nat.{not-suc-le-zero, le_of_suc-le-suc, suc_inj}
+use native.Mathlib.Nat.{le_of_suc-le-suc}
 use native.Mathlib.Decide.{ℕ_discrete, dec_lt}
 use native.Mathlib.Omega.{arith}
-use lib.ListN.{length, get_or}
-use Rattle.lists.specs.Tables.{tab, sum}
-use Rattle.refine_lattice.specs.Lattice.{Falls, weights, Perm}
+use lib.ListN.{get_or}
+use Rattle.lists.specs.Tables.{sum}
+use Rattle.refine_lattice.specs.Lattice.{weights, Perm}
 use Rattle.lists.specs.Words.{same}
-use Rattle.lists.proofs.Tables.{length-tab, get_or-tab}
-use Rattle.refine_lattice.proofs.Tab.{step, step-le, step-yes, step-no, step-one}
-use Rattle.refine_lattice.proofs.Perms.{Undoes, back, undoes, one_place, onto}
-use Rattle.lists.proofs.Words.{same_self, same-yes, same-no, same-eq}
+use Rattle.lists.proofs.Tables.{get_or-tab}
+use Rattle.refine_lattice.proofs.Tab.{step, step-le, step-yes, step-no}
+use Rattle.refine_lattice.proofs.Perms.{one_place, onto}
+use Rattle.lists.proofs.Words.{same-yes, same-no}
 use Rattle.lists.proofs.Sums.{sum-ext, sum-add, sum-zero, sum-pick}
-use Rattle.refine_lattice.proofs.Codes.{Code, corner, corners, falls-corner}
+use Rattle.refine_lattice.proofs.Codes.{Code, corner, falls-corner}
 use Rattle.refine_lattice.proofs.Weights.{weights-at, falls-next, past}
 
 pub step-up : (t i j : ℕ) → i ≤ j → step t i ≤ step t j

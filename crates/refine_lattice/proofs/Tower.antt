@@ -1,16 +1,15 @@
 -- A complex refined by a and then, along its children's own words, by b is the complex refined by a * b. Assumes nothing.
-use mathlib.Core.Path.{◌≡◌, refl, sym, ap, ◌∙◌, subst, fun_ext}
-use mathlib.Core.Logic.{◌≢◌, ◌⊎◌, inl, inr, ⊎_elim}
-use mathlib.Core.List.{List, [], ◌∷◌, map}
-use Prim.Native.Nat.{ℕ, zero, suc, ◌+◌, ◌*◌, ◌-◌, ◌≤◌, ◌<◌, suc-le-suc}
-use native.Mathlib.Decide.{dec_lt, ℕ_discrete}
+use mathlib.Core.Path.{◌≡◌, refl, sym, ap, ◌∙◌, fun_ext}
+use mathlib.Core.List.{List, []}
+use Prim.Native.Nat.{ℕ, suc, ◌+◌, ◌*◌, ◌-◌, ◌<◌}
+use native.Mathlib.Decide.{dec_lt}
 use native.Mathlib.Omega.{arith}
 use lib.ListN.{length, get_or}
-use Rattle.lists.specs.Tables.{tab, sum}
-use Rattle.refine_lattice.specs.Lattice.{Falls, dot, weights, Child}
+use Rattle.lists.specs.Tables.{sum}
+use Rattle.refine_lattice.specs.Lattice.{Falls, dot, weights}
 use Rattle.lists.specs.Words.{same}
-use Rattle.refine_lattice.specs.Complex.{Words, occurrences, common, weigh, through, Names, Complex, Apart, Refined, Within, Alike, Agree}
-use Rattle.lists.proofs.Tables.{length-tab, get_or-tab, tab-ext}
+use Rattle.refine_lattice.specs.Complex.{Words, occurrences, weigh, through, Names, Complex, Apart, Refined, Within, Alike, Agree}
+use Rattle.lists.proofs.Tables.{length-tab, get_or-tab}
 use Rattle.refine_lattice.proofs.Tab.{step}
 use Rattle.lists.proofs.Sums.{sum-ext}
 use Rattle.refine_lattice.proofs.Codes.{Code, corner, corners, falls-corner, of-child, to-child}

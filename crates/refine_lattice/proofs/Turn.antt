@@ -1,15 +1,14 @@
 -- Two different children of one cell with a common facet have opposite signs there. Assumes nothing.
-use mathlib.Core.Path.{◌≡◌, refl, sym, ap, ◌∙◌, subst}
-use mathlib.Core.Logic.{◌≢◌, ◌⊎◌, inl, inr, ⊎_elim}
-use Prim.Native.Nat.{ℕ, zero, suc, ◌+◌, ◌*◌, ◌-◌, ◌≤◌, ◌<◌, suc-le-suc}
-use native.Mathlib.Nat.{not-suc-le-zero, le_of_suc-le-suc, suc_inj}
+use mathlib.Core.Path.{◌≡◌, sym, ap, ◌∙◌, subst}
+use mathlib.Core.Logic.{◌≢◌}
+use Prim.Native.Nat.{ℕ, suc, ◌+◌, ◌-◌, ◌≤◌, ◌<◌, suc-le-suc}
 use native.Mathlib.Decide.{ℕ_discrete, dec_lt}
 use native.Mathlib.Omega.{arith}
 use Rattle.refine_lattice.specs.Lattice.{Perm}
-use Rattle.refine_lattice.specs.Signs.{Even, Odd}
-use Rattle.refine_lattice.proofs.Tab.{step, step-le, step-yes, step-no, step-one}
+use Rattle.refine_lattice.specs.Signs.{Odd}
+use Rattle.refine_lattice.proofs.Tab.{step, step-yes, step-no, step-one}
 use Rattle.refine_lattice.proofs.Perms.{one_place, onto}
-use Rattle.refine_lattice.proofs.Mirror.{Spot, Facing, Lie, alike, above, under, lie}
+use Rattle.refine_lattice.proofs.Mirror.{Spot, Facing, alike, above, under, lie}
 use Rattle.refine_lattice.proofs.Parity.{inverse, skip, skip-not, skip_below, compare}
 
 pub step-zero : (t k : ℕ) → step t k ≡ 0 → k ≤ t

@@ -5,27 +5,26 @@ use mathlib.Core.Bool.{Bool, true, false, ◌||◌}
 use mathlib.Core.List.Memᴰ
 use mathlib.Core.List.{List, [], ◌∷◌, ◌++◌, map, Memᴰ}
 use Prim.Native.Nat.{ℕ, zero, suc, ◌+◌, ◌*◌, ◌-◌, ◌≤◌, ◌<◌, suc-le-suc}
-use native.Mathlib.Nat.{not-suc-le-zero, le_of_suc-le-suc, suc_inj}
+use native.Mathlib.Nat.{not-suc-le-zero, le_of_suc-le-suc}
 use native.Mathlib.Decide.{ℕ_discrete, dec_lt}
 use native.Mathlib.Omega.{arith}
-use lib.Dec.{T, eqb, eqb→eq, eqb_refl, ltb, ltb→lt, lt→ltb}
+use lib.Dec.{T, eqb, eqb→eq, eqb_refl, ltb, lt→ltb}
 use lib.ListN.{length, get_or}
-use Rattle.lists.specs.Tables.{tab}
 use Rattle.refine_lattice.specs.Lattice.{weights, Child}
 use Rattle.lists.specs.Words.{same, same_word}
-use Rattle.refine_lattice.specs.Complex.{Words, occurrences, weigh, Names, Complex, Refined, AgreeOnFaces, WordsAgreeOnFacets}
+use Rattle.refine_lattice.specs.Complex.{occurrences, weigh, Complex, Refined, AgreeOnFaces, WordsAgreeOnFacets}
 use Rattle.refine_lattice.specs.Children.{gather, children, pick}
 use Rattle.refine_lattice.specs.Refine.{point, visits, positives, first, place, births_from, births, number, words, vertices, share, In}
-use Rattle.refine_lattice.specs.Conform.{Distinct, Thin, Used, Sound}
+use Rattle.refine_lattice.specs.Conform.{Distinct, Used, Sound}
 use Rattle.lists.proofs.Tables.{length-tab, get_or-tab, tab-ext}
-use Rattle.refine_lattice.proofs.Tab.{step, step-le, step-yes, step-no}
-use Rattle.lists.proofs.Words.{same_self, same-yes, same-no, same-eq}
-use Rattle.refine_lattice.proofs.Codes.{Code, corner, corners, of-child, to-child}
+use Rattle.refine_lattice.proofs.Tab.{step, step-yes, step-no}
+use Rattle.lists.proofs.Words.{same_self, same-yes, same-no}
+use Rattle.refine_lattice.proofs.Codes.{Code, corner, corners, to-child}
 use Rattle.refine_lattice.proofs.Weights.{weights-at, length-weights, past}
 use Rattle.refine_lattice.proofs.After.{weigh-absent}
-use Rattle.refine_lattice.proofs.Enumerate.{to-gather, of-gather, to-tab, child-of-mem, mem-of-child, place-of, times-of-mem}
+use Rattle.refine_lattice.proofs.Enumerate.{of-gather, to-tab, child-of-mem, place-of, times-of-mem}
 use Rattle.refine_lattice.proofs.Count.{Nodup, nodup_append, nodup-map, nodup-gather, nodup-children}
-use Rattle.refine_lattice.proofs.Refines.{yes-pick, no-pick, dec-T, equal-eq, equal-refl, mem-at, place-lt, m, names, in_words, refined, words_long, words-below}
+use Rattle.refine_lattice.proofs.Refines.{yes-pick, no-pick, dec-T, equal-eq, equal-refl, mem-at, place-lt, names, in_words, refined, words_long, words-below}
 use Rattle.refine_lattice.proofs.Seats.{Sits, sits, sits-is, weigh-at, spot_of}
 use Rattle.refine_lattice.proofs.Conform.{counts, apart-at, Seat, inside, plain-refined, distinct-refined, thin-refined}
 use Rattle.refine_lattice.proofs.Inherit.{faces-refined, facets-refined}

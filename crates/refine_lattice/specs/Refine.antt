@@ -1,5 +1,5 @@
 -- A complex refined, by lists: its points by their shares, births numbered after the first vertices by first visit, and the words. Assumes nothing.
-use Rattle.std.specs.Prelude.{Bool, true, false, ◌&&◌, ◌||◌, ℕ, zero, suc, ◌+◌, ◌*◌, ◌-◌, eqb, ltb, length, get_or}
+use Rattle.std.specs.Prelude.{◌||◌, ℕ, zero, suc, ◌+◌, ◌*◌, ◌-◌, eqb, ltb, length, get_or}
 use mathlib.Core.List.{List, [], ◌∷◌, ◌++◌, map, Memᴰ}
 use Rattle.lists.specs.Tables.{tab}
 use Rattle.refine_lattice.specs.Lattice.{weights}

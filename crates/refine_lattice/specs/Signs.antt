@@ -1,6 +1,6 @@
 -- Signs of words, + where the number is even and - where it is odd; when they are coherent; and the signs that children have from their parents.
 -- Assumes nothing.
-use Rattle.std.specs.Prelude.{◌≡◌, ◌≢◌, List, ℕ, zero, suc, ◌+◌, ◌*◌, ◌-◌, ◌<◌, length, get_or}
+use Rattle.std.specs.Prelude.{◌≡◌, ◌≢◌, List, ℕ, zero, suc, ◌+◌, ◌<◌, length, get_or}
 use Rattle.multiindex.specs.Sort.{inversions}
 use Rattle.refine_lattice.specs.Lattice.{Child}
 use Rattle.lists.specs.Tables.{sum}

@@ -4,7 +4,6 @@ use mathlib.Core.List.{List}
 use Prim.Native.Nat.{ℕ, suc, ◌≤◌, ◌<◌}
 use native.Mathlib.Omega.{arith}
 use lib.ListN.{length}
-use Rattle.refusal.specs.Limits.{most_cells}
 use Rattle.lists.specs.Rows.{flat}
 use Rattle.complex.specs.Cells.{cells_of}
 use Rattle.complex.specs.Check.{Passed}

@@ -17,7 +17,7 @@ use Rattle.complex_cells.proofs.Order.{order-rising}
 use Rattle.ordering_words.specs.Order.{Orders}
 use Rattle.ordering_words.specs.Order as order
 use Rattle.lists.specs.Words.{same}
-use Rattle.refine_lattice.specs.Complex.{through, Alike, WordsAgreeOnFacets}
+use Rattle.refine_lattice.specs.Complex.{through, Alike}
 use Rattle.refine_lattice.specs.Refine.{words, vertices, share, In}
 use Rattle.refine_lattice.specs.Conform.{Used, Facewise}
 use Rattle.lists.proofs.Words.{same-yes, same-no}

@@ -3,10 +3,8 @@
 use mathlib.Core.Path.{◌≡◌, refl, sym, ap, ◌∙◌, subst}
 use mathlib.Core.List.Memᴰ
 use mathlib.Core.List.{List, map}
-use Prim.Native.Nat.{ℕ, suc, ◌+◌, ◌*◌, ◌-◌, ◌<◌}
+use Prim.Native.Nat.{ℕ, suc, ◌*◌, ◌-◌, ◌<◌}
 use native.Mathlib.Omega.{arith}
-use lib.IntN.{ℤ}
-use lib.Ieee.{Float}
 use lib.ListN.{length, get_or, take, drop, length-map}
 use lib.Seq.{take_at}
 use Rattle.refusal.specs.Limits.{square_most}
@@ -25,7 +23,7 @@ use Rattle.refine_lattice.specs.Conform.{Sound}
 use Rattle.refine_lattice.proofs.Count.{Nodup, length-gather}
 use Rattle.refine_lattice.proofs.Fits.{Stage}
 use Rattle.refine_births.specs.Support.{supporters, shares, padded}
-use Rattle.refine_births.specs.Promise.{birth_vertices_of, birth_weights_of}
+use Rattle.refine_births.specs.Promise.{birth_weights_of}
 use Rattle.refine_jacobian.specs.Entries.{share_of, whole_of, float_of}
 use Rattle.refine_results.specs.declared.Refinement.{Refinement}
 use Rattle.refine_results.specs.declared.Refinement.TheVariants.{Made}

@@ -5,7 +5,7 @@ use mathlib.Core.List.{List, [], ◌∷◌, map}
 use Prim.Native.Nat.{ℕ, ◌*◌, ◌<◌, ◌≤◌}
 use native.Mathlib.Omega.{arith}
 use lib.ListN.{get_or}
-use Rattle.lists.specs.Words.{among, has_repeat, largest_of, found_at, first_where, same_word}
+use Rattle.lists.specs.Words.{among, has_repeat, largest_of, found_at, first_where}
 use Rattle.lists.specs.Rows.{cut, flat}
 use Rattle.multiindex.specs.Sort.{insert_by, insert, sort_word}
 use Rattle.complex.specs.Cells.{decides, comes_before, placed, place, in_order, cells_of}

@@ -1,6 +1,5 @@
 -- Cells with one word each. What complex and ordering say of the cells, by number and by facets dropped, is what lattice says of the set of their words: no facet in
 -- three cells, and agreement on facets. Assumes nothing.
-use mathlib.Core.Bool.{Bool, true, false}
 use mathlib.Core.Path.{◌≡◌, refl, sym, ap, ◌∙◌, subst}
 use mathlib.Core.Logic.{◌≢◌}
 use mathlib.Core.List.{List, [], ◌∷◌, Memᴰ}
@@ -8,9 +7,7 @@ use Prim.Native.Nat.{ℕ, zero, suc, ◌-◌, ◌≤◌, ◌<◌}
 use native.Mathlib.Nat.{le_of_suc-le-suc, not-suc-le-zero}
 use native.Mathlib.Decide.{ℕ_discrete, dec_lt}
 use native.Mathlib.Omega.{arith}
-use lib.Dec.{eqb}
 use lib.ListN.{length, get_or}
-use borrow.Author.Tests.{eqb-true, eqb-false}
 use Rattle.multiindex.specs.Sort.{sort_word}
 use Rattle.multiindex.proofs.SortLaws.{sort-length}
 use Rattle.complex_cells.proofs.Words.{at_in}

@@ -14,9 +14,8 @@ use Rattle.refine_lattice.specs.Refine.{vertices}
 use Rattle.refine_results.specs.declared.Refinement.{Refinement}
 use Rattle.refine_results.specs.declared.Refinement.TheVariants.{Made, Refused}
 use Rattle.refine_results.specs.Refined.{coarse, refined_cells}
-use Rattle.refine_results.specs.Results.{Results, Lengths, Holds, Inside, Refines, results_of, Finishes, outside, many_cells, many_vertices, short, made}
+use Rattle.refine_results.specs.Results.{Results, Lengths, Holds, Refines, results_of, Finishes, outside, many_cells, many_vertices, short, made}
 use Rattle.refine.specs.declared.Space.{Space}
-use Rattle.refine.specs.Space.{space_of, Enough}
 use Rattle.refine.specs.Promise.{Ends, crowded, unordered, finished, Comes}
 use Rattle.refine_laws.specs.Composition.{Accepted}
 use Rattle.refine_laws.specs.Calls.{Called}

@@ -8,12 +8,11 @@ use Prim.Native.Nat.{ℕ, zero, suc, ◌+◌, ◌*◌, ◌-◌, ◌≤◌, ◌<�
 use native.Mathlib.Nat.{zero-add}
 use native.Mathlib.Decide.{dec_lt}
 use native.Mathlib.Omega.{arith}
-use lib.Dec.{eqb, ltb, T, lt→ltb, ltb→lt}
-use lib.ListN.{length, get_or, take, drop, length-map, length-append}
+use lib.Dec.{eqb, ltb, lt→ltb, ltb→lt}
+use lib.ListN.{length, get_or, length-map}
 use Rattle.lists.specs.Rows.{flat, row}
 use Rattle.lists.proofs.Laws.{map_at}
 use Rattle.lists.proofs.Flat.{flat-at}
-use Rattle.lists.specs.Tables.{tab}
 use Rattle.refine_lattice.specs.Lattice.{weights}
 use Rattle.lists.specs.Words.{same, none}
 use Rattle.refine_lattice.specs.Complex.{weigh}
@@ -26,7 +25,7 @@ use Rattle.refine_lattice.proofs.Refines.{mem-at, yes-pick, no-pick}
 use Rattle.refine_births.specs.Support.{supporters, shares, padded}
 use Rattle.refine_births.specs.Promise.{birth_vertices_of, birth_weights_of}
 use Rattle.refine_births.proofs.Points.{supporters-long, shares-long, supporters-low, weigh-past, positives-most}
-use Rattle.refine_results.specs.Results.{Results, results_of}
+use Rattle.refine_results.specs.Results.{results_of}
 use Rattle.refine_laws.specs.Calls.{told}
 
 -- a support and its shares weigh what the point's share is; the list's first share is that of vertex u

@@ -1,6 +1,6 @@
 -- `word_of` is the word refined by: word c of a list of words of one length is row c of the flat list, whatever stands behind it. Assumes nothing.
 use mathlib.Core.Path.{◌≡◌, sym, ap, ◌∙◌}
-use mathlib.Core.List.{List, [], ◌++◌}
+use mathlib.Core.List.{List, ◌++◌}
 use Prim.Native.Nat.{ℕ, suc, ◌+◌, ◌*◌, ◌≤◌, ◌<◌}
 use native.Mathlib.Nat.{suc-mul, mul-le-mul_right}
 use native.Mathlib.Omega.{arith}
@@ -11,7 +11,6 @@ use Rattle.refusal.specs.Limits.{most_dimension}
 use Rattle.lists.specs.Rows.{flat, row}
 use Rattle.lists.proofs.Flat.{each_long, flat-length, flat-at}
 use Rattle.multiindex.proofs.SortLaws.{sort-length}
-use Rattle.complex.specs.Check.{Passed}
 use Rattle.complex.specs.Cells.{cells_of}
 use Rattle.complex.specs.Facets.{cell_at}
 use Rattle.refine_results.specs.Refined.{coarse, order_words}

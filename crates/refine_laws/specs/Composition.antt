@@ -1,6 +1,6 @@
 -- Demand 3 over the definitions that the refinement calls promise: refining by a, then by b along the children's own words, against refining once by a times b.
 -- Assumes nothing.
-use Rattle.std.specs.Prelude.{List, map, ◌≡◌, ℕ, ◌*◌, ◌^◌, ◌<◌, ◌≤◌, length}
+use Rattle.std.specs.Prelude.{List, map, ◌≡◌, ℕ, ◌*◌, ◌<◌, length}
 use Rattle.refusal.specs.declared.Answer.TheVariants.{Fine}
 use Rattle.lists.specs.Rows.{flat}
 use Rattle.complex.specs.Cells.{cells_of}

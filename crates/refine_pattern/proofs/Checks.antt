@@ -1,7 +1,7 @@
 -- The checks of `corners`, what they tell, and how it ends. Assumes nothing.
 use mathlib.Core.Path.{◌≡◌, refl, sym, ap, ◌∙◌}
 use mathlib.Core.Bool.{Bool, true, false, not}
-use mathlib.Core.List.{List, []}
+use mathlib.Core.List.{List}
 use Prim.Native.Nat.{ℕ, zero, suc, ◌+◌, ◌*◌, ◌^◌, ◌≤◌, ◌<◌}
 use native.Mathlib.Numerals.{add-one}
 use native.Mathlib.Nat.{mul-le-mul}
@@ -13,7 +13,7 @@ use borrow.Author.Tests.{lt-ltb, le-ltb, ltb-false, le-leb, lt-leb}
 use Rattle.refusal.specs.declared.Answer.{Answer}
 use Rattle.refusal.specs.declared.Answer.TheVariants.{Fine, Refused}
 use Rattle.refusal.specs.declared.Counted.TheVariants as counted
-use Rattle.refusal.specs.Limits.{most_dimension, most_cells, most_refinement}
+use Rattle.refusal.specs.Limits.{most_dimension, most_cells}
 use Rattle.refusal.specs.Refuse.{refuse}
 use Rattle.refusal.specs.Lent.{onto}
 use Rattle.refusal.proofs.Chain.{refuse-fine}

@@ -1,14 +1,12 @@
 -- Figures of the table and of the calls that hand out corners, computed. Assumes nothing.
 use mathlib.Core.Path.{◌≡◌, refl}
-use mathlib.Core.List.{List, [], ◌∷◌}
-use Prim.Native.Nat.{ℕ}
+use mathlib.Core.List.{[], ◌∷◌}
 use lib.ListN.{drop}
-use Rattle.refusal.specs.declared.Answer.{Answer}
 use Rattle.refusal.specs.declared.Answer.TheVariants.{Fine, Refused}
 use Rattle.refusal.specs.declared.Counted.TheVariants as counted
 use Rattle.refine_lattice.specs.Pattern.{pattern_of}
 use Rattle.refine_lattice.proofs.Pattern.{added}
-use Rattle.refine_pattern.specs.Table.{packed, unpacked}
+use Rattle.refine_pattern.specs.Table.{packed}
 use Rattle.refine_pattern.specs.Promise.{answer_of, said, handed}
 use Rattle.refine_pattern.proofs.Entries.{numbers}
 

@@ -1,5 +1,5 @@
 -- What the calls `corners` and `corners_stepping` come to, on every input. Assumes nothing.
-use Rattle.std.specs.Prelude.{◌≡◌, Bool, true, false, List, [], ℕ, zero, suc, ◌*◌, ◌^◌, ◌≤◌, ltb, length}
+use Rattle.std.specs.Prelude.{◌≡◌, Bool, true, List, [], ℕ, zero, suc, ◌*◌, ◌^◌, ◌≤◌, ltb, length}
 use Rattle.refusal.specs.declared.Answer.{Answer}
 use Rattle.refusal.specs.declared.Answer.TheVariants.{Fine, Refused}
 use Rattle.refusal.specs.declared.Counted.{Counted}

@@ -7,6 +7,7 @@
 //
 // `pattern` is for the crates above, which check before they call it; `corners` and `corners_stepping` check for themselves. The patterns that most jobs want stand
 // ready in a table: `corners` reads them there, and `corners_stepping` never does; `pattern` takes either way.
+#![tactic(auto)]
 
 mod table;
 
@@ -29,7 +30,7 @@ use refusal::{
 const AXES: usize = MOST_DIMENSION as usize;
 
 // Where the walk through the chains stands: a base, in the first d numbers, and the number of an axis order.
-#[derive(Drop)]
+#[derive(Clone, Copy)]
 struct Cursor {
     base: [u32; AXES],
     order: usize,

@@ -1,13 +1,12 @@
 -- Document 01's figures of refinement, from the definitions. Assumes nothing.
-use mathlib.Core.List.{List, [], ◌∷◌, ◌++◌, map}
+use mathlib.Core.List.{List, [], ◌∷◌, ◌++◌}
 use mathlib.Core.Path.{◌≡◌, refl}
 use Prim.Native.Nat.{ℕ}
-use lib.IntN.{ℤ, pos, negsuc}
+use lib.IntN.{pos, negsuc}
 use Rattle.multiindex.specs.Sort.{insert_by, insert, sort_word}
 use Rattle.lists.specs.Words.{found_at}
 use Rattle.complex.specs.Cells.{decides, comes_before, placed, place, in_order}
 use Rattle.ordering_words.specs.Order.{word_if, word_of, by_cell}
-use Rattle.refine_lattice.specs.Refine.{births}
 use Rattle.refine_results.specs.Refined.{visit_of, refined_cells, refined_words, parents, wholes}
 
 abbrev pub triangle : List (List ℕ)

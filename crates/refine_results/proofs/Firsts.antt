@@ -1,14 +1,14 @@
 -- The first word of each cell: what the children's arrangement tells of the refined cells, their words and their visits. Assumes nothing.
-use mathlib.Core.Bool.{Bool, true, false}
+use mathlib.Core.Bool.{Bool}
 use mathlib.Core.List.{List, [], ◌∷◌, ◌++◌, append-nil}
 use mathlib.Core.Path.{◌≡◌, refl, sym, ap, ◌∙◌, subst}
 use Prim.Native.Nat.{ℕ, zero, suc, ◌+◌, ◌*◌, ◌<◌, ◌≤◌}
 use native.Mathlib.Nat.{le_refl, suc-mul, mul-le-mul_right}
 use native.Mathlib.Omega.{arith}
-use lib.ListN.{length, get_or, take, drop, length-append}
+use lib.ListN.{length, get_or, take, length-append}
 use lib.Seq.{length-take-le, get_or-take}
 use Rattle.lists.specs.Rows.{cut, flat, row}
-use Rattle.lists.specs.Words.{found_at, same_word}
+use Rattle.lists.specs.Words.{found_at}
 use Rattle.lists.proofs.Rows.{cut-length, cut_at}
 use Rattle.sorting.specs.Bucket.{cell}
 use Rattle.sorting.specs.Gather.{rows_of}

@@ -14,7 +14,7 @@ use Rattle.lists.proofs.Rows.{cut-length, cut_at}
 use Rattle.multiindex.proofs.Digits.{power-most}
 use Rattle.sorting.proofs.Colex.{row-cell, row-length}
 use Rattle.refine_lattice.specs.Pattern.{pattern_of}
-use Rattle.refine_lattice.specs.Refine.{births, vertices, words}
+use Rattle.refine_lattice.specs.Refine.{words}
 use Rattle.refine_lattice.proofs.Enumerate.{times-at}
 use Rattle.refine_lattice.proofs.Pattern.{flat-count}
 use Rattle.refine_lattice.proofs.Refines.{mem-at, words-below}

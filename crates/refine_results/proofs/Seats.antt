@@ -9,39 +9,38 @@ use native.Mathlib.Nat.{suc-mul, mul-le-mul_right, mul_assoc, add-mul, div-add-m
 use native.Mathlib.Decide.{dec_lt}
 use native.Mathlib.Omega.{arith}
 use lib.Dec.{eqb, ltb}
-use lib.IntN.{ℤ, pos}
-use lib.Ieee.{Float}
-use lib.ListN.{length, get_or, take, drop, length-take, length-append, get_or-append, length-map}
+use lib.IntN.{pos}
+use lib.ListN.{length, get_or, take, drop, length-take, get_or-append, length-map}
 use lib.Seq.{get_or-take, get_or-drop, get_or-append-add}
 use borrow.Author.Tests.{eqb-true, eqb-false}
-use Rattle.refusal.specs.Limits.{most_refinement, square_most}
+use Rattle.refusal.specs.Limits.{square_most}
 use Rattle.lists.specs.Rows.{cut, flat, row}
 use Rattle.lists.proofs.Laws.{map_at}
 use Rattle.lists.specs.Words.{found_at}
 use Rattle.lists.proofs.Rows.{cut-length, cut_at}
-use Rattle.lists.proofs.Members.{All, All-of, All-at}
+use Rattle.lists.proofs.Members.{All-of, All-at}
 use Rattle.sorting.proofs.Colex.{row-length, row-cell}
 use Rattle.multiindex.specs.Sort.{sort_word}
 use Rattle.multiindex.proofs.SortLaws.{sort-length}
 use Rattle.complex_cells.proofs.Strict.{sort-all}
 use Rattle.refine_lattice.specs.Lattice.{weights, Child}
-use Rattle.refine_lattice.specs.Complex.{occurrences, weigh, Names}
+use Rattle.refine_lattice.specs.Complex.{occurrences, Names}
 use Rattle.refine_lattice.specs.Children.{gather, children}
 use Rattle.refine_lattice.specs.Pattern.{pattern_of}
 use Rattle.refine_lattice.specs.Refine.{point, births, number, words, share}
 use Rattle.refine_lattice.proofs.Count.{count}
 use Rattle.refine_lattice.proofs.Enumerate.{child-of-mem, times-at, place-of}
 use Rattle.refine_lattice.proofs.Refines.{mem-at, names}
-use Rattle.refine_lattice.proofs.Pattern.{child-corners, corner-long, added, row_count, row-long, row-sum, row_at, flat-row, flat-count}
+use Rattle.refine_lattice.proofs.Pattern.{child-corners, corner-long, added, row_count, row-sum, row_at, flat-row, flat-count}
 use Rattle.refine_lattice.proofs.Seats.{weigh-at}
 use Rattle.refine_lattice.proofs.Weights.{length-weights}
 use Rattle.refine_lattice.specs.Jacobian.{jacobian}
 use Rattle.lists.proofs.Tables.{tab-ext}
 use Rattle.refine_jacobian.specs.Entries.{square_of, whole_of, float_of, float_step, nought}
 use Rattle.refine_jacobian.proofs.Laws.{column-in, row_in, entry_past}
-use Rattle.refine_jacobian.specs.WorkWeights.{place_of, weight_of, Seated}
+use Rattle.refine_jacobian.specs.WorkWeights.{place_of, Seated}
 use Rattle.refine_children.specs.WorkFamily.{weights_at, whole_at, float_at, Family}
-use Rattle.refine_results.specs.WorkFlat.{Along, Refining}
+use Rattle.refine_results.specs.WorkFlat.{Refining}
 
 -- ---- places
 found_lt : (b : Bool) (n k : ℕ) → (b ≡ false → k < n) → found_at b k < suc n

@@ -1,10 +1,10 @@
 -- What the refinement of words that stand in the working lists asks of these lists, and what it gives. Assumes nothing.
-use Rattle.std.specs.Prelude.{List, ℕ, suc, ◌+◌, ◌*◌, ◌^◌, ◌≤◌, ◌<◌, ℤ, Float, length}
+use Rattle.std.specs.Prelude.{List, ℕ, suc, ◌+◌, ◌*◌, ◌^◌, ◌≤◌, ℤ, Float, length}
 use Rattle.refusal.specs.Limits.{most_dimension, most_cells, most_vertices}
 use Rattle.lists.specs.Rows.{cut}
 use Rattle.refine_results.specs.declared.Refinement.{Refinement}
 use Rattle.refine_results.specs.WorkFlat.{Along}
-use Rattle.refine_results.specs.Results.{Results, Lengths, lengths_of, Inside, Finishes, Stored}
+use Rattle.refine_results.specs.Results.{Results, lengths_of, Inside, Finishes, Stored}
 
 -- room for c children of cells of dimension d with n vertices, refined by R
 pub record Spacious (d R n c : ℕ) (pattern keys rows spare counts sorted firsts buckets : List ℕ) : Type 0 where

@@ -15,6 +15,8 @@
 //   buckets  -                                 buckets, then the refined cell of each child
 //
 // `refined` is for the crate above, which checks before it calls it.
+#![tactic(auto)]
+
 ghost use Rattle.std.specs.Prelude.{◌≡◌, List, ℕ, suc, ◌+◌, ◌≤◌, length};
 ghost use Rattle.refusal.specs.Limits.{most_dimension, most_cells, most_vertices};
 ghost use Rattle.refine_children.specs.WorkColex.{Arranging, Arranged};
@@ -29,7 +31,7 @@ use refusal::{
 };
 
 // What a refinement says: how many children and how many vertices there are, or its refusal.
-#[derive(Drop)]
+#[derive(Clone, Copy)]
 pub enum Refinement {
     Made(u32, u32),
     Refused(u32, u32),

@@ -3,7 +3,7 @@ use mathlib.Core.Bool.{Bool, true, false, cond, ◌&&◌}
 use mathlib.Core.List.{List, [], ◌∷◌, ◌++◌, append-nil}
 use mathlib.Core.Path.{◌≡◌, refl, sym, ap, ◌∙◌, subst}
 use Prim.Native.Nat.{ℕ, zero, suc, ◌+◌, ◌-◌, ◌*◌, ◌<◌, ◌≤◌}
-use native.Mathlib.Nat.{add-sub_cancel_left, mul-le-mul_left}
+use native.Mathlib.Nat.{mul-le-mul_left}
 use native.Mathlib.Numerals.{add-one}
 use native.Mathlib.Decide.{dec_lt}
 use native.Mathlib.Omega.{arith}

@@ -1,5 +1,5 @@
 -- Values by number: one child, one word refined by and one birth, read from the lists that a refinement hands out. Assumes nothing.
-use Rattle.std.specs.Prelude.{Bool, cond, ◌&&◌, List, [], ◌++◌, ℕ, suc, ◌+◌, ◌-◌, ◌*◌, eqb, ltb, leb, ℤ, pos, Float, length, get_or, take, drop, replicate}
+use Rattle.std.specs.Prelude.{Bool, cond, ◌&&◌, List, [], ◌++◌, ℕ, suc, ◌+◌, ◌-◌, ◌*◌, eqb, ltb, leb, ℤ, pos, Float, length, get_or, replicate}
 use Rattle.lists.specs.Rows.{row}
 use Rattle.refusal.specs.declared.Answer.TheVariants.{Fine, Refused}
 use Rattle.refusal.specs.Limits.{most_dimension}

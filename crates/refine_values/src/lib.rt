@@ -1,6 +1,8 @@
 // One child, one word refined by, one birth, each by its number: values read from the lists that a refinement hands out. A caller lends the parts that were handed out, so
 // that a number past the last one is past the lists.
 // Follows `Child`, `VertexBirth` (crates/simplicial/src/topology/refine.rs) and `CellOrdering::word` (crates/simplicial/src/topology/ordering.rs).
+#![tactic(auto)]
+
 ghost use Rattle.std.specs.Prelude.{◌++◌, ◌≡◌, ℕ, suc, ◌+◌, ◌*◌, ◌<◌, ◌≤◌, length};
 ghost use Rattle.refine_jacobian.specs.Entries.{nought};
 ghost use Rattle.refine_values.specs.Reading.{has_child, no_child, child_of, word_in, word_along, four, support, has_birth, no_birth, birth_of};
@@ -9,7 +11,7 @@ use refine_births::NONE;
 use refusal::{Answer, BAD_DIMENSION, MOST_DIMENSION, TOO_SHORT};
 
 // A child: the number of its parent, and its Jacobian in the parent's local coordinates, by column and then zeros, in floats and as whole numbers over R.
-#[derive(Drop)]
+#[derive(Clone, Copy)]
 pub struct Child {
     pub parent: u32,
     pub jacobian: [f64; 9],
@@ -17,14 +19,14 @@ pub struct Child {
 }
 
 // What `child_of` says, and the child: all zero where it is refused.
-#[derive(Drop)]
+#[derive(Clone, Copy)]
 pub struct OneChild {
     pub answer: Answer,
     pub child: Child,
 }
 
 // A birth: how many coarse vertices support it, these vertices, their weights over R and the shares in floats. Past them stand 4294967295, 0 and 0.0.
-#[derive(Drop)]
+#[derive(Clone, Copy)]
 pub struct Birth {
     pub count: u32,
     pub vertices: [u32; 4],
@@ -33,7 +35,7 @@ pub struct Birth {
 }
 
 // What `birth_of` says, and the birth: of no vertex where it is refused.
-#[derive(Drop)]
+#[derive(Clone, Copy)]
 pub struct OneBirth {
     pub answer: Answer,
     pub birth: Birth,

@@ -3,7 +3,6 @@ use mathlib.Core.List.{List}
 use mathlib.Core.Path.{◌≡◌, refl, sym, ap, ◌∙◌}
 use Prim.Native.Nat.{ℕ}
 use Rattle.refusal.specs.declared.Answer.{Answer}
-use Rattle.refusal.specs.declared.Answer.TheVariants.{Fine, Refused}
 use Rattle.refusal.specs.declared.Room.{Room}
 use Rattle.refusal.specs.Lent.{zeroed, untouched, Roomy, Cleared}
 use Rattle.refusal.specs.Call.{Call, Comes, refused, cramped, ended}

@@ -1,8 +1,7 @@
 -- The parts of the working lists that a call lends on and gets back as zeros. Assumes nothing.
 use mathlib.Core.List.{List, ◌++◌}
-use mathlib.Core.Path.{◌≡◌}
 use Prim.Native.Nat.{ℕ}
-use lib.ListN.{length, take, drop}
+use lib.ListN.{take, drop}
 use Rattle.lists.specs.Zero.{AllZero}
 use Rattle.lists.proofs.Laws.{part-zeroed}
 use Rattle.refusal.specs.declared.Room.{Room}

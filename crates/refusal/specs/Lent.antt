@@ -1,5 +1,5 @@
 -- What becomes of lent lists. Assumes nothing.
-use Rattle.std.specs.Prelude.{◌≡◌, Bool, true, false, ℕ, ◌≤◌, List, [], ◌∷◌, ◌++◌, length, drop, replicate}
+use Rattle.std.specs.Prelude.{◌≡◌, Bool, true, false, ℕ, ◌≤◌, List, ◌++◌, length, drop, replicate}
 use Rattle.refusal.specs.declared.Room.{Room}
 
 -- a lent list with l stored from its start on: past l's length it keeps its values, and with l empty it is as it was

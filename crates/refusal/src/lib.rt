@@ -1,5 +1,7 @@
 // Document 01's answers, refusal numbers and limits, each named once: what every public call says and how much it may be asked.
 // The port added it: the Rust panics or answers `None`.
+#![tactic(auto)]
+
 ghost use Rattle.std.specs.Prelude.{◌≡◌};
 ghost use Rattle.refusal.specs.Lent.{HasRoom};
 
@@ -70,21 +72,21 @@ pub const NO_SUCH_CELL: u32 = 23;
 pub const BAD_FACES: u32 = 24;
 
 // What a check says. A refusal has its number and its place.
-#[derive(Drop)]
+#[derive(Clone, Copy)]
 pub enum Answer {
     Fine,
     Refused(u32, u32),
 }
 
 // What a call says that hands out a list: how many rows of it.
-#[derive(Drop)]
+#[derive(Clone, Copy)]
 pub enum Counted {
     Count(u32),
     Refused(u32, u32),
 }
 
 // What a question says.
-#[derive(Drop)]
+#[derive(Clone, Copy)]
 pub enum Verdict {
     Yes,
     No,
@@ -92,7 +94,7 @@ pub enum Verdict {
 }
 
 // Lengths of the four working lists: what a call needs of them, or what it is lent.
-#[derive(Drop)]
+#[derive(Clone, Copy)]
 pub struct Room {
     pub keys: usize,
     pub rows: usize,

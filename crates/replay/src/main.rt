@@ -1,6 +1,8 @@
 // Replays stored requests: each line of the input is a call's number, two numbers, and two lists, each after its length. For each the program writes
 // the refusal's number and place, or 0 and the answer, and what was handed out. The file `stdout` has what the Rust answers, so a run that writes anything
 // else is a difference.
+#![tactic(auto)]
+
 mod listing;
 mod requests;
 mod show;

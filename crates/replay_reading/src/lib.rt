@@ -1,15 +1,17 @@
 // Added by the port: how the programs that replay stored requests read them. Numbers in a text are decimal, with anything but digits between them.
+#![tactic(auto)]
+
 ghost use Rattle.std.specs.Prelude.{◌≤◌, ◌<◌, length};
 
 // A number, and where it ends.
-#[derive(Drop)]
+#[derive(Clone, Copy)]
 pub struct Found {
     pub value: u64,
     pub end: usize,
 }
 
 // How many numbers a list has, and where it ends.
-#[derive(Drop)]
+#[derive(Clone, Copy)]
 pub struct Listed {
     pub count: usize,
     pub end: usize,

@@ -1,6 +1,8 @@
 // Replays stored refinements: each line of the input is 1 for `refine` or 2 for `refine_with`, the dimension, R, the words and the order's words, each list after
 // its length (the order is read by `refine_with` alone). For each the program writes the refusal's number and place, or 0 and the number of children, and then
 // every result. The file `stdout` has what the Rust answers, so a run that writes anything else is a difference.
+#![tactic(auto)]
+
 mod calls;
 mod show;
 

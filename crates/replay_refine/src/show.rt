@@ -2,7 +2,7 @@
 use refine_results::Refinement;
 
 // How many children and births were handed out, and how many numbers a word has.
-#[derive(Drop)]
+#[derive(Clone, Copy)]
 pub(crate) struct Sizes {
     pub(crate) children: usize,
     pub(crate) births: usize,

@@ -5,7 +5,7 @@ use crate::wide;
 use refine_results::Refinement;
 
 // How many cells and vertices a refinement has; none where it was refused.
-#[derive(Drop)]
+#[derive(Clone, Copy)]
 pub(crate) struct Sizes {
     pub(crate) cells: usize,
     pub(crate) vertices: usize,

@@ -4,6 +4,8 @@
 // their count of numbers, and an order's words after theirs (0: the cells' sorted vertices). For all a, b with a·b at most 64 three calls are made, and the two results are
 // compared by shares: a vertex of the tower is that vertex of the single refinement which has the same shares of the coarse vertices, and the tower's words are
 // then to be the single refinement's, each in its vertex order.
+#![tactic(auto)]
+
 mod calls;
 mod rows;
 mod shares;

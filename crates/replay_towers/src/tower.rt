@@ -6,7 +6,7 @@ use crate::calls::Sizes;
 use crate::{calls, rows, shares};
 
 // How many pairs a, b were tried, how many vertices and words the renamings carried over, and how many pairs failed.
-#[derive(Drop)]
+#[derive(Clone, Copy)]
 pub(crate) struct Counts {
     pub(crate) pairs: u64,
     pub(crate) vertices: u64,

@@ -2,7 +2,7 @@
 use mathlib.Core.Bool.{Bool, true, false}
 use mathlib.Core.List.{List, [], ◌∷◌, ◌++◌}
 use mathlib.Core.Path.{◌≡◌, refl, sym, ap, ◌∙◌, subst}
-use mathlib.Core.Logic.{◌⊎◌, inl, inr, ⊎_elim}
+use mathlib.Core.Logic.{inl, inr}
 use Prim.Native.Nat.{ℕ, zero, suc, ◌+◌, ◌*◌, ◌<◌, ◌≤◌}
 use native.Mathlib.Decide.{ℕ_discrete}
 use native.Mathlib.Omega.{arith}
@@ -12,7 +12,7 @@ use borrow.Author.Tests.{eq-eqb, ne_eqb}
 use Rattle.complex.specs.Facets.{Crowded, Cells, slots}
 use Rattle.lists.specs.Tables.{tab}
 use Rattle.lists.specs.Words.{same_word}
-use Rattle.complex.specs.Skeleton.{facet_row_of, facets_of, only_if, numbers, rows_with, keep_if, keep, border_of}
+use Rattle.complex.specs.Skeleton.{facet_row_of, facets_of, only_if, numbers, rows_with, keep, border_of}
 use Rattle.complex_cells.proofs.Words.{Word, Each, Rising, In, each_in, each_of}
 use Rattle.complex_cells.proofs.Order.{Colex, colex-irr}
 use Rattle.complex_cells.proofs.Named.{in_colex-has}

@@ -1,10 +1,9 @@
 -- The ways out of a call on a list of words: refused by the checks, too little room, or ended. Assumes nothing.
-use mathlib.Core.List.{List, [], ◌++◌}
-use mathlib.Core.Path.{◌≡◌, refl, ap, ◌∙◌, subst}
+use mathlib.Core.List.{List, ◌++◌}
+use mathlib.Core.Path.{◌≡◌, refl, subst}
 use Prim.Native.Nat.{ℕ}
-use native.Mathlib.Nat.{le_of_eq}
 use native.Mathlib.Omega.{arith}
-use lib.ListN.{length, take, drop}
+use lib.ListN.{take, drop}
 use lib.Seq.{length-take-le}
 use Rattle.refusal.specs.declared.Answer.TheVariants as Answer
 use Rattle.refusal.specs.declared.Room.{Room}

@@ -4,24 +4,22 @@ use mathlib.Core.List.{List, [], ◌∷◌, ◌++◌}
 use mathlib.Core.Path.{◌≡◌, refl, sym, ap, ◌∙◌, subst}
 use mathlib.Core.Logic.{◌⊎◌, inl, inr, ⊎_elim}
 use Prim.Native.Nat.{ℕ, zero, suc, ◌+◌, ◌-◌, ◌*◌, ◌/◌, ◌%◌, ◌<◌, ◌≤◌}
-use native.Mathlib.Nat.{eq-or-lt_of_le, mul-le-mul_right, div-add-mod'}
-use native.Mathlib.Numerals.{add-one}
 use native.Mathlib.Decide.{ℕ_discrete, dec_lt}
 use native.Mathlib.Omega.{arith}
 use lib.ListN.{length, get_or, length-append}
 use Rattle.refusal.specs.declared.Room.{Room}
-use Rattle.lists.specs.Rows.{cut, rows}
+use Rattle.lists.specs.Rows.{rows}
 use Rattle.lists.proofs.Rows.{cut-length, cut_at, row_fits, row-cell-below, row-slot-below, row_is, slots-some}
 use Rattle.sorting.proofs.Colex.{row-length}
 use Rattle.complex_cells.proofs.Making.{whole_words}
 use Rattle.multiindex.specs.Sort.{sort_word}
 use Rattle.complex.specs.Check.{Passed}
-use Rattle.complex.specs.Room.{key_room, need_of}
-use Rattle.complex.specs.Cells.{in_order, cells_of}
+use Rattle.complex.specs.Room.{need_of}
+use Rattle.complex.specs.Cells.{cells_of}
 use Rattle.complex.specs.Facets.{cell_at, facet_at, FacetOf, Mates, Crowded, Cells, slots}
 use Rattle.lists.specs.Tables.{tab}
 use Rattle.lists.specs.Words.{same_word}
-use Rattle.complex.specs.Skeleton.{in_colex, all_pairs, edges_of, facet_row_of, facets_of, only_if, numbers, rows_with}
+use Rattle.complex.specs.Skeleton.{all_pairs, edges_of, facet_row_of, facets_of, only_if, numbers, rows_with}
 use Rattle.complex_cells.proofs.Words.{Word, Each, Rising, In, each_of, at_in}
 use Rattle.complex_cells.proofs.Order.{Colex, order-rising, order_from, order-has, order_same}
 use Rattle.complex_cells.proofs.Named.{in_colex-rising, in_colex-from, in_colex-has}

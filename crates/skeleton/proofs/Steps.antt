@@ -1,44 +1,39 @@
 -- The work of the calls, step by step: what each inner call asks follows from what the calls before it gave. Assumes nothing.
 use mathlib.Core.Bool.{Bool, true, false}
-use mathlib.Core.List.{List, [], ◌∷◌, ◌++◌}
+use mathlib.Core.List.{List, [], ◌++◌}
 use mathlib.Core.Path.{◌≡◌, refl, sym, ap, ◌∙◌, subst}
 use Prim.Native.Nat.{ℕ, zero, suc, ◌+◌, ◌*◌, ◌<◌, ◌≤◌}
-use native.Mathlib.Nat.{mul_comm, mul-zero, suc-mul, mul-suc, mul-le-mul_left, mul-le-mul_right, le_trans}
+use native.Mathlib.Nat.{mul_comm, mul-zero, suc-mul, mul-suc, mul-le-mul_left, mul-le-mul_right}
 use native.Mathlib.Numerals.{add-one}
 use native.Mathlib.Omega.{arith}
-use lib.ListN.{length, get_or, take, drop}
-use lib.Seq.{length-take-le}
+use lib.ListN.{length, take, drop}
 use Rattle.refusal.specs.declared.Counted.{Counted}
 use Rattle.refusal.specs.declared.Counted.TheVariants.{Count, Refused}
 use Rattle.refusal.specs.declared.Room.{Room}
 use Rattle.refusal.specs.Table.{crowded_facet, too_short}
-use Rattle.refusal.specs.Lent.{onto, lengths, Roomy}
+use Rattle.refusal.specs.Lent.{lengths, Roomy}
 use Rattle.lists.specs.Rows.{cut, flat}
 use Rattle.lists.proofs.Flat.{flat-cut}
 use Rattle.lists.proofs.Rows.{cut-length}
 use Rattle.sorting.specs.Gather.{rows_of}
 use Rattle.sorting.proofs.Rows.{rows_of-pos}
 use Rattle.refusal.specs.Limits.{most_dimension, many_corners}
-use Rattle.complex.specs.Check.{Passed}
 use Rattle.complex.specs.Room.{key_room, need_of}
 use Rattle.complex.specs.Cells.{cells_of}
 use Rattle.complex.specs.Facets.{Crowded, Cells, slots}
 use Rattle.complex.specs.Skeleton.{edges_of, facets_of, border_of}
 use Rattle.complex_cells.specs.WorkMade.{Making, Made}
 use Rattle.complex_cells.specs.WorkNamed.{Naming, Named}
-use Rattle.lists.specs.Words.{none}
 use Rattle.complex_mates.specs.Table.{MateTable, Meeting}
 use Rattle.complex_mates.proofs.Mated.{not-crowded}
 use Rattle.complex_mates.proofs.Meeting.{slots-most}
 use Rattle.complex_cells.proofs.Named.{named_flat, named-many}
 use Rattle.complex_edges.specs.WorkPairs.{Edging}
-use Rattle.complex_facets.specs.WorkClasses.{Classes, Pass, Found, lone_rows}
-use Rattle.complex_facets.specs.Sides.{table_of}
-use Rattle.complex_facets.specs.WorkSides.{fours}
+use Rattle.complex_facets.specs.WorkClasses.{Pass, Found, lone_rows}
 use Rattle.complex_facets.proofs.Border.{border-named}
 use Rattle.complex_facets.proofs.Tabling.{fours-length, table_is}
 use Rattle.complex_facets.proofs.Recording.{fives-length, records-are}
-use Rattle.skeleton.specs.Promise.{Gives, short, listed, GivesBoth, words_short, table_short, both_listed, Ends, crowded, rest}
+use Rattle.skeleton.specs.Promise.{Gives, short, listed, GivesBoth, words_short, table_short, both_listed, crowded, rest}
 use Rattle.skeleton.specs.declared.Beside.{Beside}
 use Rattle.skeleton.specs.declared.Beside.TheVariants.{Places, Signs}
 use Rattle.skeleton.specs.Parts.{edge_need, width_of, beside_for, beside_as}

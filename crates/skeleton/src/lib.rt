@@ -6,6 +6,8 @@
 //   rows     cells            mates          rows of the border, or cells, then row numbers
 //   spare    first rows       first rows     first rows
 //   counts   buckets          classes        other rows of the facets, or classes
+#![tactic(auto)]
+
 ghost use Rattle.std.specs.Prelude.{List, ◌++◌, ◌≡◌, ℕ, suc, ◌*◌, ◌<◌, ◌≤◌, length, take, drop};
 ghost use Rattle.refusal.specs.Limits.{most_dimension, many_corners};
 ghost use Rattle.lists.specs.Rows.{flat};
@@ -22,7 +24,7 @@ ghost use Rattle.skeleton.specs.Work.{Working, Sound, Handed, Worked, Besides, W
 use refusal::{Answer, CROWDED_FACET, Counted, Room, TOO_SHORT};
 
 // Which list of words is asked for.
-#[derive(Drop)]
+#[derive(Clone, Copy)]
 pub(crate) enum Part {
     Cells,
     Edges,
@@ -30,7 +32,7 @@ pub(crate) enum Part {
 }
 
 // What stands beside the facets: their cells with the positions dropped there, or with the induced signs.
-#[derive(Drop)]
+#[derive(Clone, Copy)]
 pub(crate) enum Beside {
     Places,
     Signs,

@@ -1,18 +1,18 @@
 -- Texts that are added to: nothing, one byte, one thing after another. Assumes nothing.
 use mathlib.Core.Path.{◌≡◌, refl, sym, ap, subst, ◌∙◌}
-use mathlib.Core.List.{List, [], ◌∷◌, ◌++◌, map, append_assoc}
+use mathlib.Core.List.{List, [], ◌∷◌, ◌++◌, append_assoc}
 use Prim.Native.Nat.{ℕ, zero, suc, ◌+◌, ◌-◌, ◌≤◌, ◌<◌}
 use native.Mathlib.Nat.{add-zero, sub-zero, zero-sub, suc-sub-suc}
 use native.Mathlib.Numerals.{add-one}
 use native.Mathlib.Omega.{arith}
-use lib.ListN.{length, get_or, take, drop, set, replicate, length-append, length-take, length-map, take-append-drop}
+use lib.ListN.{length, get_or, take, drop, set, replicate, length-append, length-take, take-append-drop}
 use lib.Seq.{take-suc, take_all, length-take-le, set_split, take-append_seam, drop-append-add, drop-drop}
 use Rattle.text.specs.declared.Text.{Text}
 use Rattle.text.specs.Adds.{size, holding, written_at, Adds}
 
 -- a text's bytes are an array of 128
-pub room_in : (t : Text) → length (map (λ (v : ℕ). v) t.bytes) ≡ size → length t.bytes ≡ size
-room_in t e = sym (length-map t.bytes (λ (v : ℕ). v)) ∙ e
+pub room_in : (t : Text) → length t.bytes ≡ size → length t.bytes ≡ size
+room_in t e = e
 
 pub adds_none : (t : Text) → Adds [] t t
 adds_none t = record { len = omega arith; bytes = sym (ap (λ (k : ℕ). take t.len t.bytes ++ drop k t.bytes) (add-zero t.len) ∙ take-append-drop t.len t.bytes) }

@@ -1,7 +1,7 @@
 -- Powers of ten, and a number's digits from the first one down. Assumes nothing.
 use mathlib.Core.Path.{◌≡◌, refl, sym, ap, subst, ◌∙◌}
 use mathlib.Core.Bool.{Bool, true, false, cond}
-use mathlib.Core.List.{List, [], ◌∷◌, ◌++◌, append-nil, append_assoc}
+use mathlib.Core.List.{List, [], ◌∷◌, ◌++◌, append_assoc}
 use Prim.Native.Nat.{ℕ, zero, suc, ◌+◌, ◌-◌, ◌*◌, ◌/◌, ◌%◌, ◌≤◌, ◌<◌, ◌^◌}
 use native.Mathlib.Nat.{pow-suc, pow-le-pow_right}
 use native.Mathlib.Numerals.{add-one}
@@ -10,7 +10,7 @@ use lib.ListN.{length, length-append}
 use lib.Dec.{ltb}
 use borrow.Author.Tests.{lt-ltb, le-ltb}
 use Rattle.text.specs.declared.Text.{Text}
-use Rattle.text.specs.Decimal.{digit_at, digits_down, decimal_down, decimal}
+use Rattle.text.specs.Decimal.{digit_at, digits_down, decimal_down}
 use Rattle.text.specs.Adds.{Adds}
 use Rattle.text.proofs.Adding.{adds_none, adds-more}
 

@@ -1,7 +1,6 @@
 -- Numbers in decimal, computed from the definition that the contracts cite. Assumes nothing.
 use mathlib.Core.Path.{◌≡◌, refl}
-use mathlib.Core.List.{List, [], ◌∷◌, map}
-use Prim.Native.Nat.{ℕ}
+use mathlib.Core.List.{[], ◌∷◌, map}
 use Rattle.text.specs.Decimal.{digits_down, decimal_down, decimal}
 
 -- 0, 7, 10, 4096 and the largest number of 32 bits

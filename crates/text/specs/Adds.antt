@@ -1,5 +1,5 @@
 -- A text that is written from its start on. Assumes nothing.
-use Rattle.std.specs.Prelude.{ℕ, ◌+◌, ◌-◌, ◌≡◌, List, [], ◌∷◌, ◌++◌, length, take, drop, replicate}
+use Rattle.std.specs.Prelude.{ℕ, ◌+◌, ◌-◌, ◌≡◌, List, ◌++◌, length, take, drop, replicate}
 use Rattle.text.specs.declared.Text.{Text}
 
 -- the most bytes that a text holds

@@ -1,11 +1,13 @@
 // A short text that is written byte by byte, and numbers in decimal: what a program prints.
 // The port added it, with the program.
+#![tactic(auto)]
+
 ghost use Rattle.std.specs.Prelude.{◌≡◌, [], ◌∷◌, ◌+◌, ◌<◌, ◌≤◌, ◌^◌, length};
 ghost use Rattle.text.specs.Decimal.{digits_down, decimal, line_of};
 ghost use Rattle.text.specs.Adds.{holding, Adds, size};
 
 // A text: its bytes, zeros past its length.
-#[derive(Drop)]
+#[derive(Clone, Copy)]
 pub struct Text {
     pub bytes: [u8; 128],
     pub len: usize,

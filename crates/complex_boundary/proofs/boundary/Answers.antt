@@ -1,0 +1,79 @@
+-- `complex_boundary::boundary` meets its contract, by its three ways out (proofs/Entry): a refusal and too little room touch nothing; else the work's end stands, and what was
+-- lent to it came back as zeros. Assumes nothing.
+use lib.Seq.{length-take-le}
+use Rattle.complex.specs.Cells.{cells_of}
+use Rattle.complex_boundary.specs.Need.{face_need}
+use Rattle.complex_faces.specs.Entries.{entries_of}
+use Rattle.complex_boundary.specs.Promise.{Within, GivesEntries}
+use Rattle.complex.proofs.Fine.{fine-passed}
+use Rattle.complex_cells.proofs.Making.{few-corners}
+use Rattle.skeleton.proofs.Entry.{out-refused, out-cramped, working, out-ended}
+use mathlib.Core.Path.{refl, sym, ◌∙◌}
+use mathlib.Core.List.{[]}
+use Prim.Native.Nat.{◌≤◌}
+use lib.ListN.{length}
+use Rattle.complex_boundary.proofs.boundary.Goals as goal
+
+pub returns-in-Refused : goal.returns-in-Refused
+returns-in-Refused c =
+    let k = c.check_cells-answer in
+    record { handed = ([], [], []); call = out-refused ([], [], []) (face_need c.args.d (length c.args.words.now)) (Within ([], [], []) ((1 ≤ c.args.k) × (c.args.k ≤ c.args.d)) (GivesEntries (entries_of (cells_of c.args.d c.args.words.now) c.args.k) (length c.args.signs.now) (length c.args.faces.now) (length c.args.cofaces.now))) c.args.d c.args.words.now c.args.keys.now c.args.rows.now c.args.spare.now c.args.counts.now _ _ (sym c.check_cells-answer.ensures ∙ c.in-Refused.is); signs_are = refl; faces_are = refl; cofaces_are = refl }
+
+pub need-need-requires : goal.need-need-requires
+need-need-requires c =
+    let p = fine-passed c.args.d c.args.words.now (sym c.check_cells-answer.ensures ∙ c.in_default.is) in
+    (p.small, few-corners c.args.d c.args.words.now p)
+
+pub returns-then-not-has_room : goal.returns-then-not-has_room
+returns-then-not-has_room c =
+    let k = c.check_cells-answer in
+    let n = c.need-need in
+    record { handed = ([], [], []); call = out-cramped ([], [], []) (face_need c.args.d (length c.args.words.now)) (Within ([], [], []) ((1 ≤ c.args.k) × (c.args.k ≤ c.args.d)) (GivesEntries (entries_of (cells_of c.args.d c.args.words.now) c.args.k) (length c.args.signs.now) (length c.args.faces.now) (length c.args.cofaces.now))) c.args.d c.args.words.now c.args.keys.now c.args.rows.now c.args.spare.now c.args.counts.now (sym c.check_cells-answer.ensures ∙ c.in_default.is) c.need-need.result c.need-need.ensures (c.has_room.ensures.no (c.if-not-has_room.true)); signs_are = refl; faces_are = refl; cofaces_are = refl }
+
+pub slice_bounds-entries_cleared-end : goal.slice_bounds-entries_cleared-end
+slice_bounds-entries_cleared-end c =
+    (c.has_room.ensures.yes (c.if-not-has_room.false)).in_keys
+
+pub slice_bounds-entries_cleared-end-2 : goal.slice_bounds-entries_cleared-end-2
+slice_bounds-entries_cleared-end-2 c =
+    sym (length-take-le _ _ (c.has_room.ensures.yes (c.if-not-has_room.false)).in_keys)
+
+pub slice_bounds-entries_cleared-end-3 : goal.slice_bounds-entries_cleared-end-3
+slice_bounds-entries_cleared-end-3 c =
+    (c.has_room.ensures.yes (c.if-not-has_room.false)).in_rows
+
+pub slice_bounds-entries_cleared-end-4 : goal.slice_bounds-entries_cleared-end-4
+slice_bounds-entries_cleared-end-4 c =
+    sym (length-take-le _ _ (c.has_room.ensures.yes (c.if-not-has_room.false)).in_rows)
+
+pub slice_bounds-entries_cleared-end-5 : goal.slice_bounds-entries_cleared-end-5
+slice_bounds-entries_cleared-end-5 c =
+    (c.has_room.ensures.yes (c.if-not-has_room.false)).in_spare
+
+pub slice_bounds-entries_cleared-end-6 : goal.slice_bounds-entries_cleared-end-6
+slice_bounds-entries_cleared-end-6 c =
+    sym (length-take-le _ _ (c.has_room.ensures.yes (c.if-not-has_room.false)).in_spare)
+
+pub slice_bounds-entries_cleared-end-7 : goal.slice_bounds-entries_cleared-end-7
+slice_bounds-entries_cleared-end-7 c =
+    (c.has_room.ensures.yes (c.if-not-has_room.false)).in_counts
+
+pub slice_bounds-entries_cleared-end-8 : goal.slice_bounds-entries_cleared-end-8
+slice_bounds-entries_cleared-end-8 c =
+    sym (length-take-le _ _ (c.has_room.ensures.yes (c.if-not-has_room.false)).in_counts)
+
+pub entries_cleared-requires : goal.entries_cleared-requires
+entries_cleared-requires c =
+    working ([], [], []) (face_need c.args.d (length c.args.words.now)) (Within ([], [], []) ((1 ≤ c.args.k) × (c.args.k ≤ c.args.d)) (GivesEntries (entries_of (cells_of c.args.d c.args.words.now) c.args.k) (length c.args.signs.now) (length c.args.faces.now) (length c.args.cofaces.now))) c.args.d c.args.words.now c.args.keys.now c.args.rows.now c.args.spare.now c.args.counts.now (sym c.check_cells-answer.ensures ∙ c.in_default.is) c.need-need.result c.need-need.ensures (c.has_room.ensures.yes (c.if-not-has_room.false))
+
+pub returns : goal.returns
+returns c =
+    let w = c.entries_cleared in
+    let v = c.entries_cleared.ensures.work in
+    record {
+      handed = v.handed;
+      call = out-ended ([], [], []) (face_need c.args.d (length c.args.words.now)) (Within ([], [], []) ((1 ≤ c.args.k) × (c.args.k ≤ c.args.d)) (GivesEntries (entries_of (cells_of c.args.d c.args.words.now) c.args.k) (length c.args.signs.now) (length c.args.faces.now) (length c.args.cofaces.now))) c.args.d c.args.words.now c.args.keys.now c.args.rows.now c.args.spare.now c.args.counts.now (sym c.check_cells-answer.ensures ∙ c.in_default.is) c.need-need.result c.need-need.ensures (c.has_room.ensures.yes (c.if-not-has_room.false)) c.entries_cleared.result v.handed _ _ _ _ v.ends c.entries_cleared.ensures.room;
+      signs_are = v.signs_are;
+      faces_are = v.faces_are;
+      cofaces_are = v.cofaces_are;
+    }

@@ -1,0 +1,22 @@
+-- `complex_facets::cell_of` meets its contract. Assumes nothing.
+use native.Mathlib.Nat.{div-le_self}
+use mathlib.Core.Bool.{Bool}
+use mathlib.Core.Path.{sym, ap, ◌∙◌}
+use Prim.Native.Nat.{ℕ, ◌-◌, ◌/◌}
+use native.Mathlib.Omega.{arith}
+use borrow.Author.Tests.{eq-eqb, ne_eqb}
+use Rattle.lists.specs.Words.{none}
+use Rattle.complex_facets.specs.WorkSides.{or_none}
+use Rattle.complex_facets.proofs.cell_of.Goals as goal
+
+pub returns-then-x-eq-NONE : goal.returns-then-x-eq-NONE
+returns-then-x-eq-NONE c =
+    sym (ap (λ (t : Bool). or_none t (c.args.x / c.args.k)) (eq-eqb c.args.x none c.if-x-eq-NONE.true))
+
+pub overflow_cast-result : goal.overflow_cast-result
+overflow_cast-result c =
+    omega (arith, c.wide.ensures, div-le_self c.wide.result c.args.k)
+
+pub returns : goal.returns
+returns c =
+    ap (λ (z : ℕ). z / c.args.k) c.wide.ensures ∙ sym (ap (λ (t : Bool). or_none t (c.args.x / c.args.k)) (ne_eqb c.args.x none c.if-x-eq-NONE.false))

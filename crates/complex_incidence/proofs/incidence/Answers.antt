@@ -1,0 +1,76 @@
+-- `complex_incidence::incidence` meets its contract, by its three ways out (proofs/Entry): a refusal and too little room touch nothing; else the work's end stands, and what was
+-- lent to it came back as zeros. Assumes nothing.
+use lib.Seq.{length-take-le}
+use Rattle.complex.specs.Room.{need_of}
+use Rattle.complex_faces.specs.Index.{starts_of, word_index}
+use Rattle.complex.proofs.Fine.{fine-passed}
+use Rattle.complex_cells.proofs.Making.{few-corners}
+use Rattle.skeleton.specs.Promise.{GivesBoth}
+use Rattle.skeleton.proofs.Entry.{out-refused, out-cramped, working, out-ended}
+use mathlib.Core.Path.{refl, sym, ◌∙◌}
+use mathlib.Core.List.{[]}
+use lib.ListN.{length}
+use Rattle.complex_incidence.proofs.incidence.Goals as goal
+
+pub returns-in-Refused : goal.returns-in-Refused
+returns-in-Refused c =
+    let k = c.check_cells-answer in
+    record { handed = ([], []); call = out-refused ([], []) (need_of c.args.d (length c.args.words.now)) (GivesBoth (word_index c.args.d c.args.words.now) (starts_of (word_index c.args.d c.args.words.now)) (length c.args.touching.now) (length c.args.starts.now)) c.args.d c.args.words.now c.args.keys.now c.args.rows.now c.args.spare.now c.args.counts.now _ _ (sym c.check_cells-answer.ensures ∙ c.in-Refused.is); result = refl; sides = refl }
+
+pub need-need-requires : goal.need-need-requires
+need-need-requires c =
+    let p = fine-passed c.args.d c.args.words.now (sym c.check_cells-answer.ensures ∙ c.in_default.is) in
+    (p.small, few-corners c.args.d c.args.words.now p)
+
+pub returns-then-not-has_room : goal.returns-then-not-has_room
+returns-then-not-has_room c =
+    let k = c.check_cells-answer in
+    let n = c.need-need in
+    record { handed = ([], []); call = out-cramped ([], []) (need_of c.args.d (length c.args.words.now)) (GivesBoth (word_index c.args.d c.args.words.now) (starts_of (word_index c.args.d c.args.words.now)) (length c.args.touching.now) (length c.args.starts.now)) c.args.d c.args.words.now c.args.keys.now c.args.rows.now c.args.spare.now c.args.counts.now (sym c.check_cells-answer.ensures ∙ c.in_default.is) c.need-need.result c.need-need.ensures (c.has_room.ensures.no (c.if-not-has_room.true)); result = refl; sides = refl }
+
+pub slice_bounds-index_cleared-end : goal.slice_bounds-index_cleared-end
+slice_bounds-index_cleared-end c =
+    (c.has_room.ensures.yes (c.if-not-has_room.false)).in_keys
+
+pub slice_bounds-index_cleared-end-2 : goal.slice_bounds-index_cleared-end-2
+slice_bounds-index_cleared-end-2 c =
+    sym (length-take-le _ _ (c.has_room.ensures.yes (c.if-not-has_room.false)).in_keys)
+
+pub slice_bounds-index_cleared-end-3 : goal.slice_bounds-index_cleared-end-3
+slice_bounds-index_cleared-end-3 c =
+    (c.has_room.ensures.yes (c.if-not-has_room.false)).in_rows
+
+pub slice_bounds-index_cleared-end-4 : goal.slice_bounds-index_cleared-end-4
+slice_bounds-index_cleared-end-4 c =
+    sym (length-take-le _ _ (c.has_room.ensures.yes (c.if-not-has_room.false)).in_rows)
+
+pub slice_bounds-index_cleared-end-5 : goal.slice_bounds-index_cleared-end-5
+slice_bounds-index_cleared-end-5 c =
+    (c.has_room.ensures.yes (c.if-not-has_room.false)).in_spare
+
+pub slice_bounds-index_cleared-end-6 : goal.slice_bounds-index_cleared-end-6
+slice_bounds-index_cleared-end-6 c =
+    sym (length-take-le _ _ (c.has_room.ensures.yes (c.if-not-has_room.false)).in_spare)
+
+pub slice_bounds-index_cleared-end-7 : goal.slice_bounds-index_cleared-end-7
+slice_bounds-index_cleared-end-7 c =
+    (c.has_room.ensures.yes (c.if-not-has_room.false)).in_counts
+
+pub slice_bounds-index_cleared-end-8 : goal.slice_bounds-index_cleared-end-8
+slice_bounds-index_cleared-end-8 c =
+    sym (length-take-le _ _ (c.has_room.ensures.yes (c.if-not-has_room.false)).in_counts)
+
+pub index_cleared-requires : goal.index_cleared-requires
+index_cleared-requires c =
+    working ([], []) (need_of c.args.d (length c.args.words.now)) (GivesBoth (word_index c.args.d c.args.words.now) (starts_of (word_index c.args.d c.args.words.now)) (length c.args.touching.now) (length c.args.starts.now)) c.args.d c.args.words.now c.args.keys.now c.args.rows.now c.args.spare.now c.args.counts.now (sym c.check_cells-answer.ensures ∙ c.in_default.is) c.need-need.result c.need-need.ensures (c.has_room.ensures.yes (c.if-not-has_room.false))
+
+pub returns : goal.returns
+returns c =
+    let w = c.index_cleared in
+    let v = c.index_cleared.ensures.work in
+    record {
+      handed = v.handed;
+      call = out-ended ([], []) (need_of c.args.d (length c.args.words.now)) (GivesBoth (word_index c.args.d c.args.words.now) (starts_of (word_index c.args.d c.args.words.now)) (length c.args.touching.now) (length c.args.starts.now)) c.args.d c.args.words.now c.args.keys.now c.args.rows.now c.args.spare.now c.args.counts.now (sym c.check_cells-answer.ensures ∙ c.in_default.is) c.need-need.result c.need-need.ensures (c.has_room.ensures.yes (c.if-not-has_room.false)) c.index_cleared.result v.handed _ _ _ _ v.ends c.index_cleared.ensures.room;
+      result = v.result;
+      sides = v.sides;
+    }

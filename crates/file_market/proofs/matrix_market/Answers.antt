@@ -1,0 +1,73 @@
+-- `file_market::matrix_market` meets its contract, by its three ways out (crate skeleton, proofs/Entry): a refusal and too little room touch nothing; else the work's end stands, and what was
+-- lent to it came back as zeros. Assumes nothing.
+use lib.Seq.{length-take-le}
+use Rattle.complex.proofs.Fine.{fine-passed}
+use Rattle.complex_cells.proofs.Making.{few-corners}
+use Rattle.file_market.specs.File.{market_of}
+use Rattle.file_market.specs.Promise.{GivesFile}
+use Rattle.complex_boundary.specs.Need.{face_need}
+use Rattle.complex_boundary.specs.Promise.{Within}
+use Rattle.skeleton.proofs.Entry.{out-refused, out-cramped, working, out-ended}
+use mathlib.Core.Path.{refl, sym, ◌∙◌}
+use mathlib.Core.List.{[]}
+use Prim.Native.Nat.{◌≤◌}
+use lib.ListN.{length}
+use Rattle.file_market.proofs.matrix_market.Goals as goal
+
+pub returns-in-Refused : goal.returns-in-Refused
+returns-in-Refused c =
+    record { handed = []; call = out-refused [] (face_need c.args.d (length c.args.words.now)) (Within [] ((1 ≤ c.args.k) × (c.args.k ≤ c.args.d)) (GivesFile (market_of c.args.d c.args.k c.args.words.now) (length c.args.bytes.now))) c.args.d c.args.words.now c.args.keys.now c.args.rows.now c.args.spare.now c.args.counts.now _ _ (sym c.check_cells-answer.ensures ∙ c.in-Refused.is); result = refl }
+
+pub need-need-requires : goal.need-need-requires
+need-need-requires c =
+    let p = fine-passed c.args.d c.args.words.now (sym c.check_cells-answer.ensures ∙ c.in_default.is) in
+    (p.small, few-corners c.args.d c.args.words.now p)
+
+pub returns-then-not-has_room : goal.returns-then-not-has_room
+returns-then-not-has_room c =
+    record { handed = []; call = out-cramped [] (face_need c.args.d (length c.args.words.now)) (Within [] ((1 ≤ c.args.k) × (c.args.k ≤ c.args.d)) (GivesFile (market_of c.args.d c.args.k c.args.words.now) (length c.args.bytes.now))) c.args.d c.args.words.now c.args.keys.now c.args.rows.now c.args.spare.now c.args.counts.now (sym c.check_cells-answer.ensures ∙ c.in_default.is) c.need-need.result c.need-need.ensures (c.has_room.ensures.no (c.if-not-has_room.true)); result = refl }
+
+pub slice_bounds-work_cleared-end : goal.slice_bounds-work_cleared-end
+slice_bounds-work_cleared-end c =
+    (c.has_room.ensures.yes (c.if-not-has_room.false)).in_keys
+
+pub slice_bounds-work_cleared-end-2 : goal.slice_bounds-work_cleared-end-2
+slice_bounds-work_cleared-end-2 c =
+    sym (length-take-le _ _ (c.has_room.ensures.yes (c.if-not-has_room.false)).in_keys)
+
+pub slice_bounds-work_cleared-end-3 : goal.slice_bounds-work_cleared-end-3
+slice_bounds-work_cleared-end-3 c =
+    (c.has_room.ensures.yes (c.if-not-has_room.false)).in_rows
+
+pub slice_bounds-work_cleared-end-4 : goal.slice_bounds-work_cleared-end-4
+slice_bounds-work_cleared-end-4 c =
+    sym (length-take-le _ _ (c.has_room.ensures.yes (c.if-not-has_room.false)).in_rows)
+
+pub slice_bounds-work_cleared-end-5 : goal.slice_bounds-work_cleared-end-5
+slice_bounds-work_cleared-end-5 c =
+    (c.has_room.ensures.yes (c.if-not-has_room.false)).in_spare
+
+pub slice_bounds-work_cleared-end-6 : goal.slice_bounds-work_cleared-end-6
+slice_bounds-work_cleared-end-6 c =
+    sym (length-take-le _ _ (c.has_room.ensures.yes (c.if-not-has_room.false)).in_spare)
+
+pub slice_bounds-work_cleared-end-7 : goal.slice_bounds-work_cleared-end-7
+slice_bounds-work_cleared-end-7 c =
+    (c.has_room.ensures.yes (c.if-not-has_room.false)).in_counts
+
+pub slice_bounds-work_cleared-end-8 : goal.slice_bounds-work_cleared-end-8
+slice_bounds-work_cleared-end-8 c =
+    sym (length-take-le _ _ (c.has_room.ensures.yes (c.if-not-has_room.false)).in_counts)
+
+pub work_cleared-requires : goal.work_cleared-requires
+work_cleared-requires c =
+    working [] (face_need c.args.d (length c.args.words.now)) (Within [] ((1 ≤ c.args.k) × (c.args.k ≤ c.args.d)) (GivesFile (market_of c.args.d c.args.k c.args.words.now) (length c.args.bytes.now))) c.args.d c.args.words.now c.args.keys.now c.args.rows.now c.args.spare.now c.args.counts.now (sym c.check_cells-answer.ensures ∙ c.in_default.is) c.need-need.result c.need-need.ensures (c.has_room.ensures.yes (c.if-not-has_room.false))
+
+pub returns : goal.returns
+returns c =
+    let v = c.work_cleared.ensures.work in
+    record {
+      handed = v.handed;
+      call = out-ended [] (face_need c.args.d (length c.args.words.now)) (Within [] ((1 ≤ c.args.k) × (c.args.k ≤ c.args.d)) (GivesFile (market_of c.args.d c.args.k c.args.words.now) (length c.args.bytes.now))) c.args.d c.args.words.now c.args.keys.now c.args.rows.now c.args.spare.now c.args.counts.now (sym c.check_cells-answer.ensures ∙ c.in_default.is) c.need-need.result c.need-need.ensures (c.has_room.ensures.yes (c.if-not-has_room.false)) c.work_cleared.result v.handed _ _ _ _ v.ends c.work_cleared.ensures.room;
+      result = v.result;
+    }

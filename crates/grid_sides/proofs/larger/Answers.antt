@@ -1,0 +1,8 @@
+-- `grid_sides::larger` meets its contract.  Assumes nothing.
+use Rattle.grid_sides.proofs.larger.Goals as goal
+
+pub returns-then-a-b : goal.returns-then-a-b
+returns-then-a-b c = rw c.if-a-b.true
+
+pub returns-else-a-b : goal.returns-else-a-b
+returns-else-a-b c = rw c.if-a-b.false

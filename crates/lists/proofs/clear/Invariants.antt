@@ -1,0 +1,12 @@
+use mathlib.Core.List.{◌++◌}
+use lib.ListN.{replicate}
+use mathlib.Core.Path.{◌≡◌}
+use Prim.Native.Nat.{◌-◌, ◌≤◌}
+use lib.ListN.{length, drop}
+use Rattle.lists.proofs.clear.Given as goal
+
+abbrev pub invariant-loop-i : goal.invariant-loop-i
+invariant-loop-i l = (l.i ≤ length l.initial.room) × (l.room ≡ replicate l.i 0 ++ drop l.i l.initial.room) × (length l.room ≡ length l.initial.room)
+
+abbrev pub decreases-loop-i : goal.decreases-loop-i
+decreases-loop-i l = length l.initial.room - l.i

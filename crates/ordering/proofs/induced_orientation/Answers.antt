@@ -1,0 +1,52 @@
+-- `ordering::induced_orientation` meets its contract, by its three ways out (proofs/InducedEntry): a refusal and too little room touch nothing; else the work's end stands, and what
+-- was lent to it came back as zeros. Assumes nothing.
+use mathlib.Core.Path.{sym, ap, ◌∙◌}
+use lib.Seq.{length-take-le}
+use Rattle.refusal.specs.declared.Room.{Room}
+use Rattle.complex.proofs.Fine.{fine-passed}
+use Rattle.complex_cells.proofs.Making.{few-corners}
+use Rattle.ordering.proofs.Entry.{preparing}
+use Rattle.ordering.proofs.InducedEntry.{wound-out-refused, wound-out-cramped, wound-out-ended}
+use Rattle.ordering.proofs.induced_orientation.Goals as goal
+
+pub returns-in-Refused : goal.returns-in-Refused
+returns-in-Refused c = wound-out-refused c.args.d c.args.words.now c.args.order.now c.args.keys.now c.args.rows.now c.args.spare.now c.args.counts.now _ _ (sym c.check_cells-checked.ensures ∙ c.in-Refused.is)
+
+pub need-base-requires : goal.need-base-requires
+need-base-requires c = let p = fine-passed c.args.d c.args.words.now (sym c.check_cells-checked.ensures ∙ c.in_default.is) in few-corners c.args.d c.args.words.now p
+
+pub need-need-requires : goal.need-need-requires
+need-need-requires c = let p = fine-passed c.args.d c.args.words.now (sym c.check_cells-checked.ensures ∙ c.in_default.is) in few-corners c.args.d c.args.words.now p
+
+pub returns-then-not-has_room : goal.returns-then-not-has_room
+returns-then-not-has_room c = wound-out-cramped c.args.d c.args.words.now c.args.order.now c.args.keys.now c.args.rows.now c.args.spare.now c.args.counts.now (sym c.check_cells-checked.ensures ∙ c.in_default.is) c.need-need.result c.need-need.ensures (c.has_room.ensures.no (c.if-not-has_room.true))
+
+pub slice_bounds-wound_cleared-end : goal.slice_bounds-wound_cleared-end
+slice_bounds-wound_cleared-end c = (c.has_room.ensures.yes (c.if-not-has_room.false)).in_keys
+
+pub slice_bounds-wound_cleared-end-2 : goal.slice_bounds-wound_cleared-end-2
+slice_bounds-wound_cleared-end-2 c = sym (length-take-le _ _ (c.has_room.ensures.yes (c.if-not-has_room.false)).in_keys)
+
+pub slice_bounds-wound_cleared-end-3 : goal.slice_bounds-wound_cleared-end-3
+slice_bounds-wound_cleared-end-3 c = (c.has_room.ensures.yes (c.if-not-has_room.false)).in_rows
+
+pub slice_bounds-wound_cleared-end-4 : goal.slice_bounds-wound_cleared-end-4
+slice_bounds-wound_cleared-end-4 c = sym (length-take-le _ _ (c.has_room.ensures.yes (c.if-not-has_room.false)).in_rows)
+
+pub slice_bounds-wound_cleared-end-5 : goal.slice_bounds-wound_cleared-end-5
+slice_bounds-wound_cleared-end-5 c = (c.has_room.ensures.yes (c.if-not-has_room.false)).in_spare
+
+pub slice_bounds-wound_cleared-end-6 : goal.slice_bounds-wound_cleared-end-6
+slice_bounds-wound_cleared-end-6 c = sym (length-take-le _ _ (c.has_room.ensures.yes (c.if-not-has_room.false)).in_spare)
+
+pub slice_bounds-wound_cleared-end-7 : goal.slice_bounds-wound_cleared-end-7
+slice_bounds-wound_cleared-end-7 c = (c.has_room.ensures.yes (c.if-not-has_room.false)).in_counts
+
+pub slice_bounds-wound_cleared-end-8 : goal.slice_bounds-wound_cleared-end-8
+slice_bounds-wound_cleared-end-8 c = sym (length-take-le _ _ (c.has_room.ensures.yes (c.if-not-has_room.false)).in_counts)
+
+pub wound_cleared-requires : goal.wound_cleared-requires
+wound_cleared-requires c = preparing c.args.d c.args.words.now c.args.keys.now c.args.rows.now c.args.spare.now c.args.counts.now (sym c.check_cells-checked.ensures ∙ c.in_default.is) c.need-need.result c.need-need.ensures (c.has_room.ensures.yes (c.if-not-has_room.false)) _ (ap (λ (r : Room). r.keys) c.need-base.ensures)
+
+pub returns : goal.returns
+returns c = wound-out-ended c.args.d c.args.words.now c.args.order.now c.args.keys.now c.args.rows.now c.args.spare.now c.args.counts.now (sym c.check_cells-checked.ensures ∙ c.in_default.is) c.need-need.result c.need-need.ensures (c.has_room.ensures.yes (c.if-not-has_room.false)) c.wound_cleared.result _ _ _ _ c.wound_cleared.ensures.work c.wound_cleared.ensures.room

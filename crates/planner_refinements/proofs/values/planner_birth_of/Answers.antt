@@ -1,0 +1,1 @@
+-- `planner_birth_of` hands out what `birth_of` says. Assumes nothing.

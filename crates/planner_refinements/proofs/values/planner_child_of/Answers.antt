@@ -1,0 +1,1 @@
+-- `planner_child_of` hands out what `child_of` says. Assumes nothing.

@@ -1,0 +1,13 @@
+-- `refine::room::counted` meets its contract: one law of proofs/Needed for each way out. Assumes nothing.
+use native.Mathlib.Omega.{arith}
+use Rattle.refine.proofs.Needed.{counted_none, counted-over, counted-in}
+use Rattle.refine.proofs.room.counted.Goals as goal
+
+pub returns-then-r-eq0 : goal.returns-then-r-eq0
+returns-then-r-eq0 c = counted_none c.args.r (omega arith)
+
+pub returns-then-r-gt-MOST_REFINEMENT : goal.returns-then-r-gt-MOST_REFINEMENT
+returns-then-r-gt-MOST_REFINEMENT c = counted-over c.args.r (omega arith)
+
+pub returns : goal.returns
+returns c = counted-in c.args.r (omega arith) (omega arith)
