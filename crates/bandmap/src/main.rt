@@ -12,11 +12,11 @@ ghost use Rattle.file_geojson.specs.Kind.{band_grid, latitudes_fit, Mapped};
 
 use bandmap_line::MapLine;
 use file_geojson::{file, kind};
-
-const STDOUT_FILENO: i32 = 1;
-
 use quotient::Grid;
 use refusal::{Answer, Counted, Room, TOO_SHORT};
+
+// The standard output.
+const STDOUT_FILENO: i32 = 1;
 
 const ENOUGH: usize = bandmap_line::LONGEST + 1;
 

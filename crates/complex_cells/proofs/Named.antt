@@ -31,13 +31,13 @@ module _ (n : ℕ) where
   in_colex-from [] v m = absurd m
   in_colex-from (w ∷ ws) v m = ⊎_elim (λ e. inl e) (λ k. inr (in_colex-from ws v k)) (place-from n w (in_colex n ws) v m)
 
-  inColex-long : (ws : List Word) → Each (λ v. length v ≡ n) ws → Each (λ v. length v ≡ n) (in_colex n ws)
-  inColex-long ws a = each_of (λ v. length v ≡ n) (in_colex n ws) (λ v m. each_in (λ v. length v ≡ n) v ws a (in_colex-from ws v m))
+  in_colex-long : (ws : List Word) → Each (λ v. length v ≡ n) ws → Each (λ v. length v ≡ n) (in_colex n ws)
+  in_colex-long ws a = each_of (λ v. length v ≡ n) (in_colex n ws) (λ v m. each_in (λ v. length v ≡ n) v ws a (in_colex-from ws v m))
 
   pub in_colex-has : (ws : List Word) (w : Word) → Each (λ v. length v ≡ n) ws → In w ws → In w (in_colex n ws)
   unfolding in_colex
   in_colex-has [] w a m = absurd m
-  in_colex-has (x ∷ xs) w a (inl e) = subst (λ (z : Word). In z (place n x (in_colex n xs))) e (place-new n x (in_colex n xs) a.0 (inColex-long xs a.1))
+  in_colex-has (x ∷ xs) w a (inl e) = subst (λ (z : Word). In z (place n x (in_colex n xs))) e (place-new n x (in_colex n xs) a.0 (in_colex-long xs a.1))
   in_colex-has (x ∷ xs) w a (inr m) = place-old n x (in_colex n xs) w (in_colex-has xs w a.1 m)
 
 -- ---- rows as words

@@ -149,18 +149,18 @@ module _ (d : ℕ) (ws gone : List ℕ) (p : Passed d ws) where
   abbrev renamed : ℕ → Word
   renamed c = map rename (cell_at cs c)
 
-  abbrev newCells : List Word
-  newCells = map renamed (cells_left cs gone)
+  abbrev new_cells : List Word
+  new_cells = map renamed (cells_left cs gone)
 
-  new-at : (c : ℕ) → c < length (cells_left cs gone) → get_or newCells c [] ≡ renamed (old_cell c)
+  new-at : (c : ℕ) → c < length (cells_left cs gone) → get_or new_cells c [] ≡ renamed (old_cell c)
   new-at c h = map_at renamed (cells_left cs gone) c 0 [] h
 
   left_rising : (i j : ℕ) → i < j → j < length (cells_left cs gone) → old_cell i < old_cell j
   left_rising i j l h = numbers-rising (λ c. not (among c gone)) (length cs) i j l h
 
-  new-rising : Rising (Colex (d + 1)) newCells
+  new-rising : Rising (Colex (d + 1)) new_cells
   new-rising =
-      rising-by (Colex (d + 1)) newCells
+      rising-by (Colex (d + 1)) new_cells
       (λ i j l h.
       let hj : j < length (cells_left cs gone) = omega (arith, length-map (cells_left cs gone) renamed) in
       let hi : i < length (cells_left cs gone) = omega arith in
@@ -181,9 +181,9 @@ module _ (d : ℕ) (ws gone : List ℕ) (p : Passed d ws) where
       ∙ subst (λ (n : ℕ). rows n (flat (map (map rename) st)) ≡ map (map rename) st) (sym (add-one d))
       (rows-flat d (map (map rename) st) (λ w m. in-memᴰ (map (map rename) st) (d + 1) renamed-long w m ∙ add-one d))
 
-  new-from : (v : Word) → In v newCells → In v (in_order (d + 1) (map (map rename) st))
+  new-from : (v : Word) → In v new_cells → In v (in_order (d + 1) (map (map rename) st))
   new-from v m =
-      let r = at_in v newCells m in
+      let r = at_in v new_cells m in
       let h : r.0 < length (cells_left cs gone) = omega (arith, r.1, length-map (cells_left cs gone) renamed) in
       let l = left-stands r.0 h in
       let w = left_word (old_cell r.0) l.low (left-stays r.0 h) in
@@ -191,7 +191,7 @@ module _ (d : ℕ) (ws gone : List ℕ) (p : Passed d ws) where
       (sort-map Used rename rises w.0 (word-used w.0 w.1) ∙ ap (map rename) w.2 ∙ sym (new-at r.0 h) ∙ r.2)
       (order-has (d + 1) (map (map rename) st) (map rename w.0) renamed-long (in_map (map rename) w.0 st w.1))
 
-  new-all : (v : Word) → In v (in_order (d + 1) (map (map rename) st)) → In v newCells
+  new-all : (v : Word) → In v (in_order (d + 1) (map (map rename) st)) → In v new_cells
   new-all v m =
       let r = order_from (d + 1) (map (map rename) st) v m in
       let w = map-in (map rename) r.0 st r.1 in
@@ -201,16 +201,16 @@ module _ (d : ℕ) (ws gone : List ℕ) (p : Passed d ws) where
       let at : ℕ = length (numbers (λ c. not (among c gone)) c.number) in
       let h : at < length (cells_left cs gone) = count_less (λ c. not (among c gone)) c.number (length cs) c.low e in
       let o : old_cell at ≡ c.number = numbers-at (λ c. not (among c gone)) (length cs) c.number c.low e in
-      subst (λ (z : Word). In z newCells)
+      subst (λ (z : Word). In z new_cells)
       (new-at at h ∙ ap renamed o ∙ ap (map rename) c.is ∙ sym (sort-map Used rename rises w.0 (word-used w.0 w.1)) ∙ ap sort_word w.2 ∙ r.2)
-      (in-at newCells at (omega (arith, length-map (cells_left cs gone) renamed)))
+      (in-at new_cells at (omega (arith, length-map (cells_left cs gone) renamed)))
 
   -- the new cells are the kept ones renamed, in the same order
   pub kept-cells : cells_of d (kept_words d ws gone) ≡ map (λ c. map (new_number (corners d ws gone)) (cell_at (cells_of d ws) c)) (cells_left (cells_of d ws) gone)
   unfolding cells_of
   kept-cells =
       ap (in_order (d + 1)) rows-renamed
-      ∙ one_list (Colex (d + 1)) (colex-irr (d + 1)) (colex-trans (d + 1)) (in_order (d + 1) (map (map rename) st)) newCells (order-rising (d + 1) (map (map rename) st)) new-rising new-all new-from
+      ∙ one_list (Colex (d + 1)) (colex-irr (d + 1)) (colex-trans (d + 1)) (in_order (d + 1) (map (map rename) st)) new_cells (order-rising (d + 1) (map (map rename) st)) new-rising new-all new-from
 
   -- ---- facets
   pub new-many : length (cells_of d (kept_words d ws gone)) ≡ length (cells_left cs gone)

@@ -2,11 +2,11 @@
 #![tactic(auto)]
 
 use grid_sides::Sides;
-
-const STDOUT_FILENO: i32 = 1;
-
 use quotient::{Axis, Glue, Grid};
 use refusal::Counted;
+
+// The standard output.
+const STDOUT_FILENO: i32 = 1;
 
 // A grid of n times m cells, axis 0 glued so and axis 1 so.
 fn grid(d: u32, n: u32, around: Glue, m: u32, up: Glue) -> Grid {

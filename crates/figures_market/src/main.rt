@@ -1,9 +1,10 @@
 // Prints boundary operators as Matrix Market files, or the refusals, in the order of checks.
 #![tactic(auto)]
 
-const STDOUT_FILENO: i32 = 1;
-
 use refusal::Counted;
+
+// The standard output.
+const STDOUT_FILENO: i32 = 1;
 
 // Prints the first n bytes.
 fn print(n: usize, bytes: &[u8]) {

@@ -160,29 +160,29 @@ module _ (g : Grid) (fine : check_of g ≡ Fine) (band : band_grid g ≡ true) w
   back : (c : ℕ) → (i : ℕ) × Turn in_row i (c % in_row)
   back c = turn-back in_row (c % in_row) six (mod-lt c {m = in_row} some)
 
-  abbrev gridCell : ℕ → ℕ
-  gridCell c = c / in_row * in_row + (back c).0
+  abbrev grid_cell : ℕ → ℕ
+  grid_cell c = c / in_row * in_row + (back c).0
 
   module _ (c : ℕ) (h : c < cell_count g) where
     back_in : (back c).0 < in_row
     back_in = (turn-within in_row (back c).0 (c % in_row) six (back c).1).0
 
-    grid-lt : gridCell c < cell_count g
+    grid-lt : grid_cell c < cell_count g
     grid-lt = within (c / in_row) (back c).0 (row_lt c h) back_in
 
-    grid-row : gridCell c / in_row ≡ c / in_row
+    grid-row : grid_cell c / in_row ≡ c / in_row
     grid-row = digits_div (c / in_row) back_in
 
-    grid-place : gridCell c % in_row ≡ (back c).0
+    grid-place : grid_cell c % in_row ≡ (back c).0
     grid-place = digits_mod (c / in_row) back_in
 
-    placed : InRow n (n * (c / in_row)) (c % in_row) (word_no g (gridCell c))
+    placed : InRow n (n * (c / in_row)) (c % in_row) (word_no g (grid_cell c))
     placed =
-        subst (λ (q : ℕ). InRow n (n * q) (c % in_row) (word_no g (gridCell c))) grid-row
-        (in-row (gridCell c) grid-lt (c % in_row) (subst (λ (i : ℕ). Turn in_row i (c % in_row)) (sym grid-place) (back c).1))
+        subst (λ (q : ℕ). InRow n (n * q) (c % in_row) (word_no g (grid_cell c))) grid-row
+        (in-row (grid_cell c) grid-lt (c % in_row) (subst (λ (i : ℕ). Turn in_row i (c % in_row)) (sym grid-place) (back c).1))
 
-  abbrev byPlace : List Word
-  byPlace = tab (cell_count g) (λ c. sort_word (word_no g (gridCell c)))
+  abbrev by_place : List Word
+  by_place = tab (cell_count g) (λ c. sort_word (word_no g (grid_cell c)))
 
   colex-of : {v w : Word} (low mid top low' mid' top' : ℕ) → v ≡ low ∷ mid ∷ top ∷ [] → w ≡ low' ∷ mid' ∷ top' ∷ [] → Before mid top mid' top' → Colex 3 v w
   colex-of low mid top low' mid' top' e f (inl l) = rw (e, f) (inl l)
@@ -192,7 +192,7 @@ module _ (g : Grid) (fine : check_of g ≡ Fine) (band : band_grid g ≡ true) w
   later : (q p : ℕ) → q < p → n * q + n ≤ n * p
   later q p h = let m : n * suc q ≤ n * p = mul-le-mul_left n h in omega (arith, mul-suc n q)
 
-  place-before : (b c : ℕ) → b < c → c < cell_count g → Colex 3 (sort_word (word_no g (gridCell b))) (sort_word (word_no g (gridCell c)))
+  place-before : (b c : ℕ) → b < c → c < cell_count g → Colex 3 (sort_word (word_no g (grid_cell b))) (sort_word (word_no g (grid_cell c)))
   place-before b c l h =
       let hb : b < cell_count g = omega arith in
       let p = placed b hb in
@@ -220,12 +220,12 @@ module _ (g : Grid) (fine : check_of g ≡ Fine) (band : band_grid g ≡ true) w
           (λ (w : b / in_row ≤ c / in_row). omega arith)
           (lt-or-ge (c / in_row) (b / in_row))
 
-  place-rises : Rising (Colex 3) byPlace
+  place-rises : Rising (Colex 3) by_place
   place-rises =
-      rising-by (Colex 3) byPlace
+      rising-by (Colex 3) by_place
       (λ i j h l.
-      let m : j < cell_count g = omega (arith, length-tab (cell_count g) (λ c. sort_word (word_no g (gridCell c)))) in
-      rw (get_or-tab (cell_count g) (λ c. sort_word (word_no g (gridCell c))) i [] (omega arith), get_or-tab (cell_count g) (λ c. sort_word (word_no g (gridCell c))) j [] m) (place-before i j h m))
+      let m : j < cell_count g = omega (arith, length-tab (cell_count g) (λ c. sort_word (word_no g (grid_cell c)))) in
+      rw (get_or-tab (cell_count g) (λ c. sort_word (word_no g (grid_cell c))) i [] (omega arith), get_or-tab (cell_count g) (λ c. sort_word (word_no g (grid_cell c))) j [] m) (place-before i j h m))
 
   -- ---- the place of each grid cell
   module _ (x : ℕ) (h : x < cell_count g) (j : ℕ) (t : Turn in_row (x % in_row) j) where
@@ -238,7 +238,7 @@ module _ (g : Grid) (fine : check_of g ≡ Fine) (band : band_grid g ≡ true) w
     pub at_lt : at < cell_count g
     at_lt = within (x / in_row) j (row_lt x h) j-in
 
-    at_back : gridCell at ≡ x
+    at_back : grid_cell at ≡ x
     at_back =
         let r : at / in_row ≡ x / in_row = digits_div (x / in_row) j-in in
         let p : at % in_row ≡ j = digits_mod (x / in_row) j-in in
@@ -249,44 +249,44 @@ module _ (g : Grid) (fine : check_of g ≡ Fine) (band : band_grid g ≡ true) w
   colex-flat : Colex 3 ≡ Colex (suc g.d)
   colex-flat = ap (λ (d : ℕ). Colex (suc d)) (sym flat)
 
-  cells-by-place : glued_cells g ≡ byPlace
+  cells-by-place : glued_cells g ≡ by_place
   cells-by-place =
       glued-are g fine
-      ∙ one_list (Colex (suc g.d)) (colex-irr (suc g.d)) (colex-trans (suc g.d)) (in_order (suc g.d) (words_of g)) byPlace (order-rising (suc g.d) (words_of g))
-      (subst (λ (R : Word → Word → Type 0). Rising R byPlace) colex-flat place-rises)
+      ∙ one_list (Colex (suc g.d)) (colex-irr (suc g.d)) (colex-trans (suc g.d)) (in_order (suc g.d) (words_of g)) by_place (order-rising (suc g.d) (words_of g))
+      (subst (λ (R : Word → Word → Type 0). Rising R by_place) colex-flat place-rises)
       (λ v m.
       let u = order_from (suc g.d) (words_of g) v m in
       let r = of-tab (word_no g) (cell_count g) u.0 (subst (λ (ws : List Word). In u.0 ws) (words-tab g fine) u.1) in
       let x : ℕ = r.0 in
       let t = turn-to in_row (x % in_row) six (mod-lt x {m = in_row} some) in
-      subst (λ (w : Word). In w byPlace) (ap (λ (y : ℕ). sort_word (word_no g y)) (at_back x r.1 t.0 t.1) ∙ ap sort_word r.2 ∙ u.2)
-      (to-tab (λ c. sort_word (word_no g (gridCell c))) (cell_count g) (x / in_row * in_row + t.0) (at_lt x r.1 t.0 t.1)))
+      subst (λ (w : Word). In w by_place) (ap (λ (y : ℕ). sort_word (word_no g y)) (at_back x r.1 t.0 t.1) ∙ ap sort_word r.2 ∙ u.2)
+      (to-tab (λ c. sort_word (word_no g (grid_cell c))) (cell_count g) (x / in_row * in_row + t.0) (at_lt x r.1 t.0 t.1)))
       (λ v m.
-      let r = of-tab (λ c. sort_word (word_no g (gridCell c))) (cell_count g) v m in
+      let r = of-tab (λ c. sort_word (word_no g (grid_cell c))) (cell_count g) v m in
       subst (λ (w : Word). In w (in_order (suc g.d) (words_of g))) r.2
-      (order-has (suc g.d) (words_of g) (word_no g (gridCell r.0)) (words-each g fine)
-      (subst (λ (ws : List Word). In (word_no g (gridCell r.0)) ws) (sym (words-tab g fine)) (to-tab (word_no g) (cell_count g) (gridCell r.0) (grid-lt r.0 r.1)))))
+      (order-has (suc g.d) (words_of g) (word_no g (grid_cell r.0)) (words-each g fine)
+      (subst (λ (ws : List Word). In (word_no g (grid_cell r.0)) ws) (sym (words-tab g fine)) (to-tab (word_no g) (cell_count g) (grid_cell r.0) (grid-lt r.0 r.1)))))
 
   -- ---- the number of grid cell x
-  cell-at : (c : ℕ) → c < cell_count g → cell_at byPlace c ≡ sort_word (word_no g (gridCell c))
-  cell-at c h = get_or-tab (cell_count g) (λ c. sort_word (word_no g (gridCell c))) c [] h
+  cell-at : (c : ℕ) → c < cell_count g → cell_at by_place c ≡ sort_word (word_no g (grid_cell c))
+  cell-at c h = get_or-tab (cell_count g) (λ c. sort_word (word_no g (grid_cell c))) c [] h
 
   pub number_is : (x : ℕ) → x < cell_count g → (j : ℕ) → Turn in_row (x % in_row) j → x / in_row * in_row + j ≡ mesh_number g (cell_no g x)
   unfolding mesh_number
   number_is x h j t =
       let c : ℕ = x / in_row * in_row + j in
       let l : c < cell_count g = at_lt x h j t in
-      let e : cell_at byPlace c ≡ sort_word (word_no g x) = cell-at c l ∙ ap (λ (y : ℕ). sort_word (word_no g y)) (at_back x h j t) in
+      let e : cell_at by_place c ≡ sort_word (word_no g x) = cell-at c l ∙ ap (λ (y : ℕ). sort_word (word_no g y)) (at_back x h j t) in
       sym
       (ap (λ (cs : List Word). cell_number cs (word_no g x)) cells-by-place
-      ∙ first-at (λ b. same_word (cell_at byPlace b) (sort_word (word_no g x))) (length byPlace) c (omega (arith, length-tab (cell_count g) (λ c. sort_word (word_no g (gridCell c)))))
-      (λ b m. word-false (cell_at byPlace b) (sort_word (word_no g x)) (λ q. before-not b c m l (q ∙ sym e)))
-      (word-true (cell_at byPlace c) (sort_word (word_no g x)) e))
+      ∙ first-at (λ b. same_word (cell_at by_place b) (sort_word (word_no g x))) (length by_place) c (omega (arith, length-tab (cell_count g) (λ c. sort_word (word_no g (grid_cell c)))))
+      (λ b m. word-false (cell_at by_place b) (sort_word (word_no g x)) (λ q. before-not b c m l (q ∙ sym e)))
+      (word-true (cell_at by_place c) (sort_word (word_no g x)) e))
     where
-      before-not : (b c : ℕ) → b < c → c < cell_count g → cell_at byPlace b ≡ cell_at byPlace c → ⊥
+      before-not : (b c : ℕ) → b < c → c < cell_count g → cell_at by_place b ≡ cell_at by_place c → ⊥
       before-not b c m l q =
-          colex-irr 3 (sort_word (word_no g (gridCell c)))
-          (subst (λ (w : Word). Colex 3 w (sort_word (word_no g (gridCell c)))) (sym (cell-at b (omega arith)) ∙ q ∙ cell-at c l) (place-before b c m l))
+          colex-irr 3 (sort_word (word_no g (grid_cell c)))
+          (subst (λ (w : Word). Colex 3 w (sort_word (word_no g (grid_cell c)))) (sym (cell-at b (omega arith)) ∙ q ∙ cell-at c l) (place-before b c m l))
 
 -- ---- each grid cell is one cell of the mesh, and each cell of the mesh is one grid cell
 module _ (g : Grid) (fine : check_of g ≡ Fine) (band : band_grid g ≡ true) where
@@ -310,12 +310,12 @@ module _ (g : Grid) (fine : check_of g ≡ Fine) (band : band_grid g ≡ true) w
   pub number-one : (x y : ℕ) → x < cell_count g → y < cell_count g → mesh_number g (cell_no g x) ≡ mesh_number g (cell_no g y) → x ≡ y
   number-one x y h l e =
       sym (at_back g fine band x h (turned x).0 (turned x).1)
-      ∙ ap (λ (c : ℕ). gridCell g fine band c) (numbered x h ∙ e ∙ sym (numbered y l))
+      ∙ ap (λ (c : ℕ). grid_cell g fine band c) (numbered x h ∙ e ∙ sym (numbered y l))
       ∙ at_back g fine band y l (turned y).0 (turned y).1
 
   pub number-onto : (c : ℕ) → c < cell_count g → (x : ℕ) × (x < cell_count g) × (mesh_number g (cell_no g x) ≡ c)
   number-onto c h =
-      let x : ℕ = gridCell g fine band c in
+      let x : ℕ = grid_cell g fine band c in
       let t : Turn (in_row g fine band) (x % in_row g fine band) (c % in_row g fine band) =
       subst (λ (i : ℕ). Turn (in_row g fine band) i (c % in_row g fine band)) (sym (grid-place g fine band c h)) (back g fine band c).1 in (
         x,

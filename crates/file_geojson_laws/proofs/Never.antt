@@ -79,17 +79,17 @@ module _ (g : Grid) (south north : ℤ) (n : ℕ) where
     said : r ≡ Count (length (band_file g south north))
     whole : h ≡ band_file g south north
 
-  abbrev isCount : Counted → Type 0
-  isCount (Count k) = Unit {0}
-  isCount (Refused a b) = ⊥
+  abbrev IsCount : Counted → Type 0
+  IsCount (Count k) = Unit {0}
+  IsCount (Refused a b) = ⊥
 
-  drawn-told : (given : ℕ) (r : Counted) (h : List ℕ) → isCount r → Drawn g south north given r h → Told r h
+  drawn-told : (given : ℕ) (r : Counted) (h : List ℕ) → IsCount r → Drawn g south north given r h → Told r h
   drawn-told given r h i (other x) = absurd i
   drawn-told given r h i (beyond x y) = absurd i
   drawn-told given r h i (short x y z) = absurd i
   drawn-told given r h i (drawn x y z) = record { band = x; fit = y; said = refl; whole = refl }
 
-  comes-told : (have : Room) (given : ℕ) (r : Counted) (h : List ℕ) (u : Room) → isCount r →
+  comes-told : (have : Room) (given : ℕ) (r : Counted) (h : List ℕ) (u : Room) → IsCount r →
       Comes Refused [] (check_of g) (grid_need g) have (GeoEnd g south north given) r h u → (check_of g ≡ Answer.Fine) × Told r h
   comes-told have given r h u i (refused x) = absurd i
   comes-told have given r h u i (cramped x y) = absurd i

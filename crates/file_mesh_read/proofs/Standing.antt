@@ -67,7 +67,7 @@ pub record BirthTold (vertices : ℕ) (run : Run) (at : ℕ) (bs : List ℕ) (b 
   pub refinement : b.r ≡ said (take 2 (drop (at + 4) bs))
   pub count : b.count ≡ said (take 2 (drop (at + 4 + 2) bs))
   pub pairs : b.pairs ≡ pairs_in b.count (at + 4 + 2 + 2) bs
-  pub number_fits_lem : number_fits vertices run b.number ≡ true
+  pub number_fit : number_fits vertices run b.number ≡ true
   pub refinement-fits : refinement_fits run b.r ≡ true
   pub few : b.count ≤ b.r
   pub two : 2 ≤ b.count
@@ -96,7 +96,7 @@ birth-told vertices run len bs at b r e =
       refinement = tj.0;
       count = tk.0;
       pairs = tp.is;
-      number_fits_lem = ti.1;
+      number_fit = ti.1;
       refinement-fits = tj.1;
       few = omega (arith, tp.heavy, eqb-true (weights_of p.x) j.x a.0);
       two = leb-true 2 k.x (both (count_fits k.x) (eqb len (10 + k.x * 6)) tk.1).0;
@@ -138,7 +138,7 @@ births-one : (vertices : ℕ) (run : Run) (at : ℕ) (bs : List ℕ) (b : Birth)
     BirthsAre vertices (suc b.number) (at + (14 + count_in at bs * 6)) bs l → BirthsAre vertices run.next at bs (with_birth b l)
 unfolding births_in end_in
 births-one vertices run at bs b l z t long i =
-    let on = runs_on vertices run b.number z t.number_fits_lem in
+    let on = runs_on vertices run b.number z t.number_fit in
     let r64 : b.r ≤ most_refinement = leb-true b.r most_refinement (both (leb b.r most_refinement) (eqb run.r 0 || eqb b.r run.r) (both (leb 2 b.r) (leb b.r most_refinement && (eqb run.r 0 || eqb b.r run.r)) t.refinement-fits).1).0 in
     record {
       many = suc i.many;
@@ -165,7 +165,7 @@ module _ (most vertices : ℕ) (run : Run) (at : ℕ) (bs : List ℕ) (l : Birth
       let c : b.count * 6 ≡ count_in at bs * 6 = ap (λ (x : Birth). x.count * 6) (told_is vertices run at bs b t) in
       let d : s ≡ drop on bs = w.rest ∙ ap (λ (x : ℕ). drop x bs) {x = at + 6 + (8 + b.count * 6)} {y = on} (omega arith) in
       let i = then-inv (births_read_from most vertices (more run b.number b.r) s) _ l r q in
-      let low : b.number < vertices = ltb-true b.number vertices (both (ltb b.number vertices) (eqb run.r 0 || eqb b.number run.next) t.number_fits_lem).0 in
+      let low : b.number < vertices = ltb-true b.number vertices (both (ltb b.number vertices) (eqb run.r 0 || eqb b.number run.next) t.number_fit).0 in
       let two : 2 ≤ b.r = leb-true 2 b.r (both (leb 2 b.r) (leb b.r most_refinement && (eqb run.r 0 || eqb b.r run.r)) t.refinement-fits).0 in
       let f = next_of run.r run b.number b.r in
       let g = later (more run b.number b.r) on i.x i.r (omega (arith, n.inside, w.inside)) (omega (arith, f)) (λ x. absurd (omega (arith, x, r-of run.r run b.number b.r))) (ap (births_read_from most vertices (more run b.number b.r)) (sym d) ∙ i.part) in

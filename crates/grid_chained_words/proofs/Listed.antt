@@ -54,10 +54,10 @@ module _ (g : Grid) (fine : check_of g ≡ Fine) (c : ℕ → ℕ) where
   -- ---- no number that a point has is left out
 
   -- where a box that has the point begins
-  abbrev beginOf : ℕ → ℕ → ℕ
-  beginOf p k = min (coord_at g p k) (cells_on g k - 1)
+  abbrev begin_of : ℕ → ℕ → ℕ
+  begin_of p k = min (coord_at g p k) (cells_on g k - 1)
 
-  begins : (p k : ℕ) → k < g.d → (beginOf p k ≤ coord_at g p k) × (coord_at g p k ≤ beginOf p k + 1) × (beginOf p k < cells_on g k)
+  begins : (p k : ℕ) → k < g.d → (begin_of p k ≤ coord_at g p k) × (coord_at g p k ≤ begin_of p k + 1) × (begin_of p k < cells_on g k)
   begins p k l =
       let a : coord_at g p k ≤ cells_on g k = coord-le g p k in
       let b : 1 ≤ cells_on g k = some-cell g fine k l in
@@ -66,10 +66,10 @@ module _ (g : Grid) (fine : check_of g ≡ Fine) (c : ℕ → ℕ) where
   -- each grid point is a corner of a cell
   pub met-point : (p : ℕ) → p < points_of g → Met g fine p
   met-point p h =
-      let box : InBox g (point_of g (beginOf p)) (point_of g (coord_at g p)) = corners g (beginOf p) (coord_at g p) (λ k l. ((begins p k l).0, (begins p k l).1, coord-le g p k)) in
-      let le : (k : ℕ) → k < g.d → beginOf p k ≤ cells_on g k = λ k l. let x : beginOf p k < cells_on g k = (begins p k l).2 in omega arith in
-      meets g fine (point_of g (beginOf p)) p (subst (λ (w : ℕ). InBox g (point_of g (beginOf p)) w) (point-of-coords g p h) box)
-      (λ k l. rw (coord-of-point g (beginOf p) le k l) (begins p k l).2)
+      let box : InBox g (point_of g (begin_of p)) (point_of g (coord_at g p)) = corners g (begin_of p) (coord_at g p) (λ k l. ((begins p k l).0, (begins p k l).1, coord-le g p k)) in
+      let le : (k : ℕ) → k < g.d → begin_of p k ≤ cells_on g k = λ k l. let x : begin_of p k < cells_on g k = (begins p k l).2 in omega arith in
+      meets g fine (point_of g (begin_of p)) p (subst (λ (w : ℕ). InBox g (point_of g (begin_of p)) w) (point-of-coords g p h) box)
+      (λ k l. rw (coord-of-point g (begin_of p) le k l) (begins p k l).2)
 
   word_at : (x j : ℕ) → x < cell_count g → j ≤ g.d → get_or (flat_by g c) (x * suc g.d + j) 0 ≡ c (corner_of g x j)
   word_at x j h l =

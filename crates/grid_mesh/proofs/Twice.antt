@@ -55,24 +55,24 @@ module _ (g : Grid) (fine : check_of g ≡ Fine) where
         corner = λ j l. corner-point g fine x j l;
       }
 
-  abbrev cellBy : ℕ → ℕ → ℕ
-  cellBy b t = b * each_box g + (each_box g - 1 - t)
+  abbrev cell_by : ℕ → ℕ → ℕ
+  cell_by b t = b * each_box g + (each_box g - 1 - t)
 
-  at-by : (b t : ℕ) → b < boxes_of g → t < length (orders g.d) → At (cellBy b t) b t
+  at-by : (b t : ℕ) → b < boxes_of g → t < length (orders g.d) → At (cell_by b t) b t
   at-by b t h l =
       let n = each_box g in
       let r : n - 1 - t < n = omega arith in
-      let q : cellBy b t / n ≡ b = digits_div b r in
-      let m : cellBy b t % n ≡ n - 1 - t = digits_mod b r in
-      let e : n - 1 - cellBy b t % n ≡ t = omega arith in
+      let q : cell_by b t / n ≡ b = digits_div b r in
+      let m : cell_by b t % n ≡ n - 1 - t = digits_mod b r in
+      let e : n - 1 - cell_by b t % n ≡ t = omega arith in
       record {
         in-grid = rw cells_count (digits_lt h r);
         box_in = h;
         order-in = l;
         corner =
             λ j k.
-            corner-point g fine (cellBy b t) j k
-            ∙ ap (λ (a : ℕ). point_of g (λ k. box_at g a k + up g.d (n - 1 - cellBy b t % n) j k)) q
+            corner-point g fine (cell_by b t) j k
+            ∙ ap (λ (a : ℕ). point_of g (λ k. box_at g a k + up g.d (n - 1 - cell_by b t % n) j k)) q
             ∙ ap (λ (a : ℕ). point_of g (λ k. box_at g b k + up g.d a j k)) e;
       }
 
@@ -249,22 +249,22 @@ module _ (g : Grid) (fine : check_of g ≡ Fine) where
           let r = turn g.d s j (dim g fine) a'.order-in not_first not_last in
           let na = at-by b p.order a.box_in p.turned.order-in in
           let nb = at-by c r.0 a'.box_in r.1.order-in in
-          let ta = turned-cell x b t p.at p.order (cellBy b p.order) a na li p.turned in
-          let tb = turned-cell y c s j r.0 (cellBy c r.0) a' nb lj r.1 in
+          let ta = turned-cell x b t p.at p.order (cell_by b p.order) a na li p.turned in
+          let tb = turned-cell y c s j r.0 (cell_by c r.0) a' nb lj r.1 in
           let q : vertex_no g x p.at ≡ vertex_no g y j = vertex-at x b t p.at a li ∙ v ∙ sym (vertex-at y c s j a' lj) in
-          elim (ℕ_discrete (vertex_no g (cellBy b p.order) p.at) (vertex_no g (cellBy c r.0) j)) [
+          elim (ℕ_discrete (vertex_no g (cell_by b p.order) p.at) (vertex_no g (cell_by c r.0) j)) [
             | yes z ↦
                 inr (record {
-                  first = cellBy b p.order;
-                  second = cellBy c r.0;
+                  first = cell_by b p.order;
+                  second = cell_by c r.0;
                   first-order = p.order;
                   second-order = r.0;
                   first-at = na;
                   second_at = nb;
-                  one = still_one x y p.at j a.in-grid a'.in-grid li lj e q (cellBy b p.order) (cellBy c r.0) ta tb z;
+                  one = still_one x y p.at j a.in-grid a'.in-grid li lj e q (cell_by b p.order) (cell_by c r.0) ta tb z;
                   less = p.less;
                 })
-            | no z ↦ inl (three-cells-meet x y p.at j a.in-grid a'.in-grid li lj e q (cellBy b p.order) (cellBy c r.0) ta tb z)
+            | no z ↦ inl (three-cells-meet x y p.at j a.in-grid a'.in-grid li lj e q (cell_by b p.order) (cell_by c r.0) ta tb z)
           ]
 
     step : Crowded g.d (glued_cells g) ⊎ Next b c t

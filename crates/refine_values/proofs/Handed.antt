@@ -73,20 +73,20 @@ module _ (d R n : ℕ) (cs ks : List (List ℕ)) where
   abbrev parent : ℕ → ℕ
   parent c = parent_of d R n ks (cell c)
 
-  abbrev wholeBy : List ℕ → List ℤ
-  wholeBy x = whole_of d (share d R n ks) (cell_at cs (parent_of d R n ks x)) x
+  abbrev whole_by : List ℕ → List ℤ
+  whole_by x = whole_of d (share d R n ks) (cell_at cs (parent_of d R n ks x)) x
 
-  abbrev floatBy : List ℕ → List Float
-  floatBy x = float_of d R (share d R n ks) (cell_at cs (parent_of d R n ks x)) x
+  abbrev float_by : List ℕ → List Float
+  float_by x = float_of d R (share d R n ks) (cell_at cs (parent_of d R n ks x)) x
 
   many-parents : length (results_of d R n cs ks).parents_out ≡ length (refined_cells d R n ks)
   many-parents = length-map (refined_cells d R n ks) (parent_of d R n ks)
 
   many-floats : length (results_of d R n cs ks).jacobians_out ≡ length (refined_cells d R n ks) * 9
-  many-floats = length-gather floatBy 9 (refined_cells d R n ks) (λ x. refl)
+  many-floats = length-gather float_by 9 (refined_cells d R n ks) (λ x. refl)
 
   many-wholes : length (results_of d R n cs ks).wholes_out ≡ length (refined_cells d R n ks) * 9
-  many-wholes = length-gather wholeBy 9 (refined_cells d R n ks) (λ x. refl)
+  many-wholes = length-gather whole_by 9 (refined_cells d R n ks) (λ x. refl)
 
   pub child-handed : (c : ℕ) → c < length (refined_cells d R n ks)
       → child_of c (results_of d R n cs ks).parents_out (results_of d R n cs ks).jacobians_out (results_of d R n cs ks).wholes_out
@@ -97,8 +97,8 @@ module _ (d R n : ℕ) (cs ks : List (List ℕ)) where
         inside 9 c (length (refined_cells d R n ks)) (length (results_of d R n cs ks).jacobians_out) many-floats h,
         inside 9 c (length (refined_cells d R n ks)) (length (results_of d R n cs ks).wholes_out) many-wholes h,
         map_at (parent_of d R n ks) (refined_cells d R n ks) c [] 0 h,
-        gather-part floatBy 9 (λ x. refl) (refined_cells d R n ks) c h,
-        gather-part wholeBy 9 (λ x. refl) (refined_cells d R n ks) c h,
+        gather-part float_by 9 (λ x. refl) (refined_cells d R n ks) c h,
+        gather-part whole_by 9 (λ x. refl) (refined_cells d R n ks) c h,
       )
 
   pub child-past : (c : ℕ) → length (refined_cells d R n ks) ≤ c

@@ -1,4 +1,4 @@
--- `bandsum_line::is_digit_lem` meets its contract. Assumes nothing.
+-- `bandsum_line::is_digit` meets its contract. Assumes nothing.
 use borrow.Author.Tests.{le-leb, lt-leb}
 use Rattle.bandsum_line.proofs.is_digit.Goals as goal
 

@@ -1,4 +1,4 @@
--- `file_mesh::number_fits_lem` meets its contract. Assumes nothing.
+-- `file_mesh::number_fits` meets its contract. Assumes nothing.
 use Rattle.file_mesh.proofs.Tests.{number-high, number-first, number-next}
 use Rattle.file_mesh.proofs.number_fits.Goals as goal
 

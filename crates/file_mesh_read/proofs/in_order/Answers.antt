@@ -1,4 +1,4 @@
--- `file_mesh_read::in_order_lem` meets its contract: both words are read to the front of an array, and compared there. Assumes nothing.
+-- `file_mesh_read::in_order` meets its contract: both words are read to the front of an array, and compared there. Assumes nothing.
 use Rattle.file_mesh_read.proofs.Parts.{front_long, tail-fits, front_fits, front-is, front-size}
 use mathlib.Core.List.{◌++◌}
 use lib.ListN.{drop, take}
