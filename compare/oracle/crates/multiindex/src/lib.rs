@@ -1,4 +1,4 @@
-//! Stand-in lib.rs. cartesian, combination, permutation, sign are the originals (symlinks).
+//! Stand-in lib.rs. cartesian, combination, permutation, sign are the originals (copied by build).
 pub mod bits;
 pub mod cartesian;
 pub mod combination;
