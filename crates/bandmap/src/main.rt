@@ -6,14 +6,13 @@
 #![tactic(auto)]
 
 ghost use Rattle.std.specs.Prelude.{◌≡◌, true, ◌<◌};
-ghost use Rattle.refusal.specs.declared.Answer.TheVariants.{Fine};
+ghost use Rattle.refusal.specs.Says.{fine};
 ghost use Rattle.quotient.specs.Shape.{check_of, cell_count};
 ghost use Rattle.file_geojson.specs.Kind.{band_grid, latitudes_fit, Mapped};
 
-use bandmap_line::MapLine;
 use file_geojson::{file, kind};
 use quotient::Grid;
-use refusal::{Answer, Counted, Room, TOO_SHORT};
+use refusal::{Refusal, Room};
 
 // The standard output.
 const STDOUT_FILENO: i32 = 1;
@@ -33,10 +32,10 @@ fn print(n: usize, bytes: &[u8]) {
 }
 
 // Prints `refused` and the number.
-fn refused(number: u32) {
+fn refused(why: Refusal) {
     let mut line = [0u8; 32];
     let a = file_writing::word(&mut line, 0, b"refused ");
-    let b = file_writing::number(&mut line, a, number);
+    let b = file_writing::number(&mut line, a, why.number());
     let c = file_writing::word(&mut line, b, b"\n");
     print(c, &line);
 }
@@ -54,18 +53,15 @@ fn feature(grid: Grid, low: u32, high: u32, x: usize)
 fn features(grid: Grid, low: u32, high: u32)
     requires { Mapped grid low high }
 {
-    let count = grid_words::cells(grid);
-    let mut x = 0;
-    while x < count {
+    for x in 0..grid_words::cells(grid) {
         feature(grid, low, high, x);
-        x += 1;
     }
     print(3, b"]}\n");
 }
 
 // Prints the band of a grid and two latitudes that are taken.
 fn drawn(grid: Grid, south: i32, north: i32)
-    requires { (check_of grid ≡ Fine) × (band_grid grid ≡ true) × (latitudes_fit south north ≡ true) }
+    requires { (check_of grid ≡ fine) × (band_grid grid ≡ true) × (latitudes_fit south north ≡ true) }
 {
     let low = kind::from_pole(south);
     let high = kind::from_pole(north);
@@ -82,7 +78,7 @@ fn asked(
     spare: &mut [u32],
     counts: &mut [u32],
 )
-    requires { check_of grid ≡ Fine }
+    requires { check_of grid ≡ fine }
 {
     let d = grid.d as usize;
     let need = complex::need(d, grid_words::cells(grid) * (d + 1));
@@ -93,25 +89,21 @@ fn asked(
         counts: counts.len(),
     };
     if !refusal::has_room(need, have) {
-        refused(TOO_SHORT);
+        refused(Refusal::TooShort);
         return;
     }
     let mut none = [0u8; 0];
-    let said = file_geojson::geojson(grid, south, north, &mut none, keys, rows, spare, counts);
-    if let Counted::Refused(number, _) = said {
-        if number == TOO_SHORT {
-            drawn(grid, south, north);
-            return;
-        }
-        refused(number);
+    match file_geojson::geojson(grid, south, north, &mut none, keys, rows, spare, counts) {
+        Err(Refusal::TooShort) => drawn(grid, south, north),
+        Err(why) => refused(why),
+        Ok(_) => {}
     }
 }
 
 // Checks the grid, and lends the working lists.
 fn map(grid: Grid, south: i32, north: i32) {
-    let checked = grid.check();
-    if let Answer::Refused(number, _) = checked {
-        refused(number);
+    if let Err(why) = grid.check() {
+        refused(why);
         return;
     }
     let mut keys = [0u32; KEYS];
@@ -132,9 +124,8 @@ fn map(grid: Grid, south: i32, north: i32) {
 fn main() {
     let mut buffer = [0u8; ENOUGH];
     let n = io::read_full(0, &mut buffer);
-    let line = bandmap_line::read(&buffer[..n]);
-    match line {
-        MapLine::Taken(grid, south, north) => map(grid, south, north),
-        MapLine::Refused(number, _) => refused(number),
+    match bandmap_line::read(&buffer[..n]) {
+        Ok(line) => map(line.grid, line.south, line.north),
+        Err(why) => refused(why),
     }
 }

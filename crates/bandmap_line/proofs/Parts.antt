@@ -2,7 +2,7 @@
 use mathlib.Core.Path.{◌≡◌, refl, sym, ap, subst, ◌∙◌}
 use mathlib.Core.Bool.{Bool, true, false, cond}
 use mathlib.Core.List.{List, [], ◌∷◌}
-use Prim.Native.Nat.{ℕ, zero, suc, ◌+◌, ◌-◌, ◌≤◌, ◌<◌}
+use Prim.Native.Nat.{ℕ, zero, suc, ◌+◌, ◌≤◌, ◌<◌}
 use native.Mathlib.Omega.{arith}
 use lib.Dec.{ltb, eqb}
 use lib.IntN.{ℤ, pos, negsuc}
@@ -14,9 +14,9 @@ use borrow.Author.Tests.{lt-ltb, le-ltb, ltb-true}
 use Rattle.quotient.specs.declared.Grid.{Grid}
 use Rattle.bandsum_line.specs.Grammar.{Front, nothing, front, and_then, after, count_from}
 use Rattle.bandsum_line.specs.WorkParts.{begins}
-use Rattle.bandsum_line.proofs.Front.{after-here, after-not}
-use Rattle.bandmap_line.specs.declared.MapLine.TheVariants.{Taken}
-use Rattle.bandmap_line.specs.Grammar.{three_digits, degrees_from, below_zero, above_zero, latitude_from, spaced_from}
+use Rattle.bandsum_line.proofs.Front.{begins-lt, after-here, after-not}
+use Rattle.bandmap_line.proofs.Integers.{whole-cast, below-fits}
+use Rattle.bandmap_line.specs.Grammar.{taken, three_digits, degrees_from, below_zero, above_zero, latitude_from, spaced_from}
 
 -- ---- degrees
 module _ (x : List ℕ) where
@@ -142,5 +142,16 @@ pub spaced-fits : (x : List ℕ) (z : ℤ) (r : List ℕ) → front z r ≡ spac
 unfolding spaced_from
 spaced-fits x z r e = subst Small (sym e) (small-after 32 latitude_from small-latitude x)
 
-pub taken-same : (g : Grid) (south north : ℤ) → SFits w32 south → SFits w32 north → Taken g (to_z w32 (of_z w32 south)) (to_z w32 (of_z w32 north)) ≡ Taken g south north
-taken-same g south north fs fn = ap (λ (z : ℤ). Taken g z (to_z w32 (of_z w32 north))) (to_z-of_z fs) ∙ ap (λ (z : ℤ). Taken g south z) (to_z-of_z fn)
+pub taken-same : (g : Grid) (south north : ℤ) → SFits w32 south → SFits w32 north → taken g (to_z w32 (of_z w32 south)) (to_z w32 (of_z w32 north)) ≡ taken g south north
+taken-same g south north fs fn = ap (λ (z : ℤ). taken g z (to_z w32 (of_z w32 north))) (to_z-of_z fs) ∙ ap (λ (z : ℤ). taken g south z) (to_z-of_z fn)
+
+-- ---- what the functions that read a part cite
+pub ruleset degrees_rules = (degrees-none, degrees-few, degrees-many)
+
+pub ruleset south_rules = (degrees-small, south-none, south-zero, whole-cast, below-fits)
+
+pub ruleset north_rules = (degrees-small, north-none, whole-cast)
+
+pub ruleset signed_rules = (begins-lt, latitude-south, latitude-north)
+
+pub ruleset spaced_rules = (begins-lt, spaced-not, spaced-here)

@@ -1,3 +1,2 @@
 -- What the contracts of `bandmap_line` cite.
 pub mod Grammar
-pub mod WorkParts

@@ -8,72 +8,63 @@
 
 ghost use Rattle.std.specs.Prelude.{◌≡◌, drop};
 ghost use Rattle.bandsum_line.specs.Grammar.{and_then};
-ghost use Rattle.bandsum_line.specs.WorkParts.{number_read_of};
+ghost use Rattle.bandsum_line.specs.WorkParts.{read_of};
 ghost use Rattle.bandmap_line.specs.Grammar.{degrees_from, below_zero, above_zero, latitude_from, spaced_from, read_map};
-ghost use Rattle.bandmap_line.specs.WorkParts.{latitude_read_of};
 
-use bandsum_line::{GridRead, Number};
+use bandsum_line::Part;
 use quotient::Grid;
+use refusal::Refusal;
 
-// What `read` says: the grid with south and north, or the refusal with its number and place.
+// What the line says: the grid, and south and north in degrees.
 #[derive(Clone, Copy)]
-pub enum MapLine {
-    Taken(Grid, i32, i32),
-    Refused(u32, u32),
-}
-
-// A latitude, and where it stopped.
-#[derive(Clone, Copy)]
-pub enum Latitude {
-    Nothing,
-    Upto(i32, usize),
+pub struct MapLine {
+    pub grid: Grid,
+    pub south: i32,
+    pub north: i32,
 }
 
 // The longest line: bandsum's longest without its line feed, two times a space, a minus and three digits, a line feed.
 pub const LONGEST: usize = 57;
 
 // The degrees at the position: one to three digits, and no 0 before others.
-fn degrees(bytes: &[u8], at: usize) -> Number
-    ensures { number_read_of bytes.now result ≡ degrees_from (drop at bytes.now) }
+#[tactic(auto, using(crate::proofs::Parts::degrees_rules))]
+fn degrees(bytes: &[u8], at: usize) -> Option<Part<u32>>
+    ensures { read_of bytes.now result ≡ degrees_from (drop at bytes.now) }
 {
-    let c = bandsum_line::count(bytes, at);
-    let Number::Upto(n, end) = c else {
-        return Number::Nothing;
-    };
-    if n < 1000 {
-        return Number::Upto(n, end);
-    }
-    Number::Nothing
+    bandsum_line::count(bytes, at).filter(|count| count.value < 1000)
 }
 
 // The latitude whose degrees south stand at the position, after its minus: not 0.
-fn south(bytes: &[u8], at: usize) -> Latitude
-    ensures { latitude_read_of bytes.now result ≡ and_then (degrees_from (drop at bytes.now)) below_zero }
+#[tactic(auto, using(crate::proofs::Parts::south_rules))]
+fn south(bytes: &[u8], at: usize) -> Option<Part<i32>>
+    ensures { read_of bytes.now result ≡ and_then (degrees_from (drop at bytes.now)) below_zero }
 {
-    let c = degrees(bytes, at);
-    let Number::Upto(n, end) = c else {
-        return Latitude::Nothing;
-    };
-    if n == 0 {
-        return Latitude::Nothing;
+    let degrees = degrees(bytes, at)?;
+    if degrees.value == 0 {
+        return None;
     }
-    Latitude::Upto(0 - n as i32, end)
+    Some(Part {
+        value: -(degrees.value as i32),
+        end: degrees.end,
+    })
 }
 
 // The latitude whose degrees north stand at the position.
-fn north(bytes: &[u8], at: usize) -> Latitude
-    ensures { latitude_read_of bytes.now result ≡ and_then (degrees_from (drop at bytes.now)) above_zero }
+#[tactic(auto, using(crate::proofs::Parts::north_rules))]
+fn north(bytes: &[u8], at: usize) -> Option<Part<i32>>
+    ensures { read_of bytes.now result ≡ and_then (degrees_from (drop at bytes.now)) above_zero }
 {
-    let c = degrees(bytes, at);
-    let Number::Upto(n, end) = c else {
-        return Latitude::Nothing;
-    };
-    Latitude::Upto(n as i32, end)
+    let degrees = degrees(bytes, at)?;
+    Some(Part {
+        value: degrees.value as i32,
+        end: degrees.end,
+    })
 }
 
 // The latitude at the position.
-fn signed(bytes: &[u8], at: usize) -> Latitude
-    ensures { latitude_read_of bytes.now result ≡ latitude_from (drop at bytes.now) }
+#[tactic(auto, using(crate::proofs::Parts::signed_rules))]
+fn signed(bytes: &[u8], at: usize) -> Option<Part<i32>>
+    ensures { read_of bytes.now result ≡ latitude_from (drop at bytes.now) }
 {
     if bandsum_line::has(bytes, at, b'-') {
         return south(bytes, at + 1);
@@ -82,47 +73,50 @@ fn signed(bytes: &[u8], at: usize) -> Latitude
 }
 
 // A space and the latitude after it.
-fn spaced(bytes: &[u8], at: usize) -> Latitude
-    ensures { latitude_read_of bytes.now result ≡ spaced_from (drop at bytes.now) }
+#[tactic(auto, using(crate::proofs::Parts::spaced_rules))]
+fn spaced(bytes: &[u8], at: usize) -> Option<Part<i32>>
+    ensures { read_of bytes.now result ≡ spaced_from (drop at bytes.now) }
 {
     if !bandsum_line::has(bytes, at, b' ') {
-        return Latitude::Nothing;
+        return None;
     }
     signed(bytes, at + 1)
 }
 
 // The grid and the latitudes that the bytes describe: 1 where the first byte is a digit outside 1 to 3, and 17 for every other line that cannot be read.
-pub fn read(bytes: &[u8]) -> MapLine
+#[tactic(auto, using(crate::proofs::Whole::read_rules))]
+pub fn read(bytes: &[u8]) -> Result<MapLine, Refusal>
     ensures { result ≡ read_map bytes.now }
 {
     if bytes.len() == 0 {
-        return MapLine::Refused(refusal::UNREADABLE, 0);
+        return Err(Refusal::Unreadable);
     }
     let b = bytes[0];
     if !bandsum_line::is_digit(b) {
-        return MapLine::Refused(refusal::UNREADABLE, 0);
+        return Err(Refusal::Unreadable);
     }
     let d = (b - 48) as u32;
     if d < 1 {
-        return MapLine::Refused(refusal::BAD_DIMENSION, 0);
+        return Err(Refusal::BadDimension);
     }
     if refusal::MOST_DIMENSION < d {
-        return MapLine::Refused(refusal::BAD_DIMENSION, 0);
+        return Err(Refusal::BadDimension);
     }
-    let g = bandsum_line::grid(d, bytes, 1);
-    let GridRead::Upto(grid, x) = g else {
-        return MapLine::Refused(refusal::UNREADABLE, 0);
+    let Some(grid) = bandsum_line::grid(d, bytes, 1) else {
+        return Err(Refusal::Unreadable);
     };
-    let s = spaced(bytes, x);
-    let Latitude::Upto(low, y) = s else {
-        return MapLine::Refused(refusal::UNREADABLE, 0);
+    let Some(south) = spaced(bytes, grid.end) else {
+        return Err(Refusal::Unreadable);
     };
-    let n = spaced(bytes, y);
-    let Latitude::Upto(high, z) = n else {
-        return MapLine::Refused(refusal::UNREADABLE, 0);
+    let Some(north) = spaced(bytes, south.end) else {
+        return Err(Refusal::Unreadable);
     };
-    if bandsum_line::ends(bytes, z) {
-        return MapLine::Taken(grid, low, high);
+    if bandsum_line::ends(bytes, north.end) {
+        return Ok(MapLine {
+            grid: grid.value,
+            south: south.value,
+            north: north.value,
+        });
     }
-    MapLine::Refused(refusal::UNREADABLE, 0)
+    Err(Refusal::Unreadable)
 }

@@ -8,6 +8,8 @@ use native.Mathlib.Omega.{arith}
 use lib.ListN.{length, get_or, drop, drop_of_length-le}
 use lib.Seq.{drop-cons}
 use lib.Dec.{eqb}
+use lib.Ieee.{of_bits, binary64, fin}
+use lib.IntN.{pos}
 use native.Mathlib.Decide.{dec_lt}
 use mathlib.Core.Bool.{false≢true}
 use borrow.Author.Tests.{eq-eqb, ne_eqb, lt-ltb, le-ltb}
@@ -153,6 +155,11 @@ module _ (d i : ℕ) (bs : List ℕ) where
   unfolding axis_at
   axis-past h = rw (le-ltb i d h)
 
+-- the number 1 as the code has it, and as the definition does
+pub one-side : of_bits binary64 4607182418800017408 ≡ fin false 1 (pos 0)
+unfolding of_bits
+one-side = refl
+
 module _ (d : ℕ) (bs : List ℕ) where
   pub grid-no-first : nothing ≡ axis_at d 0 bs → nothing ≡ grid_from d bs
   unfolding grid_from and_then
@@ -189,3 +196,20 @@ module _ (bs : List ℕ) (at : ℕ) where
   ends-not h n =
       let k : at + 1 < length bs = omega arith in
       rw (here bs at h, here bs (at + 1) k)
+
+-- ---- what the functions that read a part cite
+pub ruleset byte_rules = (begins-here, begins-gone)
+
+pub ruleset count_rules = (count-gone, count-zero, count_none, count-digits)
+
+pub ruleset end_rules = (ends-gone, ends-here, ends-not)
+
+pub ruleset glue_rules = (glue-gone, glue-open, glue-periodic, glue-none, glue-twisted, glue-untwisted)
+
+pub ruleset glued_rules = (begins-lt, glued-not, glued-some, glued-none)
+
+pub ruleset axis_rules = (begins-lt, axis-not, axis-some, axis-none)
+
+pub ruleset axis_at_rules = (axis-below, axis-past)
+
+pub ruleset grid_rules = (one-side, grid-no-first, grid-no-second, grid-no-third, grid-whole)

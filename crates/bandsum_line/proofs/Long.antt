@@ -1,5 +1,8 @@
 -- A line that is taken has at most 47 bytes: a digit, three times a space, four digits, a space, T and eight digits, and the line feed. So 48 bytes tell what a line
 -- says, however many follow. Assumes nothing.
+use Rattle.refusal.specs.declared.Refusal.TheVariants.{BadDimension, Unreadable}
+use Rattle.bandsum_line.specs.Says.{Line}
+use Rattle.std.specs.Prelude.{Err, Ok}
 use mathlib.Core.Path.{◌≡◌, refl, sym, ap, ◌∙◌}
 use mathlib.Core.Bool.{Bool, true, false, cond, not, ◌&&◌, false≢true}
 use mathlib.Core.List.{List, [], ◌∷◌}
@@ -17,10 +20,7 @@ use Rattle.quotient.specs.Fold.{member, some, count}
 use Rattle.quotient.specs.Shape.{no_axis}
 use Rattle.quotient.proofs.Sets.{size_of}
 use Rattle.quotient.proofs.Laws.{some-true}
-use Rattle.refusal.specs.Table.{bad_dimension, unreadable}
 use Rattle.refusal.specs.Limits.{most_dimension}
-use Rattle.bandsum_line.specs.declared.Line.{Line}
-use Rattle.bandsum_line.specs.declared.Line.TheVariants.{Taken, Refused}
 use Rattle.bandsum_line.specs.Grammar.{Front, nothing, front, zero_digit, space, is_digit, is_axis_digit, and_then, after, digits_from, count_from, set_from, glue_from, glued_from, axis_from, axis_at, grid_from, line_ends, ended, read_line}
 
 -- a part that takes at most k bytes off the front of bs
@@ -163,7 +163,7 @@ grid-most d bs =
 -- ---- the line
 -- what a line says that is too long for a grid
 abbrev long : ℕ → Line
-long b = cond (is_digit b) (cond (leb 1 (b - zero_digit) && leb (b - zero_digit) most_dimension) (Refused unreadable 0) (Refused bad_dimension 0)) (Refused unreadable 0)
+long b = cond (is_digit b) (cond (leb 1 (b - zero_digit) && leb (b - zero_digit) most_dimension) (Err Unreadable) (Err BadDimension)) (Err Unreadable)
 
 ends-long : (r : List ℕ) → 2 ≤ length r → line_ends r ≡ false
 unfolding line_ends
@@ -171,25 +171,25 @@ ends-long [] h = absurd (let x : ⊥ = omega arith in x)
 ends-long (b ∷ []) h = absurd (let x : ⊥ = omega arith in x)
 ends-long (b ∷ (c ∷ r)) h = refl
 
-ended-long : (bs : List ℕ) (f : Front Grid) → 47 ≤ length bs → AtMost 45 bs f → ended f ≡ Refused unreadable 0
+ended-long : (bs : List ℕ) (f : Front Grid) → 47 ≤ length bs → AtMost 45 bs f → ended f ≡ Err Unreadable
 unfolding ended
 ended-long bs nothing h a = refl
 ended-long bs (front g r) h a = rw (ends-long r (omega arith))
 
 pub too_long : (b : ℕ) (r : List ℕ) → 47 ≤ length r → read_line (b ∷ r) ≡ long b
 unfolding read_line
-too_long b r h = ap (λ (l : Line). cond (is_digit b) (cond (leb 1 (b - zero_digit) && leb (b - zero_digit) most_dimension) l (Refused bad_dimension 0)) (Refused unreadable 0)) (ended-long r (grid_from (b - zero_digit) r) h (grid-most (b - zero_digit) r))
+too_long b r h = ap (λ (l : Line). cond (is_digit b) (cond (leb 1 (b - zero_digit) && leb (b - zero_digit) most_dimension) l (Err BadDimension)) (Err Unreadable)) (ended-long r (grid_from (b - zero_digit) r) h (grid-most (b - zero_digit) r))
 
-long-refused : (b : ℕ) (g : Grid) → long b ≡ Taken g → ⊥
+long-refused : (b : ℕ) (g : Grid) → long b ≡ Ok g → ⊥
 long-refused b g e = go (is_digit b) (leb 1 (b - zero_digit) && leb (b - zero_digit) most_dimension) e
   where
-    go : (x y : Bool) → cond x (cond y (Refused unreadable 0) (Refused bad_dimension 0)) (Refused unreadable 0) ≡ Taken g → ⊥
+    go : (x y : Bool) → cond x (cond y (Err Unreadable) (Err BadDimension)) (Err Unreadable) ≡ Ok g → ⊥
     go true true f = let z : ◌≡◌ {A = ℕ} 0 1 = cc in omega arith
     go true false f = let z : ◌≡◌ {A = ℕ} 0 1 = cc in omega arith
     go false y f = let z : ◌≡◌ {A = ℕ} 0 1 = cc in omega arith
 
 -- a line that is taken has at most 47 bytes
-pub taken-short : (bs : List ℕ) (g : Grid) → read_line bs ≡ Taken g → length bs ≤ 47
+pub taken-short : (bs : List ℕ) (g : Grid) → read_line bs ≡ Ok g → length bs ≤ 47
 taken-short [] g e = omega arith
 taken-short (b ∷ r) g e =
     elim (dec_lt 46 (length r)) [

@@ -1,4 +1,6 @@
 -- Digits one by one: the numbers and the sets that they say so far, and the line from its first digit on. Assumes nothing.
+use Rattle.refusal.specs.declared.Refusal.TheVariants.{BadDimension, Unreadable}
+use Rattle.std.specs.Prelude.{Err, Ok}
 use mathlib.Core.Path.{◌≡◌, refl, sym, ap, subst, ◌∙◌}
 use mathlib.Core.Bool.{Bool, true, false, ◌&&◌, false≢true}
 use mathlib.Core.List.{List, [], ◌∷◌}
@@ -9,7 +11,6 @@ use lib.Dec.{leb}
 use borrow.Author.Tests.{leb-true, le-leb, lt-leb, eqb-false}
 use Rattle.quotient.specs.declared.Grid.{Grid}
 use Rattle.quotient.specs.Fold.{member}
-use Rattle.bandsum_line.specs.declared.Line.TheVariants.{Taken, Refused}
 use Rattle.bandsum_line.specs.Grammar.{Front, nothing, front, is_digit, is_axis_digit, digits_from, set_from, grid_from, line_ends, ended, read_line}
 use Rattle.bandsum_line.proofs.Front.{here, gone}
 
@@ -108,9 +109,9 @@ pub set-fits-shifted : (m j : ℕ) → m < 256 → j < 8 → member m j ≡ fals
 set-fits-shifted m j h l e = subst (λ (x : ℕ). m + x < 256) (sym (shifted j l)) (set-fits m j h l e)
 
 module _ (bs : List ℕ) (m i : ℕ) where
-  pub set-gone : length bs ≤ i → set_from m (drop i bs) ≡ front m (drop i bs)
+  pub set-gone : length bs ≤ i → set_from m (drop i bs) ≡ front m (drop (length bs) bs)
   unfolding set_from
-  set-gone h = rw (gone bs i h)
+  set-gone h = rw (gone bs i h, gone bs (length bs) (omega arith))
 
   module _ (h : i < length bs) where
     pub set-stop : is_axis_digit (get_or bs i 0) ≡ false → set_from m (drop i bs) ≡ front m (drop i bs)
@@ -133,22 +134,22 @@ module _ (bs : List ℕ) (m i : ℕ) where
 
 -- ---- the line
 
-pub read-gone : (bs : List ℕ) → length bs ≡ 0 → read_line bs ≡ Refused 17 0
+pub read-gone : (bs : List ℕ) → length bs ≡ 0 → read_line bs ≡ Err Unreadable
 unfolding read_line
 read-gone [] h = refl
 read-gone (b ∷ r) h = absurd (omega arith)
 
-pub read-odd : (bs : List ℕ) → (length bs ≡ 0 → ⊥) → is_digit (get_or bs 0 0) ≡ false → read_line bs ≡ Refused 17 0
+pub read-odd : (bs : List ℕ) → (length bs ≡ 0 → ⊥) → is_digit (get_or bs 0 0) ≡ false → read_line bs ≡ Err Unreadable
 unfolding read_line
 read-odd [] n e = absurd (n refl)
 read-odd (b ∷ r) n e = rw e
 
-pub read-zero : (bs : List ℕ) → (length bs ≡ 0 → ⊥) → is_digit (get_or bs 0 0) ≡ true → get_or bs 0 0 - 48 < 1 → read_line bs ≡ Refused 1 0
+pub read-zero : (bs : List ℕ) → (length bs ≡ 0 → ⊥) → is_digit (get_or bs 0 0) ≡ true → get_or bs 0 0 - 48 < 1 → read_line bs ≡ Err BadDimension
 unfolding read_line
 read-zero [] n e h = absurd (n refl)
 read-zero (b ∷ r) n e h = rw (e, lt-leb 1 (b - 48) h)
 
-pub read-many : (bs : List ℕ) → (length bs ≡ 0 → ⊥) → is_digit (get_or bs 0 0) ≡ true → 1 ≤ get_or bs 0 0 - 48 → 3 < get_or bs 0 0 - 48 → read_line bs ≡ Refused 1 0
+pub read-many : (bs : List ℕ) → (length bs ≡ 0 → ⊥) → is_digit (get_or bs 0 0) ≡ true → 1 ≤ get_or bs 0 0 - 48 → 3 < get_or bs 0 0 - 48 → read_line bs ≡ Err BadDimension
 unfolding read_line
 read-many [] n e l h = absurd (n refl)
 read-many (b ∷ r) n e l h = rw (e, le-leb 1 (b - 48) l, lt-leb (b - 48) 3 h)
@@ -163,15 +164,22 @@ module _ (bs : List ℕ) (n : length bs ≡ 0 → ⊥) (e : is_digit (get_or bs 
   read-rest : read_line bs ≡ ended (grid_from (get_or bs 0 0 - 48) (drop 1 bs))
   read-rest = rest_of bs n e l h
 
-  pub read_none : nothing ≡ grid_from (get_or bs 0 0 - 48) (drop 1 bs) → read_line bs ≡ Refused 17 0
+  pub read_none : nothing ≡ grid_from (get_or bs 0 0 - 48) (drop 1 bs) → read_line bs ≡ Err Unreadable
   unfolding ended
   read_none f = rw (← f) at read-rest
 
   module _ (g : Grid) (r : List ℕ) (f : front g r ≡ grid_from (get_or bs 0 0 - 48) (drop 1 bs)) where
-    pub read_taken : line_ends r ≡ true → read_line bs ≡ Taken g
+    pub read_taken : line_ends r ≡ true → read_line bs ≡ Ok g
     unfolding ended
     read_taken t = read-rest ∙ rw (← f, t)
 
-    pub read-not-ended : line_ends r ≡ false → read_line bs ≡ Refused 17 0
+    pub read-not-ended : line_ends r ≡ false → read_line bs ≡ Err Unreadable
     unfolding ended
     read-not-ended t = read-rest ∙ rw (← f, t)
+
+-- ---- what the functions that read digits, a set and the line cite
+pub ruleset digits_rules = (below, below_next, digit-small, digits-gone, digits-stop, digits-turn, digits-done)
+
+pub ruleset set_rules = (axis-from, axis-to, axis-small, set-fits-shifted, set-gone, set-stop, set_twice, set-turn)
+
+pub ruleset read_rules = (read-gone, read-odd, read-zero, read-many, read_none, read_taken, read-not-ended)

@@ -1,4 +1,7 @@
 -- The line that the program reads (document 01, "Figures to check by"), as a grammar over its bytes: each `..From` takes its part off the front. Assumes nothing.
+use Rattle.refusal.specs.declared.Refusal.TheVariants.{BadDimension, Unreadable}
+use Rattle.bandsum_line.specs.Says.{Line}
+use Rattle.std.specs.Prelude.{Err, Ok}
 use Rattle.std.specs.Prelude.{ℕ, zero, suc, ◌+◌, ◌*◌, ◌-◌, ◌^◌, Bool, false, cond, ◌&&◌, List, [], ◌∷◌, leb, ltb, eqb, pos}
 use Rattle.std.specs.Float.{fin}
 use Rattle.grid_sides.specs.declared.Sides.{Sides}
@@ -8,10 +11,7 @@ use Rattle.quotient.specs.declared.Axis.{Axis}
 use Rattle.quotient.specs.declared.Grid.{Grid}
 use Rattle.quotient.specs.Fold.{member}
 use Rattle.quotient.specs.Shape.{no_axis}
-use Rattle.refusal.specs.Table.{bad_dimension, unreadable}
 use Rattle.refusal.specs.Limits.{most_dimension}
-use Rattle.bandsum_line.specs.declared.Line.{Line}
-use Rattle.bandsum_line.specs.declared.Line.TheVariants.{Taken, Refused}
 
 -- ---- bytes
 
@@ -119,13 +119,13 @@ line_ends (b ∷ (c ∷ r)) = false
 
 -- the grid, where the line ends after it
 unfoldable pub ended : Front Grid → Line
-ended nothing = Refused unreadable 0
-ended (front g r) = cond (line_ends r) (Taken g) (Refused unreadable 0)
+ended nothing = Err Unreadable
+ended (front g r) = cond (line_ends r) (Ok g) (Err Unreadable)
 
 -- the grid that the bytes describe. A first digit that is no grid's dimension gives 1, whatever follows; anything else that is no line gives 17
 unfoldable pub read_line : List ℕ → Line
-read_line [] = Refused unreadable 0
+read_line [] = Err Unreadable
 read_line (b ∷ r) =
     cond (is_digit b)
-    (cond (leb 1 (b - zero_digit) && leb (b - zero_digit) most_dimension) (ended (grid_from (b - zero_digit) r)) (Refused bad_dimension 0))
-    (Refused unreadable 0)
+    (cond (leb 1 (b - zero_digit) && leb (b - zero_digit) most_dimension) (ended (grid_from (b - zero_digit) r)) (Err BadDimension))
+    (Err Unreadable)

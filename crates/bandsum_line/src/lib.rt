@@ -6,52 +6,18 @@
 #![tactic(auto)]
 
 ghost use Rattle.std.specs.Prelude.{◌≡◌, ℕ, ◌<◌, ◌^◌, drop};
-ghost use Rattle.bandsum_line.specs.Grammar.{is_digit, is_axis_digit, line_ends, digits_from, count_from, set_from, glue_from, glued_from, axis_from, axis_at, grid_from, read_line};
-ghost use Rattle.bandsum_line.specs.WorkParts.{begins, number_read_of, set_of, gluing_of, axis_read_of, grid_read_of};
+ghost use Rattle.bandsum_line.specs.Grammar.{front, is_digit, is_axis_digit, line_ends, digits_from, count_from, set_from, glue_from, glued_from, axis_from, axis_at, grid_from, read_line};
+ghost use Rattle.bandsum_line.specs.WorkParts.{begins, read_of};
 
 use grid_sides::Sides;
 use quotient::{Axis, Glue, Grid};
+use refusal::Refusal;
 
-// What `read` says: the grid, or the refusal with its number and place.
+// What a part of the line says, and where it stopped.
 #[derive(Clone, Copy)]
-pub enum Line {
-    Taken(Grid),
-    Refused(u32, u32),
-}
-
-// A number, and where it stopped.
-#[derive(Clone, Copy)]
-pub enum Number {
-    Nothing,
-    Upto(u32, usize),
-}
-
-// A set of axes as a mask, and where it stopped.
-#[derive(Clone, Copy)]
-pub enum AxisSet {
-    Nothing,
-    Upto(u8, usize),
-}
-
-// How an axis is glued, and where that stopped.
-#[derive(Clone, Copy)]
-pub enum Gluing {
-    Nothing,
-    Upto(Glue, usize),
-}
-
-// An axis, and where it stopped.
-#[derive(Clone, Copy)]
-pub enum AxisRead {
-    Nothing,
-    Upto(Axis, usize),
-}
-
-// A grid, and where it stopped.
-#[derive(Clone, Copy)]
-pub enum GridRead {
-    Nothing,
-    Upto(Grid, usize),
+pub struct Part<T> {
+    pub value: T,
+    pub end: usize,
 }
 
 // The longest line: 3, three axes of four digits with eight reflected axes, a line feed.
@@ -61,227 +27,223 @@ pub const LONGEST: usize = 47;
 pub fn is_digit(b: u8) -> bool
     ensures { result ≡ is_digit b }
 {
-    if 48 <= b { b <= 57 } else { false }
+    matches!(b, b'0'..=b'9')
 }
 
 // Whether b is a digit from 0 to 7.
 fn is_axis_digit(b: u8) -> bool
     ensures { result ≡ is_axis_digit b }
 {
-    if 48 <= b { b <= 55 } else { false }
+    matches!(b, b'0'..=b'7')
 }
 
 // Whether byte b stands at the position.
+#[tactic(auto, using(crate::proofs::Front::byte_rules))]
 pub fn has(bytes: &[u8], at: usize, b: u8) -> bool
     ensures { result ≡ begins b (drop at bytes.now) }
 {
-    if at < bytes.len() {
-        bytes[at] == b
-    } else {
-        false
-    }
+    at < bytes.len() && bytes[at] == b
 }
 
 // The number whose first digit is n and which goes on at the position, four digits at most.
-fn digits(bytes: &[u8], at: usize, first: u32) -> Number
+#[tactic(auto, using(crate::proofs::Numerals::digits_rules))]
+fn digits(bytes: &[u8], at: usize, first: u32) -> Part<u32>
     requires { first < 10 }
-    ensures { number_read_of bytes.now result ≡ digits_from 3 first (drop at bytes.now) }
+    ensures { front result.value (drop result.end bytes.now) ≡ digits_from 3 first (drop at bytes.now) }
 {
-    let mut n = first;
-    let mut i = at;
-    let mut k = 0u32;
-    while k < 3 {
-        if i >= bytes.len() {
-            return Number::Upto(n, i);
+    let mut value = first;
+    let mut end = at;
+    for _digit in 0..3u32 {
+        if end >= bytes.len() {
+            return Part { value, end };
         }
-        let b = bytes[i];
+        let b = bytes[end];
         if !is_digit(b) {
-            return Number::Upto(n, i);
+            return Part { value, end };
         }
-        n = n * 10 + ((b - 48) as u32);
-        i += 1;
-        k += 1;
+        value = value * 10 + u32::from(b - b'0');
+        end += 1;
     }
-    Number::Upto(n, i)
+    Part { value, end }
 }
 
 // The count at the position: one to four digits, and no 0 before others.
-pub fn count(bytes: &[u8], at: usize) -> Number
-    ensures { number_read_of bytes.now result ≡ count_from (drop at bytes.now) }
+#[tactic(auto, using(crate::proofs::Front::count_rules))]
+pub fn count(bytes: &[u8], at: usize) -> Option<Part<u32>>
+    ensures { read_of bytes.now result ≡ count_from (drop at bytes.now) }
 {
     if at >= bytes.len() {
-        return Number::Nothing;
+        return None;
     }
     let b = bytes[at];
-    if b == 48 {
-        return Number::Upto(0, at + 1);
+    let end = at + 1;
+    if b == b'0' {
+        return Some(Part { value: 0, end });
     }
     if !is_digit(b) {
-        return Number::Nothing;
+        return None;
     }
-    digits(bytes, at + 1, (b - 48) as u32)
+    Some(digits(bytes, end, u32::from(b - b'0')))
 }
 
-// The set of axes at the position: distinct digits from 0 to 7.
-fn set(bytes: &[u8], at: usize) -> AxisSet
-    ensures { set_of bytes.now result ≡ set_from 0 (drop at bytes.now) }
+// The set of axes at the position, as a mask: distinct digits from 0 to 7.
+#[tactic(auto, using(crate::proofs::Numerals::set_rules))]
+fn set(bytes: &[u8], at: usize) -> Option<Part<u8>>
+    ensures { read_of bytes.now result ≡ set_from 0 (drop at bytes.now) }
 {
-    let mut m = 0u8;
-    let mut i = at;
-    while i < bytes.len() {
-        let b = bytes[i];
+    let mut value = 0u8;
+    for end in at..bytes.len() {
+        let b = bytes[end];
         if !is_axis_digit(b) {
-            return AxisSet::Upto(m, i);
+            return Some(Part { value, end });
         }
-        let j = b - 48;
-        if quotient::mask::member_of(m, j as u32) {
-            return AxisSet::Nothing;
+        let axis = b - b'0';
+        if quotient::mask::member_of(value, u32::from(axis)) {
+            return None;
         }
-        m += 1u8 << j;
-        i += 1;
+        value += 1 << axis;
     }
-    AxisSet::Upto(m, i)
+    let end = bytes.len();
+    Some(Part { value, end })
 }
 
 // How an axis is glued: O, P, or T with its set.
-fn glue(bytes: &[u8], at: usize) -> Gluing
-    ensures { gluing_of bytes.now result ≡ glue_from (drop at bytes.now) }
+#[tactic(auto, using(crate::proofs::Front::glue_rules))]
+fn glue(bytes: &[u8], at: usize) -> Option<Part<Glue>>
+    ensures { read_of bytes.now result ≡ glue_from (drop at bytes.now) }
 {
     if at >= bytes.len() {
-        return Gluing::Nothing;
+        return None;
     }
-    let b = bytes[at];
-    if b == b'O' {
-        return Gluing::Upto(Glue::Open, at + 1);
-    }
-    if b == b'P' {
-        return Gluing::Upto(Glue::Periodic, at + 1);
-    }
-    if b != b'T' {
-        return Gluing::Nothing;
-    }
-    let s = set(bytes, at + 1);
-    match s {
-        AxisSet::Nothing => Gluing::Nothing,
-        AxisSet::Upto(m, end) => Gluing::Upto(Glue::Twisted(m), end),
+    let end = at + 1;
+    match bytes[at] {
+        b'O' => Some(Part {
+            value: Glue::Open,
+            end,
+        }),
+        b'P' => Some(Part {
+            value: Glue::Periodic,
+            end,
+        }),
+        b'T' => {
+            let set = set(bytes, end)?;
+            Some(Part {
+                value: Glue::Twisted(set.value),
+                end: set.end,
+            })
+        }
+        _ => None,
     }
 }
 
 // The axis of n cells whose gluing, after a space, stands at the position.
-fn glued(bytes: &[u8], at: usize, n: u32) -> AxisRead
-    ensures { axis_read_of bytes.now result ≡ glued_from n (drop at bytes.now) }
+#[tactic(auto, using(crate::proofs::Front::glued_rules))]
+fn glued(bytes: &[u8], at: usize, n: u32) -> Option<Part<Axis>>
+    ensures { read_of bytes.now result ≡ glued_from n (drop at bytes.now) }
 {
     if !has(bytes, at, b' ') {
-        return AxisRead::Nothing;
+        return None;
     }
-    let g = glue(bytes, at + 1);
-    match g {
-        Gluing::Nothing => AxisRead::Nothing,
-        Gluing::Upto(glue, end) => AxisRead::Upto(Axis { count: n, glue }, end),
-    }
+    let glue = glue(bytes, at + 1)?;
+    Some(Part {
+        value: Axis {
+            count: n,
+            glue: glue.value,
+        },
+        end: glue.end,
+    })
 }
 
 // The axis at the position: a space and its count, then a space and how it is glued.
-fn axis(bytes: &[u8], at: usize) -> AxisRead
-    ensures { axis_read_of bytes.now result ≡ axis_from (drop at bytes.now) }
+#[tactic(auto, using(crate::proofs::Front::axis_rules))]
+fn axis(bytes: &[u8], at: usize) -> Option<Part<Axis>>
+    ensures { read_of bytes.now result ≡ axis_from (drop at bytes.now) }
 {
     if !has(bytes, at, b' ') {
-        return AxisRead::Nothing;
+        return None;
     }
-    let c = count(bytes, at + 1);
-    match c {
-        Number::Nothing => AxisRead::Nothing,
-        Number::Upto(n, end) => glued(bytes, end, n),
-    }
+    let n = count(bytes, at + 1)?;
+    glued(bytes, n.end, n.value)
 }
 
 // Axis i of a grid of dimension d at the position; past d nothing is read.
-fn axis_at(d: u32, i: u32, bytes: &[u8], at: usize) -> AxisRead
-    ensures { axis_read_of bytes.now result ≡ axis_at d i (drop at bytes.now) }
+#[tactic(auto, using(crate::proofs::Front::axis_at_rules))]
+fn axis_at(d: u32, i: u32, bytes: &[u8], at: usize) -> Option<Part<Axis>>
+    ensures { read_of bytes.now result ≡ axis_at d i (drop at bytes.now) }
 {
     if i < d {
-        axis(bytes, at)
-    } else {
-        let a = Axis {
+        return axis(bytes, at);
+    }
+    Some(Part {
+        value: Axis {
             count: 0,
             glue: Glue::Open,
-        };
-        AxisRead::Upto(a, at)
-    }
+        },
+        end: at,
+    })
 }
 
 // The grid of dimension d whose axes stand at the position.
-pub fn grid(d: u32, bytes: &[u8], at: usize) -> GridRead
-    ensures { grid_read_of bytes.now result ≡ grid_from d (drop at bytes.now) }
+#[tactic(auto, using(crate::proofs::Front::grid_rules))]
+pub fn grid(d: u32, bytes: &[u8], at: usize) -> Option<Part<Grid>>
+    ensures { read_of bytes.now result ≡ grid_from d (drop at bytes.now) }
 {
-    let a = axis_at(d, 0, bytes, at);
-    let AxisRead::Upto(first, x) = a else {
-        return GridRead::Nothing;
-    };
-    let b = axis_at(d, 1, bytes, x);
-    let AxisRead::Upto(second, y) = b else {
-        return GridRead::Nothing;
-    };
-    let c = axis_at(d, 2, bytes, y);
-    let AxisRead::Upto(third, z) = c else {
-        return GridRead::Nothing;
-    };
+    let first = axis_at(d, 0, bytes, at)?;
+    let second = axis_at(d, 1, bytes, first.end)?;
+    let third = axis_at(d, 2, bytes, second.end)?;
     let sides = Sides {
         first: 1.0,
         second: 1.0,
         third: 1.0,
     };
-    let g = Grid {
+    let value = Grid {
         d,
-        first,
-        second,
-        third,
+        first: first.value,
+        second: second.value,
+        third: third.value,
         sides,
     };
-    GridRead::Upto(g, z)
+    Some(Part {
+        value,
+        end: third.end,
+    })
 }
 
 // Whether one line feed stands at the position, and nothing after it.
+#[tactic(auto, using(crate::proofs::Front::end_rules))]
 pub fn ends(bytes: &[u8], at: usize) -> bool
     ensures { result ≡ line_ends (drop at bytes.now) }
 {
     if at >= bytes.len() {
         return false;
     }
-    if bytes.len() - at == 1 {
-        bytes[at] == b'\n'
-    } else {
-        false
-    }
+    bytes.len() - at == 1 && bytes[at] == b'\n'
 }
 
 // The grid that the bytes describe: 1 where the first byte is a digit outside 1 to 3, and 17 for every other line that cannot be read.
-pub fn read(bytes: &[u8]) -> Line
+#[tactic(auto, using(crate::proofs::Numerals::read_rules))]
+pub fn read(bytes: &[u8]) -> Result<Grid, Refusal>
     ensures { result ≡ read_line bytes.now }
 {
     if bytes.len() == 0 {
-        return Line::Refused(refusal::UNREADABLE, 0);
+        return Err(Refusal::Unreadable);
     }
     let b = bytes[0];
     if !is_digit(b) {
-        return Line::Refused(refusal::UNREADABLE, 0);
+        return Err(Refusal::Unreadable);
     }
     let d = (b - 48) as u32;
     if d < 1 {
-        return Line::Refused(refusal::BAD_DIMENSION, 0);
+        return Err(Refusal::BadDimension);
     }
     if refusal::MOST_DIMENSION < d {
-        return Line::Refused(refusal::BAD_DIMENSION, 0);
+        return Err(Refusal::BadDimension);
     }
-    let g = grid(d, bytes, 1);
-    match g {
-        GridRead::Nothing => Line::Refused(refusal::UNREADABLE, 0),
-        GridRead::Upto(taken, end) => {
-            if ends(bytes, end) {
-                Line::Taken(taken)
-            } else {
-                Line::Refused(refusal::UNREADABLE, 0)
-            }
-        }
+    let Some(grid) = grid(d, bytes, 1) else {
+        return Err(Refusal::Unreadable);
+    };
+    if ends(bytes, grid.end) {
+        return Ok(grid.value);
     }
+    Err(Refusal::Unreadable)
 }

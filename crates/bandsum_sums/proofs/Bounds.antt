@@ -1,10 +1,10 @@
 -- How long the lists of a grid that is taken are: at most d + 1 corners a cell, and d numbers a corner for its edges or its border. Assumes nothing.
+use Rattle.refusal.specs.Says.{fine}
 use mathlib.Core.Path.{◌≡◌}
 use Prim.Native.Nat.{ℕ, suc, ◌*◌, ◌≤◌}
 use native.Mathlib.Nat.{mul-le-mul_right, le_trans, mul-suc}
 use native.Mathlib.Omega.{arith}
 use lib.ListN.{length}
-use Rattle.refusal.specs.declared.Answer.TheVariants.{Fine}
 use Rattle.lists.specs.Rows.{flat}
 use Rattle.complex.specs.Skeleton.{edges_of, border_of}
 use Rattle.skeleton.proofs.Sizes as Sizes
@@ -18,7 +18,7 @@ use Rattle.grid_words.proofs.Good.{words-pass}
 use Rattle.grid_mesh.specs.Words.{glued_cells, corners_of}
 use Rattle.bandsum_sums.specs.Work.{band_corners, band_listed}
 
-module _ (g : Grid) (fine : check_of g ≡ Fine) where
+module _ (g : Grid) (fine : check_of g ≡ fine) where
   pub corners-most : corners_of g ≤ band_corners
   corners-most = omega (arith, mul-le-mul_right (suc g.d) (taken-cells g fine), dim g fine)
 

@@ -1,4 +1,10 @@
 -- What the calls say where a grid is taken and the lists are long enough: never 12. Assumes nothing.
+use Rattle.grid_order.specs.declared.Triangulated.TheVariants.{Unordered}
+use Rattle.grid_order.specs.declared.Triangulated.TheVariants.{Ordered}
+use Rattle.refusal.specs.declared.Refusal.{Refusal}
+use Rattle.refusal.specs.declared.Refusal.TheVariants.{CrowdedFacet}
+use Rattle.refusal.specs.Says.{Answer, Counted, fine}
+use Rattle.std.specs.Prelude.{Err, Ok, Result}
 use mathlib.Core.Bool.{Bool, true, false}
 use mathlib.Core.List.{List, []}
 use mathlib.Core.Path.{◌≡◌, refl, sym, ap, ◌∙◌, subst}
@@ -7,13 +13,8 @@ use native.Mathlib.Omega.{arith}
 use lib.IntN.{ℤ, pos}
 use lib.ListN.{length, take, drop, replicate, length-append, length-replicate}
 use lib.Seq.{take_at}
-use Rattle.refusal.specs.declared.Answer.{Answer}
-use Rattle.refusal.specs.declared.Answer.TheVariants as Answer
-use Rattle.refusal.specs.declared.Counted.{Counted}
-use Rattle.refusal.specs.declared.Counted.TheVariants as Counted
 use Rattle.refusal.specs.declared.Room.{Room}
 use Rattle.refusal.specs.Lent.{onto, lengths, Roomy}
-use Rattle.refusal.specs.Table.{crowded_facet}
 use Rattle.refusal.specs.Call.{Comes, refused, cramped, ended}
 use Rattle.refusal.proofs.Chain.{fine-refused}
 use Rattle.lists.specs.Rows.{flat}
@@ -31,7 +32,6 @@ use Rattle.skeleton.specs.Promise as Skeleton
 use Rattle.skeleton.specs.Parts.{edge_need}
 use Rattle.skeleton.proofs.Steps.{room_most}
 use Rattle.orientation.specs.declared.Coherence.{Coherence}
-use Rattle.orientation.specs.declared.Coherence.TheVariants as Coherence
 use Rattle.orientation.specs.Promise.{Orientation}
 use Rattle.orientation.specs.Promise.Ends.{crowded as signs-crowded, one_sided, short as signs_short, signed}
 use Rattle.orientation.specs.Promise as Signs
@@ -45,13 +45,11 @@ use Rattle.grid_mesh.specs.Words.{glued_cells, corners_of, grid_need, WordsEnd, 
 use Rattle.grid_mesh.specs.Words.WordsEnd.{crowded as mesh-crowded, short as mesh-short, written as mesh-written}
 use Rattle.grid_mesh.proofs.Steps.{words-many, corners-are}
 use Rattle.grid_order.specs.declared.Triangulated.{Triangulated}
-use Rattle.grid_order.specs.declared.Triangulated.TheVariants as Tri
 use Rattle.grid_order.specs.Promise.Ends.{crowded as order-crowded, short as order-short, short_order as order-short-order, ordered as order-ordered, unordered as order-unordered}
 use Rattle.grid_order.specs.Promise as Order
 use Rattle.grid_order.specs.Promise.{Handed, nothing, order_room, HandsOut, TriangulateOrdered}
 use Rattle.bandsum_lines.specs.declared.Summary.{Summary}
 use Rattle.refusal.specs.Told.{count_of}
-use Rattle.bandsum_sums.specs.declared.Sum.TheVariants.{Told, Refused}
 use Rattle.bandsum_sums.specs.Promise.{SidesOf, two, one, Sound, SumsOf}
 use Rattle.bandsum_sums.specs.Promise as Promise
 use Rattle.bandsum_sums.specs.Work.{band_corners, band_recorded, band_listed, sides_as, Triangulates, Glued, HasWords, HasCells, Tells}
@@ -65,9 +63,9 @@ pub no-signs : (n : ℕ) → n ≤ length (replicate {A = ℤ} n (pos 0))
 no-signs n = omega (arith, length-replicate {A = ℤ} n (pos 0))
 
 -- ---- a call that comes to an end: its checks say Fine and there is room
-module _ {S H : Type 0} (no : ℕ → ℕ → S) (nothing : H) (checked : Answer) (need have : Room) (Ends : S → H → Type 0) where
-  comes-end : {r : S} {h : H} {u : Room} → checked ≡ Answer.Fine → Roomy need have → Comes no nothing checked need have Ends r h u → Ends r h
-  comes-end e m (refused {n = n} {p = p} f) = absurd (fine-refused n p (sym f ∙ e))
+module _ {S H : Type 0} (no : Refusal → S) (nothing : H) (checked : Answer) (need have : Room) (Ends : S → H → Type 0) where
+  comes-end : {r : S} {h : H} {u : Room} → checked ≡ fine → Roomy need have → Comes no nothing checked need have Ends r h u → Ends r h
+  comes-end e m (refused {why = why} f) = absurd (fine-refused why (sym f ∙ e))
   comes-end e m (cramped f x) = absurd (x m)
   comes-end e m (ended f x y) = y
 
@@ -80,27 +78,27 @@ ends-all : (d : ℕ) (cs words : List (List ℕ)) (given : ℕ) (r : Counted) (h
 ends-all d cs words given r h free l (list-crowded x) = absurd (free x)
 ends-all d cs words given r h free l (list-rest f x) = gives_all words given r h l x
 
-pub listed-all : (need : Room) (words : List (List ℕ)) (d : ℕ) (ws : List ℕ) (r : Counted) (out out' keys keys' rows rows' spare spare' counts counts' : List ℕ) → answer_of d ws ≡ Answer.Fine → (Crowded d (Complex.cells_of d ws) → ⊥) →
+pub listed-all : (need : Room) (words : List (List ℕ)) (d : ℕ) (ws : List ℕ) (r : Counted) (out out' keys keys' rows rows' spare spare' counts counts' : List ℕ) → answer_of d ws ≡ fine → (Crowded d (Complex.cells_of d ws) → ⊥) →
     Roomy need (lengths keys rows spare counts) → length (flat words) ≤ length out → Listed need words d ws r out out' keys keys' rows rows' spare spare' counts counts' → count_of r ≡ length words
 listed-all need words d ws r out out' keys keys' rows rows' spare spare' counts counts' fine free room l t =
     ends-all d (Complex.cells_of d ws) words (length out) r t.handed free l
-    (comes-end Counted.Refused [] (answer_of d ws) need (lengths keys rows spare counts) (Skeleton.Ends [] d (Complex.cells_of d ws) (Gives words (length out))) fine room t.call.comes)
+    (comes-end Err [] (answer_of d ws) need (lengths keys rows spare counts) (Skeleton.Ends [] d (Complex.cells_of d ws) (Gives words (length out))) fine room t.call.comes)
 
 -- ---- a grid that is taken
-module _ (g : Grid) (fine : check_of g ≡ Answer.Fine) where
-  pub words-fine : answer_of g.d (flat_words g) ≡ Answer.Fine
-  words-fine = passed-fine g.d (flat_words g) (words-pass g fine)
+module _ (g : Grid) (taken : check_of g ≡ fine) where
+  pub words-fine : answer_of g.d (flat_words g) ≡ fine
+  words-fine = passed-fine g.d (flat_words g) (words-pass g taken)
 
   keys-most : key_room g.d (corners_of g) ≤ band_listed
-  keys-most = omega (arith, room_most g.d (corners_of g) (dim g fine), corners-most g fine)
+  keys-most = omega (arith, room_most g.d (corners_of g) (dim g taken), corners-most g taken)
 
   pub grid-roomy : (keys rows spare counts : List ℕ) → band_listed ≤ length keys → band_corners ≤ length rows → band_corners ≤ length spare → band_corners ≤ length counts → Roomy (grid_need g) (lengths keys rows spare counts)
   grid-roomy keys rows spare counts k r s c =
-      record { in_keys = omega (arith, keys-most); in_rows = omega (arith, corners-most g fine); in_spare = omega (arith, corners-most g fine); in_counts = omega (arith, corners-most g fine) }
+      record { in_keys = omega (arith, keys-most); in_rows = omega (arith, corners-most g taken); in_spare = omega (arith, corners-most g taken); in_counts = omega (arith, corners-most g taken) }
 
   pub order-roomy : (keys rows spare counts : List ℕ) → band_listed + band_corners + band_corners ≤ length keys → band_corners ≤ length rows → band_corners ≤ length spare → band_corners ≤ length counts → Roomy (order_room g) (lengths keys rows spare counts)
   order-roomy keys rows spare counts k r s c =
-      record { in_keys = omega (arith, keys-most, corners-most g fine); in_rows = omega (arith, corners-most g fine); in_spare = omega (arith, corners-most g fine); in_counts = omega (arith, corners-most g fine) }
+      record { in_keys = omega (arith, keys-most, corners-most g taken); in_rows = omega (arith, corners-most g taken); in_spare = omega (arith, corners-most g taken); in_counts = omega (arith, corners-most g taken) }
 
   pub edges-roomy : (n : ℕ) → n ≡ corners_of g → (keys rows spare counts : List ℕ) → band_listed + band_listed ≤ length keys → band_listed ≤ length rows → band_listed ≤ length spare → band_listed ≤ length counts → Roomy (edge_need g.d n) (lengths keys rows spare counts)
   edges-roomy n e keys rows spare counts k r s c =
@@ -109,28 +107,28 @@ module _ (g : Grid) (fine : check_of g ≡ Answer.Fine) where
 
   pub records-roomy : (n : ℕ) → n ≡ corners_of g → (keys rows spare counts : List ℕ) → band_recorded ≤ length keys → band_corners ≤ length rows → band_corners ≤ length spare → band_corners ≤ length counts → Roomy (record_need n) (lengths keys rows spare counts)
   records-roomy n e keys rows spare counts k r s c =
-      let m : n ≤ band_corners = rw e (corners-most g fine) in
+      let m : n ≤ band_corners = rw e (corners-most g taken) in
       record { in_keys = omega arith; in_rows = omega arith; in_spare = omega arith; in_counts = omega arith }
 
   pub taken-counted : count_of (nvertices_of g) ≡ vertices_of g
   unfolding nvertices_of
-  taken-counted = rw fine
+  taken-counted = rw taken
 
 -- ---- the order
 module _ (g : Grid) (cells order keys rows spare counts : List ℕ) (lc : band_corners ≤ length cells) (lo : band_corners ≤ length order) (lk : band_listed + band_corners + band_corners ≤ length keys) (lr : band_corners ≤ length rows) (ls : band_corners ≤ length spare) (ln : band_corners ≤ length counts) where
-  order-ends : (r : Triangulated) (h : Handed) → check_of g ≡ Answer.Fine → Order.Ends g (length cells) (length order) r h → Triangulates g r
+  order-ends : (r : Result Triangulated Refusal) (h : Handed) → check_of g ≡ fine → Order.Ends g (length cells) (length order) r h → Triangulates g r
   order-ends r h e (order-crowded x) = Work.crowded e x
   order-ends r h e (order-short f l) = absurd (let x : ⊥ = omega (arith, size-most g e) in x)
   order-ends r h e (order-short-order f o l) = absurd (let x : ⊥ = omega (arith, size-most g e) in x)
   order-ends r h e (order-ordered f o l k) = Work.ordered (record { taken = e; free = f }) o
   order-ends r h e (order-unordered f o l) = Work.unordered (record { taken = e; free = f }) o
 
-  order-comes : (r : Triangulated) (h : Handed) (u : Room) → Comes Tri.Refused nothing (check_of g) (order_room g) (lengths keys rows spare counts) (Order.Ends g (length cells) (length order)) r h u → Triangulates g r
+  order-comes : (r : Result Triangulated Refusal) (h : Handed) (u : Room) → Comes Err nothing (check_of g) (order_room g) (lengths keys rows spare counts) (Order.Ends g (length cells) (length order)) r h u → Triangulates g r
   order-comes r h u (refused e) = Work.refused e
   order-comes r h u (cramped e f) = absurd (f (order-roomy g e keys rows spare counts lk lr ls ln))
   order-comes r h u (ended e m x) = order-ends r h e x
 
-  pub triangulates : (r : Triangulated) (cells' order' keys' rows' spare' counts' : List ℕ) → TriangulateOrdered g r cells cells' order order' keys keys' rows rows' spare spare' counts counts' → Triangulates g r
+  pub triangulates : (r : Result Triangulated Refusal) (cells' order' keys' rows' spare' counts' : List ℕ) → TriangulateOrdered g r cells cells' order order' keys keys' rows rows' spare spare' counts counts' → Triangulates g r
   triangulates r cells' order' keys' rows' spare' counts' t = order-comes r t.handed t.used t.comes
 
 -- ---- the words
@@ -147,7 +145,7 @@ module _ (g : Grid) (sound : Sound g) (words keys rows spare counts : List ℕ) 
   pub written : (r : Counted) (words' keys' rows' spare' counts' : List ℕ) → CellWords g r words words' keys keys' rows rows' spare spare' counts counts' → Written g r words words'
   written r words' keys' rows' spare' counts' t =
       words-ends r t.handed words' t.result
-      (comes-end Counted.Refused [] (check_of g) (grid_need g) (lengths keys rows spare counts) (WordsEnd g (length words)) sound.taken (grid-roomy g sound.taken keys rows spare counts lk lr ls ln) t.comes)
+      (comes-end Err [] (check_of g) (grid_need g) (lengths keys rows spare counts) (WordsEnd g (length words)) sound.taken (grid-roomy g sound.taken keys rows spare counts lk lr ls ln) t.comes)
 
 pub written-glued : (g : Grid) (r : Counted) (words words' : List ℕ) (n : ℕ) → Sound g → band_corners ≤ length words → Written g r words words' → n ≡ count_of r * (g.d + 1) → Glued g n words'
 written-glued g r words words' n sound l w e =
@@ -162,7 +160,7 @@ words_small g r words words' n sound w e = omega (arith, corners-are g sound.tak
 
 -- ---- edges and border of words that are those of the grid
 module _ (g : Grid) (ws : List ℕ) (w : HasWords g ws) (r : Counted) (out out' keys keys' rows rows' spare spare' counts counts' : List ℕ) (lo : band_listed ≤ length out) where
-  fine-words : answer_of g.d ws ≡ Answer.Fine
+  fine-words : answer_of g.d ws ≡ fine
   fine-words = rw w.same (words-fine g w.sound.taken)
 
   free-words : Crowded g.d (Complex.cells_of g.d ws) → ⊥
@@ -189,20 +187,20 @@ module _ (g : Grid) (ws : List ℕ) (w : HasWords g ws) (r : Counted) (out out' 
 
 -- ---- the sides, by the signs of words that are those of the grid
 module _ (g : Grid) (ws : List ℕ) (w : HasWords g ws) (signs : List ℤ) (keys rows spare counts : List ℕ) (lg : band_corners ≤ length signs) (lk : band_recorded ≤ length keys) (lr : band_corners ≤ length rows) (ls : band_corners ≤ length spare) (ln : band_corners ≤ length counts) where
-  sides-end : (r : Coherence) (h : List ℤ) → Signs.Ends g.d (glued_cells g) (length signs) r h → SidesOf g (sides_as r)
+  sides-end : (r : Result Coherence Refusal) (h : List ℤ) → Signs.Ends g.d (glued_cells g) (length signs) r h → SidesOf g (sides_as r)
   sides-end r h (signs-crowded x) = absurd (w.sound.free x)
   sides-end r h (one_sided f n) = one n
   sides-end r h (signs_short f σ o l) = absurd (let x : ⊥ = omega (arith, cells-corners g w.sound.taken) in x)
   sides-end r h (signed f σ o l) = two σ o.coherent
 
-  pub sides-are : (r : Coherence) (signs' : List ℤ) (keys' rows' spare' counts' : List ℕ) → Orientation g.d ws r signs signs' keys keys' rows rows' spare spare' counts counts' → SidesOf g (sides_as r)
+  pub sides-are : (r : Result Coherence Refusal) (signs' : List ℤ) (keys' rows' spare' counts' : List ℕ) → Orientation g.d ws r signs signs' keys keys' rows rows' spare spare' counts counts' → SidesOf g (sides_as r)
   sides-are r signs' keys' rows' spare' counts' t =
       sides-end r t.handed
       (subst (λ (l : List ℕ). Signs.Ends g.d (Complex.cells_of g.d l) (length signs) r t.handed) w.same
-      (comes-end Coherence.Refused [] (answer_of g.d ws) (record_need (length ws)) (lengths keys rows spare counts) (Signs.Ends g.d (Complex.cells_of g.d ws) (length signs)) fine room t.comes))
+      (comes-end Err [] (answer_of g.d ws) (record_need (length ws)) (lengths keys rows spare counts) (Signs.Ends g.d (Complex.cells_of g.d ws) (length signs)) checked room t.comes))
     where
-      fine : answer_of g.d ws ≡ Answer.Fine
-      fine = rw w.same (words-fine g w.sound.taken)
+      checked : answer_of g.d ws ≡ fine
+      checked = rw w.same (words-fine g w.sound.taken)
 
       room : Roomy (record_need (length ws)) (lengths keys rows spare counts)
       room = records-roomy g w.sound.taken (length ws) (ap length w.same ∙ words_long g w.sound.taken) keys rows spare counts lk lr ls ln
@@ -214,34 +212,32 @@ told-all g ordered {sides = sides} c v e b s = record { sides = sides; right = s
 
 -- ---- what is told, by what the triangulation says
 module _ (g : Grid) where
-  ordered-is : (r : Triangulated) (m : ℕ) → Triangulates g r → r ≡ Tri.Ordered m → Sound g × HandsOut g × (m ≡ length (glued_cells g))
+  ordered-is : (r : Result Triangulated Refusal) (m : ℕ) → Triangulates g r → r ≡ (Ok (Ordered m)) → Sound g × HandsOut g × (m ≡ length (glued_cells g))
   ordered-is r m (Work.refused e) q = let z : ◌≡◌ {A = ℕ} 0 1 = cc in absurd (omega arith)
   ordered-is r m (Work.crowded e x) q = let z : ◌≡◌ {A = ℕ} 0 1 = cc in absurd (omega arith)
   ordered-is r m (Work.ordered s o) q = (s, o, cc)
   ordered-is r m (Work.unordered s o) q = let z : ◌≡◌ {A = ℕ} 0 1 = cc in absurd (omega arith)
 
-  unordered-is : (r : Triangulated) (m : ℕ) → Triangulates g r → r ≡ Tri.Unordered m → Sound g × (HandsOut g → ⊥) × (m ≡ length (glued_cells g))
+  unordered-is : (r : Result Triangulated Refusal) (m : ℕ) → Triangulates g r → r ≡ (Ok (Unordered m)) → Sound g × (HandsOut g → ⊥) × (m ≡ length (glued_cells g))
   unordered-is r m (Work.refused e) q = let z : ◌≡◌ {A = ℕ} 0 1 = cc in absurd (omega arith)
   unordered-is r m (Work.crowded e x) q = let z : ◌≡◌ {A = ℕ} 0 1 = cc in absurd (omega arith)
   unordered-is r m (Work.ordered s o) q = let z : ◌≡◌ {A = ℕ} 0 1 = cc in absurd (omega arith)
   unordered-is r m (Work.unordered s o) q = (s, o, cc)
 
-  pub ordered-cells : (r : Triangulated) (m : ℕ) → Triangulates g r → r ≡ Tri.Ordered m → HasCells g m
+  pub ordered-cells : (r : Result Triangulated Refusal) (m : ℕ) → Triangulates g r → r ≡ (Ok (Ordered m)) → HasCells g m
   ordered-cells r m t q = let w = ordered-is r m t q in record { sound = w.0; same = w.2 }
 
-  pub unordered-cells : (r : Triangulated) (m : ℕ) → Triangulates g r → r ≡ Tri.Unordered m → HasCells g m
+  pub unordered-cells : (r : Result Triangulated Refusal) (m : ℕ) → Triangulates g r → r ≡ (Ok (Unordered m)) → HasCells g m
   unordered-cells r m t q = let w = unordered-is r m t q in record { sound = w.0; same = w.2 }
 
-  pub sums-refused : (r : Triangulated) (n p : ℕ) → Triangulates g r → r ≡ Tri.Refused n p → SumsOf g (Refused n p)
-  sums-refused r n p (Work.refused {n = m} {p = q} e) f = let a : m ≡ n = cc in let b : q ≡ p = cc in Promise.refused (e ∙ ap (λ (x : ℕ). Answer.Refused x q) a ∙ ap (λ (x : ℕ). Answer.Refused n x) b)
-  sums-refused r n p (Work.crowded e x) f =
-      let a : crowded_facet ≡ n = cc in let b : ◌≡◌ {A = ℕ} 0 p = cc in
-      subst (λ (m : ℕ). SumsOf g (Refused m p)) a (subst (λ (q : ℕ). SumsOf g (Refused crowded_facet q)) b (Promise.crowded e x))
-  sums-refused r n p (Work.ordered s o) f = let z : ◌≡◌ {A = ℕ} 0 1 = cc in absurd (omega arith)
-  sums-refused r n p (Work.unordered s o) f = let z : ◌≡◌ {A = ℕ} 0 1 = cc in absurd (omega arith)
+  pub sums-refused : (r : Result Triangulated Refusal) (why : Refusal) → Triangulates g r → r ≡ Err why → SumsOf g (Err why)
+  sums-refused r why (Work.refused {why = why2} e) f = let a : why2 ≡ why = cc in Promise.refused (e ∙ ap (λ (x : Refusal). Err x) a)
+  sums-refused r why (Work.crowded e x) f = let a : CrowdedFacet ≡ why = cc in subst (λ (x : Refusal). SumsOf g (Err x)) a (Promise.crowded e x)
+  sums-refused r why (Work.ordered s o) f = let z : ◌≡◌ {A = ℕ} 0 1 = cc in absurd (omega arith)
+  sums-refused r why (Work.unordered s o) f = let z : ◌≡◌ {A = ℕ} 0 1 = cc in absurd (omega arith)
 
-  pub sums-ordered : (r : Triangulated) (m : ℕ) (s : Summary) → Triangulates g r → r ≡ Tri.Ordered m → Tells g true s → SumsOf g (Told s)
-  sums-ordered r m s t q e = let w = ordered-is r m t q in subst (λ (x : Summary). SumsOf g (Told x)) (sym e.same) (Promise.ordered w.0 e.right w.1)
+  pub sums-ordered : (r : Result Triangulated Refusal) (m : ℕ) (s : Summary) → Triangulates g r → r ≡ (Ok (Ordered m)) → Tells g true s → SumsOf g (Ok s)
+  sums-ordered r m s t q e = let w = ordered-is r m t q in subst (λ (x : Summary). SumsOf g (Ok x)) (sym e.same) (Promise.ordered w.0 e.right w.1)
 
-  pub sums-unordered : (r : Triangulated) (m : ℕ) (s : Summary) → Triangulates g r → r ≡ Tri.Unordered m → Tells g false s → SumsOf g (Told s)
-  sums-unordered r m s t q e = let w = unordered-is r m t q in subst (λ (x : Summary). SumsOf g (Told x)) (sym e.same) (Promise.unordered w.0 e.right w.1)
+  pub sums-unordered : (r : Result Triangulated Refusal) (m : ℕ) (s : Summary) → Triangulates g r → r ≡ (Ok (Unordered m)) → Tells g false s → SumsOf g (Ok s)
+  sums-unordered r m s t q e = let w = unordered-is r m t q in subst (λ (x : Summary). SumsOf g (Ok x)) (sym e.same) (Promise.unordered w.0 e.right w.1)

@@ -11,6 +11,7 @@ use Rattle.text.specs.Adds.{size, holding}
 use Rattle.text.proofs.Decimals.{decimal-long}
 use Rattle.bandsum_lines.specs.declared.Summary.{Summary}
 use Rattle.bandsum_lines.specs.Lines.{cells_word, vertices_word, edges_word, border_word, sides_word, refused_word, ordered_line, lines_of, refused_line}
+use Rattle.refusal.specs.Table.{number_of}
 use Rattle.bandsum_sums.specs.Promise.{Prints, unread, refusal, six, Printed}
 
 line-most : (w : List ℕ) (n : ℕ) → length (line_of w n) ≤ length w + 11
@@ -35,8 +36,8 @@ six-most s =
     (after-most sides_word s.sides 12 _ (last-most s.ordered)))))
 
 prints-most : (bs l : List ℕ) → Prints bs l → length l ≤ 101
-prints-most bs l (unread {n = n} e) = omega (arith, refused-most n)
-prints-most bs l (refusal {n = n} e s) = omega (arith, refused-most n)
+prints-most bs l (unread {why = why} e) = omega (arith, refused-most (number_of why))
+prints-most bs l (refusal {why = why} e s) = omega (arith, refused-most (number_of why))
 prints-most bs l (six {s = s} e t) = six-most s
 
 -- the text's length

@@ -1,3 +1,4 @@
 -- What the contracts of `bandsum_sums` cite.
 pub mod Promise
 pub mod Work
+pub mod Says

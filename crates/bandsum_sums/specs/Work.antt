@@ -1,17 +1,18 @@
 -- What the inner functions ask and give. Assumes nothing.
+use Rattle.refusal.specs.declared.Refusal.{Refusal}
+use Rattle.refusal.specs.declared.Refusal.TheVariants.{CrowdedFacet}
+use Rattle.refusal.specs.Says.{fine}
+use Rattle.std.specs.Prelude.{Err, Ok, Result}
 use Rattle.std.specs.Prelude.{Bool, List, ◌≡◌, ℕ, suc, ◌*◌, ◌≤◌, length, take}
-use Rattle.refusal.specs.declared.Answer.TheVariants as Answer
 use Rattle.refusal.specs.Limits.{band_dimension, band_cells}
-use Rattle.refusal.specs.Table.{crowded_facet}
 use Rattle.complex.specs.Facets.{Crowded}
 use Rattle.orientation.specs.declared.Coherence.{Coherence}
-use Rattle.orientation.specs.declared.Coherence.TheVariants as Coherence
 use Rattle.quotient.specs.declared.Grid.{Grid}
 use Rattle.quotient.specs.Shape.{check_of}
 use Rattle.grid_words.specs.Cells.{flat_words}
 use Rattle.grid_mesh.specs.Words.{glued_cells}
 use Rattle.grid_order.specs.declared.Triangulated.{Triangulated}
-use Rattle.grid_order.specs.declared.Triangulated.TheVariants.{Ordered, Unordered, Refused}
+use Rattle.grid_order.specs.declared.Triangulated.TheVariants.{Ordered, Unordered}
 use Rattle.grid_order.specs.Promise.{HandsOut}
 use Rattle.bandsum_lines.specs.declared.Summary.{Summary}
 use Rattle.bandsum_sums.specs.Promise.{Sound, SidesOf, summary_of}
@@ -29,17 +30,17 @@ abbrev pub band_recorded : ℕ
 band_recorded = band_corners * 5
 
 -- the sides, by what `orientation` says
-abbrev pub sides_as : Coherence → ℕ
-sides_as (Coherence.Signs cells looks) = 2
-sides_as (Coherence.OneSided looks) = 1
-sides_as (Coherence.Refused n p) = 0
+abbrev pub sides_as : Result Coherence Refusal → ℕ
+sides_as (Ok (Coherence.Signs cells looks)) = 2
+sides_as (Ok (Coherence.OneSided looks)) = 1
+sides_as (Err why) = 0
 
 -- what `triangulate_ordered` says where every list is long enough
-pub data Triangulates (g : Grid) : Triangulated → Type 0 where
-  refused : {n p : ℕ} → check_of g ≡ Answer.Refused n p → Triangulates g (Refused n p)
-  crowded : check_of g ≡ Answer.Fine → Crowded g.d (glued_cells g) → Triangulates g (Refused crowded_facet 0)
-  ordered : Sound g → HandsOut g → Triangulates g (Ordered (length (glued_cells g)))
-  unordered : Sound g → (HandsOut g → ⊥) → Triangulates g (Unordered (length (glued_cells g)))
+pub data Triangulates (g : Grid) : Result Triangulated Refusal → Type 0 where
+  refused : {why : Refusal} → check_of g ≡ Err why → Triangulates g (Err why)
+  crowded : check_of g ≡ fine → Crowded g.d (glued_cells g) → Triangulates g (Err CrowdedFacet)
+  ordered : Sound g → HandsOut g → Triangulates g (Ok (Ordered (length (glued_cells g))))
+  unordered : Sound g → (HandsOut g → ⊥) → Triangulates g (Ok (Unordered (length (glued_cells g))))
 
 -- a list that holds the words of any grid
 pub record Fitting (g : Grid) (words : List ℕ) : Type 0 where

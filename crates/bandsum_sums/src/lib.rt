@@ -6,20 +6,19 @@
 #![tactic(auto)]
 
 ghost use Rattle.std.specs.Prelude.{◌≡◌, length};
-ghost use Rattle.refusal.specs.declared.Answer.TheVariants.{Fine};
+ghost use Rattle.refusal.specs.Says.{fine};
 ghost use Rattle.refusal.specs.Told.{count_of};
 ghost use Rattle.complex.specs.Skeleton.{edges_of, border_of};
 ghost use Rattle.quotient.specs.Shape.{check_of, vertices_of};
 ghost use Rattle.grid_mesh.specs.Words.{glued_cells};
 ghost use Rattle.bandsum_sums.specs.Promise.{SidesOf, SumsOf, Printed};
-ghost use Rattle.bandsum_sums.specs.Work.{Triangulates, Fitting, Glued, HasWords, HasCells, Tells};
+ghost use Rattle.bandsum_sums.specs.Work.{sides_as, Triangulates, Fitting, Glued, HasWords, HasCells, Tells};
 
-use bandsum_line::Line;
 use bandsum_lines::Summary;
 use grid_order::Triangulated;
 use orientation::Coherence;
 use quotient::Grid;
-use refusal::Counted;
+use refusal::Refusal;
 use text::Text;
 
 // Bandsum's own limits: the same numbers as `band_dimension` and `band_cells`.
@@ -39,25 +38,15 @@ pub const EDGE_KEYS: usize = 2 * LISTED;
 // The keys of the facets' records.
 pub const RECORD_KEYS: usize = 5 * CORNERS;
 
-// What is told of a grid, or the refusal with its number and place.
-#[derive(Clone, Copy)]
-pub enum Sum {
-    Told(Summary),
-    Refused(u32, u32),
-}
-
 // The number that is counted.
-fn number(said: Counted) -> u32
+fn number(said: Result<u32, Refusal>) -> u32
     ensures { result ≡ count_of said }
 {
-    match said {
-        Counted::Count(n) => n,
-        Counted::Refused(_, _) => 0,
-    }
+    said.unwrap_or(0)
 }
 
 // How many cells the grid has, and whether an order of them is handed out; 1, 9, 8, 3, 6 and 7 are refused.
-fn triangulated(grid: Grid) -> Triangulated
+fn triangulated(grid: Grid) -> Result<Triangulated, Refusal>
     ensures { Triangulates grid result }
 {
     let mut cells = [0u32; CORNERS];
@@ -136,10 +125,21 @@ fn border(grid: Grid, words: &[u32]) -> u32
 
 // How many vertices the grid has.
 fn vertices(grid: Grid) -> u32
-    requires { check_of grid ≡ Fine }
+    requires { check_of grid ≡ fine }
     ensures { result ≡ vertices_of grid }
 {
     number(grid.nvertices())
+}
+
+// The sides, by what is said of the signs: 2 with signs, 1 where there are none.
+fn by_signs(said: Result<Coherence, Refusal>) -> u32
+    ensures { result ≡ sides_as said }
+{
+    match said {
+        Ok(Coherence::Signs(_, _)) => 2,
+        Ok(Coherence::OneSided(_)) => 1,
+        Err(_) => 0,
+    }
 }
 
 // 2 where coherent signs of the grid's cells exist, else 1.
@@ -161,11 +161,7 @@ fn sides(grid: Grid, words: &[u32]) -> u32
         &mut spare,
         &mut counts,
     );
-    match said {
-        Coherence::Signs(_, _) => 2,
-        Coherence::OneSided(_) => 1,
-        Coherence::Refused(_, _) => 0,
-    }
+    by_signs(said)
 }
 
 // The six things of a grid with as many cells, and an order or none.
@@ -189,14 +185,12 @@ fn told(grid: Grid, cells: u32, ordered: bool) -> Summary
 }
 
 // The six things of a grid: its glued cells, vertices and edges, the facets in one cell, its sides, and whether an order is handed out. Refused: 1, 9, 8, 3, 6, 7.
-pub fn sums(grid: Grid) -> Sum
+pub fn sums(grid: Grid) -> Result<Summary, Refusal>
     ensures { SumsOf grid result }
 {
-    let said = triangulated(grid);
-    match said {
-        Triangulated::Refused(number, place) => Sum::Refused(number, place),
-        Triangulated::Ordered(cells) => Sum::Told(told(grid, cells, true)),
-        Triangulated::Unordered(cells) => Sum::Told(told(grid, cells, false)),
+    match triangulated(grid)? {
+        Triangulated::Ordered(cells) => Ok(told(grid, cells, true)),
+        Triangulated::Unordered(cells) => Ok(told(grid, cells, false)),
     }
 }
 
@@ -204,15 +198,11 @@ pub fn sums(grid: Grid) -> Sum
 pub fn printed(bytes: &[u8]) -> Text
     ensures { Printed bytes.now result }
 {
-    let line = bandsum_line::read(bytes);
-    match line {
-        Line::Refused(number, _) => bandsum_lines::refused(number),
-        Line::Taken(grid) => {
-            let said = sums(grid);
-            match said {
-                Sum::Refused(number, _) => bandsum_lines::refused(number),
-                Sum::Told(told) => bandsum_lines::lines(told),
-            }
-        }
+    match bandsum_line::read(bytes) {
+        Err(unread) => bandsum_lines::refused(unread.number()),
+        Ok(grid) => match sums(grid) {
+            Err(why) => bandsum_lines::refused(why.number()),
+            Ok(told) => bandsum_lines::lines(told),
+        },
     }
 }

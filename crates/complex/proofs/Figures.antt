@@ -1,46 +1,48 @@
 -- Document 01's figures for the check of a cell list, computed. Assumes nothing.
+use Rattle.refusal.specs.declared.Refusal.TheVariants.{BadDimension, RaggedWords, TooManyVertices, UnusedNumber, VertexTwice}
+use Rattle.refusal.specs.Says.{fine}
+use Rattle.std.specs.Prelude.{Err}
 use mathlib.Core.Path.{◌≡◌, refl}
 use mathlib.Core.List.{[], ◌∷◌}
-use Rattle.refusal.specs.declared.Answer.TheVariants.{Fine, Refused}
 use Rattle.lists.specs.Words.{among, has_repeat, largest_of, found_at, first_where}
 use Rattle.lists.specs.Rows.{cut}
 use Rattle.complex.specs.Cells.{decides, comes_before, placed, place, in_order, cells_of}
 use Rattle.complex.specs.Check.{answer_of}
 use Rattle.multiindex.specs.Sort.{insert_by, insert, sort_word, add_if, smaller, inversions}
 
-triangle : answer_of 2 (0 ∷ 1 ∷ 2 ∷ []) ≡ Fine
+triangle : answer_of 2 (0 ∷ 1 ∷ 2 ∷ []) ≡ fine
 unfolding answer_of among has_repeat largest_of found_at first_where
 triangle = refl
 
-dimension : answer_of 4 [] ≡ Refused 1 0
+dimension : answer_of 4 [] ≡ Err BadDimension
 unfolding answer_of
 dimension = refl
 
-empty : answer_of 2 [] ≡ Refused 2 0
+empty : answer_of 2 [] ≡ Err RaggedWords
 unfolding answer_of
 empty = refl
 
-ragged : answer_of 2 (0 ∷ 1 ∷ []) ≡ Refused 2 0
+ragged : answer_of 2 (0 ∷ 1 ∷ []) ≡ Err RaggedWords
 unfolding answer_of
 ragged = refl
 
 -- words 0,0,1: 4
-twice : answer_of 2 (0 ∷ 0 ∷ 1 ∷ []) ≡ Refused 4 0
+twice : answer_of 2 (0 ∷ 0 ∷ 1 ∷ []) ≡ Err (VertexTwice 0)
 unfolding answer_of among has_repeat largest_of found_at first_where
 twice = refl
 
 -- the second word is the first that names a vertex twice
-second : answer_of 1 (0 ∷ 9999 ∷ 1 ∷ 1 ∷ 2 ∷ 2 ∷ []) ≡ Refused 4 1
+second : answer_of 1 (0 ∷ 9999 ∷ 1 ∷ 1 ∷ 2 ∷ 2 ∷ []) ≡ Err (VertexTwice 1)
 unfolding answer_of among has_repeat largest_of found_at first_where
 second = refl
 
 -- 6 comes before 5
-high : answer_of 1 (7 ∷ 4096 ∷ []) ≡ Refused 6 0
+high : answer_of 1 (7 ∷ 4096 ∷ []) ≡ Err TooManyVertices
 unfolding answer_of among has_repeat largest_of found_at first_where
 high = refl
 
 -- words 0,1,3 alone: 5
-unused : answer_of 2 (0 ∷ 1 ∷ 3 ∷ []) ≡ Refused 5 2
+unused : answer_of 2 (0 ∷ 1 ∷ 3 ∷ []) ≡ Err (UnusedNumber 2)
 unfolding answer_of among has_repeat largest_of found_at first_where
 unused = refl
 

@@ -1,10 +1,9 @@
 -- What the check of a cell list answers, as document 01's table and its order of checks have it. Assumes nothing.
+use Rattle.refusal.specs.declared.Refusal.TheVariants.{BadDimension, RaggedWords, TooManyCells, TooManyVertices, UnusedNumber, VertexTwice}
+use Rattle.refusal.specs.Says.{Answer, fine}
 use Rattle.std.specs.Prelude.{◌≡◌, ℕ, ◌+◌, ◌/◌, ◌%◌, ◌≤◌, ◌<◌, true, false, not, List, length, eqb, leb, ltb}
-use Rattle.refusal.specs.declared.Answer.{Answer}
-use Rattle.refusal.specs.declared.Answer.TheVariants.{Fine}
 use Rattle.refusal.specs.Refuse.{refuse}
 use Rattle.refusal.specs.Limits.{most_dimension, most_cells, most_vertices}
-use Rattle.refusal.specs.Table.{bad_dimension, ragged_words, too_many_cells, vertex_twice, unused_number, too_many_vertices}
 use Rattle.lists.specs.Rows.{row}
 use Rattle.lists.specs.Words.{among, has_repeat, largest_of, first_where}
 
@@ -21,16 +20,16 @@ unfoldable pub answer_of : ℕ → List ℕ → Answer
 answer_of d ws =
     let n = d + 1 in
     let count = length ws / n in
-    refuse (ltb most_dimension d) bad_dimension 0
-    (refuse (eqb (length ws) 0) ragged_words 0
-    (refuse (not (eqb (length ws % n) 0)) ragged_words 0
-    (refuse (ltb most_cells count) too_many_cells 0
-    (refuse (ltb (first_repeat n ws count) count) vertex_twice (first_repeat n ws count)
-    (refuse (leb most_vertices (largest_of ws)) too_many_vertices 0
-    (refuse (ltb (least_unused ws) (largest_of ws)) unused_number (least_unused ws)
-    Fine))))))
+    refuse (ltb most_dimension d) BadDimension
+    (refuse (eqb (length ws) 0) RaggedWords
+    (refuse (not (eqb (length ws % n) 0)) RaggedWords
+    (refuse (ltb most_cells count) TooManyCells
+    (refuse (ltb (first_repeat n ws count) count) (VertexTwice (first_repeat n ws count))
+    (refuse (leb most_vertices (largest_of ws)) TooManyVertices
+    (refuse (ltb (least_unused ws) (largest_of ws)) (UnusedNumber (least_unused ws))
+    fine))))))
 
--- what the answer Fine tells of a list: none of the six refusals applies
+-- what the answer fine tells of a list: none of the six refusals applies
 pub record Passed (d : ℕ) (ws : List ℕ) : Type 0 where
   pub small : d ≤ most_dimension
   pub some_words : length ws ≡ 0 → ⊥

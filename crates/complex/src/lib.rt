@@ -4,44 +4,23 @@
 
 ghost use Rattle.std.specs.Prelude.{◌≡◌, ℕ, ◌+◌, ◌*◌, ◌<◌, ◌≤◌, length, get_or, eqb};
 ghost use Rattle.refusal.specs.Limits.{most_dimension, most_vertices, many_corners};
-ghost use Rattle.lists.specs.Words.{among, has_repeat, largest_of, first_where, marked};
+ghost use Rattle.lists.specs.Words.{has_repeat, largest_of, first_where, marked};
 ghost use Rattle.complex.specs.Check.{first_repeat, answer_of};
 ghost use Rattle.complex.specs.Room.{key_room, need_of};
 
 use lists::largest;
-use refusal::{
-    Answer, BAD_DIMENSION, MOST_CELLS, MOST_DIMENSION, MOST_VERTICES, RAGGED_WORDS, Room,
-    TOO_MANY_CELLS, TOO_MANY_VERTICES, UNUSED_NUMBER, VERTEX_TWICE,
-};
+use refusal::{MOST_CELLS, MOST_DIMENSION, MOST_VERTICES, Refusal, Room};
 
 const LAST_VERTEX: u32 = MOST_VERTICES as u32 - 1;
-
-// Whether v is among the numbers.
-pub(crate) fn holds(ws: &[u32], v: u32) -> bool
-    ensures { result ≡ among v ws.now }
-{
-    let mut i = 0;
-    while i < ws.len() {
-        if ws[i] == v {
-            return true;
-        }
-        i += 1;
-    }
-    false
-}
 
 // Whether a word names a vertex twice.
 fn repeats(w: &[u32]) -> bool
     ensures { result ≡ has_repeat w.now }
 {
-    let mut i = 0;
-    while i < w.len() {
-        let v = w[i];
-        let next = i + 1;
-        if holds(&w[next..], v) {
+    for (i, v) in w.iter().enumerate() {
+        if w[i + 1..].contains(v) {
             return true;
         }
-        i = next;
     }
     false
 }
@@ -51,14 +30,11 @@ fn first_repeat(ws: &[u32], n: usize, count: usize) -> usize
     requires { count * n ≤ length ws.now }
     ensures { result ≡ first_repeat n ws.now count }
 {
-    let mut k = 0;
-    while k < count {
+    for k in 0..count {
         let at = k * n;
-        let end = at + n;
-        if repeats(&ws[at..end]) {
+        if repeats(&ws[at..at + n]) {
             return k;
         }
-        k += 1;
     }
     count
 }
@@ -68,11 +44,8 @@ fn mark(ws: &[u32], seen: &mut [u8; MOST_VERTICES])
     requires { largest_of ws.now < most_vertices }
     ensures { seen.new ≡ marked seen.old ws.now }
 {
-    let mut i = 0;
-    while i < ws.len() {
-        let v = ws[i] as usize;
-        seen[v] = 1;
-        i += 1;
+    for &v in ws {
+        seen[v as usize] = 1;
     }
 }
 
@@ -81,51 +54,47 @@ fn least_unmarked(seen: &[u8; MOST_VERTICES], top: u32) -> u32
     requires { top < most_vertices }
     ensures { result ≡ first_where (λ v. eqb (get_or seen.now v 0) 0) top }
 {
-    let mut v: u32 = 0;
-    while v < top {
-        let at = v as usize;
-        if seen[at] == 0 {
-            return v;
-        }
-        v += 1;
-    }
-    top
+    let end = top as usize;
+    seen[..end]
+        .iter()
+        .position(|mark| *mark == 0)
+        .unwrap_or(end) as u32
 }
 
 // Checks a list of cells of dimension d: document 01's refusals 1, 2, 3, 4, 6 and 5, in this order.
-pub fn check_cells(d: u32, words: &[u32]) -> Answer
+pub fn check_cells(d: u32, words: &[u32]) -> Result<(), Refusal>
     ensures { result ≡ answer_of d words.now }
 {
     if MOST_DIMENSION < d {
-        return Answer::Refused(BAD_DIMENSION, 0);
+        return Err(Refusal::BadDimension);
     }
     let n = d as usize + 1;
     let len = words.len();
     if len == 0 {
-        return Answer::Refused(RAGGED_WORDS, 0);
+        return Err(Refusal::RaggedWords);
     }
     if len % n != 0 {
-        return Answer::Refused(RAGGED_WORDS, 0);
+        return Err(Refusal::RaggedWords);
     }
     let count = len / n;
     if MOST_CELLS < count {
-        return Answer::Refused(TOO_MANY_CELLS, 0);
+        return Err(Refusal::TooManyCells);
     }
     let first = first_repeat(words, n, count);
     if first < count {
-        return Answer::Refused(VERTEX_TWICE, first as u32);
+        return Err(Refusal::VertexTwice(first as u32));
     }
     let top = largest(words);
     if LAST_VERTEX < top {
-        return Answer::Refused(TOO_MANY_VERTICES, 0);
+        return Err(Refusal::TooManyVertices);
     }
     let mut seen = [0u8; MOST_VERTICES];
     mark(words, &mut seen);
     let gap = least_unmarked(&seen, top);
     if gap < top {
-        return Answer::Refused(UNUSED_NUMBER, gap);
+        return Err(Refusal::UnusedNumber(gap));
     }
-    Answer::Fine
+    Ok(())
 }
 
 // How many numbers the facet rows of words with len corners need for their keys.

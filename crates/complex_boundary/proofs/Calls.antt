@@ -1,13 +1,13 @@
 -- Over what the calls hand out: the boundary of a boundary is zero. Assumes nothing.
+use Rattle.refusal.specs.declared.Refusal.{Refusal}
+use Rattle.refusal.specs.Says.{Counted}
+use Rattle.std.specs.Prelude.{Err, Ok}
 use mathlib.Core.List.{List, []}
 use mathlib.Core.Path.{◌≡◌, refl, ap, ◌∙◌}
 use Prim.Native.Nat.{ℕ, suc, ◌≤◌}
-use native.Mathlib.Omega.{arith}
 use lib.ListN.{length, take, drop, length-map}
 use lib.Seq.{take_at}
 use lib.IntN.{ℤ, pos}
-use Rattle.refusal.specs.declared.Counted.{Counted}
-use Rattle.refusal.specs.declared.Counted.TheVariants.{Count, Refused}
 use Rattle.refusal.specs.declared.Room.{Room}
 use Rattle.refusal.specs.Call.{Comes, refused, cramped, ended}
 use Rattle.refusal.specs.Lent.{onto}
@@ -19,12 +19,12 @@ use Rattle.complex_faces.specs.Entries.{Entry, entries_of, entries_from, signs_i
 use Rattle.complex_faces.proofs.Twice.{boundary-twice-handed}
 use Rattle.complex_boundary.specs.Promise.{Within, outside, inside, GivesEntries, signs_short, faces_short, cofaces_short, entries_listed, Bounded}
 
-clash : {A : Type 0} {a b n : ℕ} → Refused a b ≡ Count n → A
-clash e = let z : ◌≡◌ {A = ℕ} 0 1 = cc in absurd (omega arith)
+clash : {A : Type 0} {why : Refusal} {n : ℕ} → ◌≡◌ {A = Counted} (Err why) (Ok n) → A
+clash e = cc
 
 -- a call that says a count has handed out the entries, and the count is theirs
 module _ (d : ℕ) (ws : List ℕ) (need have : Room) (There : Type 0) (es : List Entry) (a b c : ℕ) where
-  counted : (r : Counted) (h : List ℤ × List ℕ × List ℕ) (used : Room) → Comes Refused ([], [], []) (answer_of d ws) need have (Ends ([], [], []) d (cells_of d ws) (Within ([], [], []) There (GivesEntries es a b c))) r h used → (n : ℕ) → r ≡ Count n → (h ≡ (signs_in es, faces_in es, cofaces_in es)) × (length es ≡ n)
+  counted : (r : Counted) (h : List ℤ × List ℕ × List ℕ) (used : Room) → Comes Err ([], [], []) (answer_of d ws) need have (Ends ([], [], []) d (cells_of d ws) (Within ([], [], []) There (GivesEntries es a b c))) r h used → (n : ℕ) → r ≡ Ok n → (h ≡ (signs_in es, faces_in es, cofaces_in es)) × (length es ≡ n)
   counted r h used (refused e) n q = clash q
   counted r h used (cramped e f) n q = clash q
   counted r h used (ended e f (crowded x)) n q = clash q
@@ -34,7 +34,7 @@ module _ (d : ℕ) (ws : List ℕ) (need have : Room) (There : Type 0) (es : Lis
   counted r h used (ended e f (rest x (inside y (cofaces_short z)))) n q = clash q
   counted r h used (ended e f (rest x (inside y (entries_listed u v w)))) n q = (refl, same q)
     where
-      same : Count (length es) ≡ Count n → length es ≡ n
+      same : ◌≡◌ {A = Counted} (Ok (length es)) (Ok n) → length es ≡ n
       same q = cc
 
 -- the front of a result list is what was handed out
@@ -47,10 +47,10 @@ pub record Said (d k : ℕ) (ws : List ℕ) (n : ℕ) (signs' : List ℤ) (faces
   pub faces_are : take n faces' ≡ faces_in (entries_of (cells_of d ws) k)
   pub cofaces_are : take n cofaces' ≡ cofaces_in (entries_of (cells_of d ws) k)
 
-pub boundary-said : (d k : ℕ) (ws : List ℕ) (n : ℕ) (signs signs' : List ℤ) (faces faces' cofaces cofaces' keys keys' rows rows' spare spare' counts counts' : List ℕ) → Bounded d k ws (Count n) signs signs' faces faces' cofaces cofaces' keys keys' rows rows' spare spare' counts counts' → Said d k ws n signs' faces' cofaces'
+pub boundary-said : (d k : ℕ) (ws : List ℕ) (n : ℕ) (signs signs' : List ℤ) (faces faces' cofaces cofaces' keys keys' rows rows' spare spare' counts counts' : List ℕ) → Bounded d k ws (Ok n) signs signs' faces faces' cofaces cofaces' keys keys' rows rows' spare spare' counts counts' → Said d k ws n signs' faces' cofaces'
 boundary-said d k ws n signs signs' faces faces' cofaces cofaces' keys keys' rows rows' spare spare' counts counts' a =
     let es = entries_of (cells_of d ws) k in
-    let w = counted d ws _ _ ((1 ≤ k) × (k ≤ d)) (entries_of (cells_of d ws) k) (length signs) (length faces) (length cofaces) (Count n) a.handed a.call.used a.call.comes n refl in
+    let w = counted d ws _ _ ((1 ≤ k) × (k ≤ d)) (entries_of (cells_of d ws) k) (length signs) (length faces) (length cofaces) (Ok n) a.handed a.call.used a.call.comes n refl in
     record {
       signs_are = front (signs_in (entries_of (cells_of d ws) k)) signs signs' n (length-map (entries_of (cells_of d ws) k) (λ (e : Entry). e.sign) ∙ w.1) (a.signs_are ∙ ap (λ (h : List ℤ × List ℕ × List ℕ). onto h.0 signs) w.0);
       faces_are = front (faces_in (entries_of (cells_of d ws) k)) faces faces' n (length-map (entries_of (cells_of d ws) k) (λ (e : Entry). e.face) ∙ w.1) (a.faces_are ∙ ap (λ (h : List ℤ × List ℕ × List ℕ). onto h.1 faces) w.0);

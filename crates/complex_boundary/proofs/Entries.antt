@@ -1,4 +1,7 @@
 -- The entries of the boundary operator, from the facets of the faces. Assumes nothing.
+use Rattle.refusal.specs.declared.Refusal.TheVariants.{BadFaces, CrowdedFacet, TooShort}
+use Rattle.refusal.specs.Says.{Counted}
+use Rattle.std.specs.Prelude.{Err, Ok}
 use mathlib.Core.Bool.{Bool, true, false}
 use mathlib.Core.List.{List, [], ◌∷◌, ◌++◌, map, map-append, append-nil, append_assoc}
 use mathlib.Core.Path.{◌≡◌, refl, sym, ap, ◌∙◌, subst}
@@ -9,9 +12,6 @@ use native.Mathlib.Omega.{arith}
 use lib.ListN.{length, get_or, drop, set, length-map}
 use lib.Seq.{drop-cons, set_at, append_snoc}
 use lib.IntN.{ℤ, pos, negsuc}
-use Rattle.refusal.specs.declared.Counted.{Counted}
-use Rattle.refusal.specs.declared.Counted.TheVariants.{Count, Refused}
-use Rattle.refusal.specs.Table.{crowded_facet, too_short}
 use Rattle.lists.specs.Tables.{tab}
 use Rattle.lists.proofs.Tables.{length-tab, tab-ext, tab-more}
 use Rattle.lists.specs.Rows.{cut}
@@ -152,23 +152,23 @@ module _ (k f : ℕ) (ids : List ℕ) (es : List Entry) (a : EntryLists k f ids 
   cofaces-many = length-map es (λ (e : Entry). e.coface) ∙ many
 
   module _ (signs : List ℤ) (faces cofaces : List ℕ) where
-    pub few-signs : length signs < f * (k + 1) → EntriesHanded es (Refused too_short 0) signs signs faces faces cofaces cofaces
+    pub few-signs : length signs < f * (k + 1) → EntriesHanded es (Err TooShort) signs signs faces faces cofaces cofaces
     few-signs h = record { handed = ([], [], []); gives = signs_short (omega (arith, many)); signs_are = refl; faces_are = refl; cofaces_are = refl }
 
-    pub few-faces : length faces < f * (k + 1) → EntriesHanded es (Refused too_short 0) signs signs faces faces cofaces cofaces
+    pub few-faces : length faces < f * (k + 1) → EntriesHanded es (Err TooShort) signs signs faces faces cofaces cofaces
     few-faces h = record { handed = ([], [], []); gives = faces_short (omega (arith, many)); signs_are = refl; faces_are = refl; cofaces_are = refl }
 
-    pub few-cofaces : length cofaces < f * (k + 1) → EntriesHanded es (Refused too_short 0) signs signs faces faces cofaces cofaces
+    pub few-cofaces : length cofaces < f * (k + 1) → EntriesHanded es (Err TooShort) signs signs faces faces cofaces cofaces
     few-cofaces h = record { handed = ([], [], []); gives = cofaces_short (omega (arith, many)); signs_are = refl; faces_are = refl; cofaces_are = refl }
 
     pub all-handed : (signs' : List ℤ) (faces' cofaces' : List ℕ) → f * (k + 1) ≤ length signs → f * (k + 1) ≤ length faces → f * (k + 1) ≤ length cofaces →
         signs' ≡ tab (f * (k + 1)) (λ x. sign_number (induced (x % (k + 1)))) ++ drop (f * (k + 1)) signs →
         faces' ≡ tab (f * (k + 1)) (λ x. get_or ids (x / (k + 1) * (k + 1) + (k - x % (k + 1))) 0) ++ drop (f * (k + 1)) faces →
-        cofaces' ≡ tab (f * (k + 1)) (λ x. x / (k + 1)) ++ drop (f * (k + 1)) cofaces → EntriesHanded es (Count (f * (k + 1))) signs signs' faces faces' cofaces cofaces'
+        cofaces' ≡ tab (f * (k + 1)) (λ x. x / (k + 1)) ++ drop (f * (k + 1)) cofaces → EntriesHanded es (Ok (f * (k + 1))) signs signs' faces faces' cofaces cofaces'
     all-handed signs' faces' cofaces' h i j p q r =
         record {
           handed = (signs_in es, faces_in es, cofaces_in es);
-          gives = subst (λ (z : ℕ). GivesEntries es (length signs) (length faces) (length cofaces) (Count z) (signs_in es, faces_in es, cofaces_in es)) many (entries_listed (omega (arith, many)) (omega (arith, many)) (omega (arith, many)));
+          gives = subst (λ (z : ℕ). GivesEntries es (length signs) (length faces) (length cofaces) (Ok z) (signs_in es, faces_in es, cofaces_in es)) many (entries_listed (omega (arith, many)) (omega (arith, many)) (omega (arith, many)));
           signs_are = p ∙ ap (λ (z : List ℤ). z ++ drop (f * (k + 1)) signs) (sym a.signs_are) ∙ ap (λ (z : ℕ). signs_in es ++ drop z signs) (sym signs-many);
           faces_are = q ∙ ap (λ (z : List ℕ). z ++ drop (f * (k + 1)) faces) (sym a.faces_are) ∙ ap (λ (z : ℕ). faces_in es ++ drop z faces) (sym faces-many);
           cofaces_are = r ∙ ap (λ (z : List ℕ). z ++ drop (f * (k + 1)) cofaces) (sym a.cofaces_are) ∙ ap (λ (z : ℕ). cofaces_in es ++ drop z cofaces) (sym cofaces-many);
@@ -176,10 +176,10 @@ module _ (k f : ℕ) (ids : List ℕ) (es : List Entry) (a : EntryLists k f ids 
 
 -- ---- after 7
 module _ (d k : ℕ) (ws : List ℕ) (ok : Bool) (s : Sound d ws ok) (signs : List ℤ) (faces cofaces : List ℕ) where
-  pub entries-crowded : ok ≡ false → EntriesWorked d k ws (Refused crowded_facet 0) signs signs faces faces cofaces cofaces
+  pub entries-crowded : ok ≡ false → EntriesWorked d k ws (Err CrowdedFacet) signs signs faces faces cofaces cofaces
   entries-crowded e = record { handed = ([], [], []); ends = crowded (s.no e); signs_are = refl; faces_are = refl; cofaces_are = refl }
 
-  pub entries-outside : ok ≡ true → ((1 ≤ k) × (k ≤ d) → ⊥) → EntriesWorked d k ws (Refused 24 0) signs signs faces faces cofaces cofaces
+  pub entries-outside : ok ≡ true → ((1 ≤ k) × (k ≤ d) → ⊥) → EntriesWorked d k ws (Err BadFaces) signs signs faces faces cofaces cofaces
   entries-outside e h = record { handed = ([], [], []); ends = rest (s.yes e) (outside h); signs_are = refl; faces_are = refl; cofaces_are = refl }
 
   pub entries-rest : (r : Counted) (signs' : List ℤ) (faces' cofaces' : List ℕ) → ok ≡ true → 1 ≤ k → k ≤ d → EntriesHanded (entries_of (cells_of d ws) k) r signs signs' faces faces' cofaces cofaces' → EntriesWorked d k ws r signs signs' faces faces' cofaces cofaces'

@@ -1,16 +1,16 @@
 -- The steps of the calls: what each inner call asks follows from what the calls before it gave. Assumes nothing.
+use Rattle.refusal.specs.declared.Refusal.TheVariants.{BadFaces, CrowdedFacet}
+use Rattle.refusal.specs.Says.{Counted}
+use Rattle.std.specs.Prelude.{Err}
 use mathlib.Core.Bool.{Bool, true, false}
 use mathlib.Core.List.{List, []}
 use mathlib.Core.Path.{◌≡◌, refl, sym, ap, ◌∙◌, subst}
-use Prim.Native.Nat.{ℕ, suc, ◌+◌, ◌-◌, ◌*◌, ◌/◌, ◌<◌, ◌≤◌}
+use Prim.Native.Nat.{ℕ, suc, ◌+◌, ◌*◌, ◌/◌, ◌<◌, ◌≤◌}
 use native.Mathlib.Nat.{mul_comm, mul_assoc, mul-le-mul_left, mul-le-mul_right, le_of_mul-le-mul_right}
 use native.Mathlib.Numerals.{add-one}
 use native.Mathlib.Omega.{arith}
 use lib.ListN.{length, take}
-use Rattle.refusal.specs.declared.Counted.{Counted}
-use Rattle.refusal.specs.declared.Counted.TheVariants.{Refused}
 use Rattle.refusal.specs.Limits.{most_cells}
-use Rattle.refusal.specs.Table.{crowded_facet, bad_faces}
 use Rattle.lists.specs.Rows.{flat, cut, rows as rows_of_lem}
 use Rattle.lists.proofs.Flat.{flat-cut}
 use Rattle.complex.specs.Cells.{cells_of}
@@ -133,10 +133,10 @@ reached-flat d k ws f keys rows spare counts a = ap flat (sym a.same) ∙ flat-c
 
 -- ---- after 7
 module _ (d k : ℕ) (ws : List ℕ) (ok : Bool) (s : Sound d ws ok) where
-  pub faces-crowded : (out : List ℕ) → ok ≡ false → FacesWorked d k ws (Refused crowded_facet 0) out out
+  pub faces-crowded : (out : List ℕ) → ok ≡ false → FacesWorked d k ws (Err CrowdedFacet) out out
   faces-crowded out e = record { handed = []; ends = crowded (s.no e); result = refl }
 
-  pub faces-outside : (out : List ℕ) → ok ≡ true → d < k → FacesWorked d k ws (Refused bad_faces 0) out out
+  pub faces-outside : (out : List ℕ) → ok ≡ true → d < k → FacesWorked d k ws (Err BadFaces) out out
   faces-outside out e h = record { handed = []; ends = rest (s.yes e) (outside (λ l. omega arith)); result = refl }
 
   pub faces-rest : (r : Counted) (out out' : List ℕ) → ok ≡ true → k ≤ d → Handed (faces_of (cells_of d ws) k) r out out' → FacesWorked d k ws r out out'

@@ -1,8 +1,8 @@
 -- What the calls `faces` and `boundary` come to, on every input. Assumes nothing.
+use Rattle.refusal.specs.declared.Refusal.TheVariants.{BadFaces, TooShort}
+use Rattle.refusal.specs.Says.{Counted}
+use Rattle.std.specs.Prelude.{Err, Ok}
 use Rattle.std.specs.Prelude.{List, [], ◌≡◌, ℕ, ◌<◌, ◌≤◌, length, ℤ}
-use Rattle.refusal.specs.declared.Counted.{Counted}
-use Rattle.refusal.specs.declared.Counted.TheVariants.{Count, Refused}
-use Rattle.refusal.specs.Table.{too_short, bad_faces}
 use Rattle.refusal.specs.Lent.{onto}
 use Rattle.complex.specs.Cells.{cells_of}
 use Rattle.skeleton.specs.Promise.{Gives, Call}
@@ -12,7 +12,7 @@ use Rattle.complex_boundary.specs.Need.{face_need}
 
 -- 24, or `Rest` where the dimension is there
 pub data Within {H : Type 0} (nothing : H) (There : Type 0) (Rest : Counted → H → Type 0) : Counted → H → Type 0 where
-  outside : (There → ⊥) → Within nothing There Rest (Refused bad_faces 0) nothing
+  outside : (There → ⊥) → Within nothing There Rest (Err BadFaces) nothing
   inside : {r : Counted} {h : H} → There → Rest r h → Within nothing There Rest r h
 
 -- the promise of `faces`: r is what it says, and a list with ' is what it holds at exit
@@ -23,10 +23,10 @@ pub record Faced (d k : ℕ) (ws : List ℕ) (r : Counted) (out out' keys keys' 
 
 -- the entries are handed out as three lists, or 12 where one of them is too short
 pub data GivesEntries (es : List Entry) (given given' given'' : ℕ) : Counted → List ℤ × List ℕ × List ℕ → Type 0 where
-  signs_short : given < length es → GivesEntries es given given' given'' (Refused too_short 0) ([], [], [])
-  faces_short : given' < length es → GivesEntries es given given' given'' (Refused too_short 0) ([], [], [])
-  cofaces_short : given'' < length es → GivesEntries es given given' given'' (Refused too_short 0) ([], [], [])
-  entries_listed : length es ≤ given → length es ≤ given' → length es ≤ given'' → GivesEntries es given given' given'' (Count (length es)) (signs_in es, faces_in es, cofaces_in es)
+  signs_short : given < length es → GivesEntries es given given' given'' (Err TooShort) ([], [], [])
+  faces_short : given' < length es → GivesEntries es given given' given'' (Err TooShort) ([], [], [])
+  cofaces_short : given'' < length es → GivesEntries es given given' given'' (Err TooShort) ([], [], [])
+  entries_listed : length es ≤ given → length es ≤ given' → length es ≤ given'' → GivesEntries es given given' given'' (Ok (length es)) (signs_in es, faces_in es, cofaces_in es)
 
 -- the promise of `boundary`
 pub record Bounded (d k : ℕ) (ws : List ℕ) (r : Counted) (signs signs' : List ℤ) (faces faces' cofaces cofaces' keys keys' rows rows' spare spare' counts counts' : List ℕ) : Type 0 where

@@ -1,6 +1,6 @@
 -- What the inner functions ask of their lists and give. Assumes nothing.
+use Rattle.refusal.specs.Says.{Counted}
 use Rattle.std.specs.Prelude.{List, [], ◌≡◌, ℕ, suc, ◌+◌, ◌-◌, ◌*◌, ◌/◌, ◌%◌, ◌<◌, ◌≤◌, length, get_or, ℤ}
-use Rattle.refusal.specs.declared.Counted.{Counted}
 use Rattle.refusal.specs.Lent.{onto}
 use Rattle.lists.specs.Rows.{cut}
 use Rattle.lists.specs.Tables.{tab}

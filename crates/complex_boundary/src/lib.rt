@@ -20,7 +20,7 @@ ghost use Rattle.complex_boundary.specs.Need.{face_rows, face_keys, face_need};
 ghost use Rattle.complex_boundary.specs.Promise.{Faced, Bounded};
 ghost use Rattle.complex_boundary.specs.Work.{Reaching, Reached, FacesWorked, EntryLists, EntriesHanded, EntriesWorked};
 
-use refusal::{Answer, BAD_FACES, CROWDED_FACET, Counted, MOST_DIMENSION, Room, TOO_SHORT};
+use refusal::{MOST_DIMENSION, Refusal, Room};
 
 // What `face_rows` and `face_keys` give, for each dimension.
 const FACE_ROWS: [u8; MOST_DIMENSION as usize + 1] = [1, 2, 6, 12];
@@ -86,7 +86,7 @@ fn list_faces(
     rows: &mut [u32],
     spare: &mut [u32],
     counts: &mut [u32],
-) -> Counted
+) -> Result<u32, Refusal>
     requires { Reaching d k words.now keys.old rows.old spare.old counts.old }
     ensures { Handed (faces_of (cells_of d words.now) k) result out.old out.new }
 {
@@ -105,15 +105,15 @@ fn faces_work(
     rows: &mut [u32],
     spare: &mut [u32],
     counts: &mut [u32],
-) -> Counted
+) -> Result<u32, Refusal>
     requires { Working (face_need d (length words.now)) d words.now keys.old rows.old spare.old counts.old }
     ensures { FacesWorked d k words.now result out.old out.new }
 {
     if !skeleton::sound(d, words, keys, rows, spare, counts) {
-        return Counted::Refused(CROWDED_FACET, 0);
+        return Err(Refusal::CrowdedFacet);
     }
     if d < k {
-        return Counted::Refused(BAD_FACES, 0);
+        return Err(Refusal::BadFaces);
     }
     list_faces(d, k, words, out, keys, rows, spare, counts)
 }
@@ -128,7 +128,7 @@ fn faces_cleared(
     rows: &mut [u32],
     spare: &mut [u32],
     counts: &mut [u32],
-) -> Counted
+) -> Result<u32, Refusal>
     requires { Working (face_need d (length words.now)) d words.now keys.old rows.old spare.old counts.old }
     ensures work { FacesWorked d k words.now result out.old out.new }
     ensures room { AllZero keys.old keys.new rows.old rows.new spare.old spare.new counts.old
@@ -150,14 +150,11 @@ pub fn faces(
     rows: &mut [u32],
     spare: &mut [u32],
     counts: &mut [u32],
-) -> Counted
+) -> Result<u32, Refusal>
     ensures { Faced d k words.now result faces.old faces.new keys.old keys.new rows.old rows.new
         spare.old spare.new counts.old counts.new }
 {
-    let answer = complex::check_cells(d, words);
-    if let Answer::Refused(number, place) = answer {
-        return Counted::Refused(number, place);
-    }
+    complex::check_cells(d, words)?;
     let dim = d as usize;
     let need = need(dim, words.len());
     let have = Room {
@@ -167,7 +164,7 @@ pub fn faces(
         counts: counts.len(),
     };
     if !refusal::has_room(need, have) {
-        return Counted::Refused(TOO_SHORT, 0);
+        return Err(Refusal::TooShort);
     }
     let a = need.keys;
     let r = need.rows;
@@ -200,10 +197,8 @@ fn write_signs(n: usize, total: usize, signs: &mut [i32])
     requires { (0 < n) × (total ≤ length signs.old) }
     ensures { signs.new ≡ tab total (λ x. sign_number (induced (x % n))) ++ drop total signs.old }
 {
-    let mut x = 0;
-    while x < total {
+    for x in 0..total {
         signs[x] = sign_of(x % n);
-        x += 1;
     }
 }
 
@@ -214,11 +209,9 @@ fn write_faces(k: usize, m: usize, ids: &[u32], faces: &mut [u32])
 {
     let n = k + 1;
     let total = m * n;
-    let mut x = 0;
-    while x < total {
+    for x in 0..total {
         let at = x / n * n + (k - x % n);
         faces[x] = ids[at];
-        x += 1;
     }
 }
 
@@ -227,10 +220,8 @@ fn write_cofaces(n: usize, total: usize, cofaces: &mut [u32])
     requires { (0 < n) × (total < 4294967296) × (total ≤ length cofaces.old) }
     ensures { cofaces.new ≡ tab total (λ x. x / n) ++ drop total cofaces.old }
 {
-    let mut x = 0;
-    while x < total {
+    for x in 0..total {
         cofaces[x] = (x / n) as u32;
-        x += 1;
     }
 }
 
@@ -242,7 +233,7 @@ fn hand_entries(
     signs: &mut [i32],
     faces: &mut [u32],
     cofaces: &mut [u32],
-) -> Counted
+) -> Result<u32, Refusal>
     requires { (f * (k + 1) < 4294967295) × (k < 4294967295) × (f * (k + 1) ≤ length ids.now) }
     ensures { (es : List Entry) → EntryLists k f ids.now es → EntriesHanded es result signs.old signs.new faces.old
         faces.new cofaces.old cofaces.new }
@@ -250,18 +241,18 @@ fn hand_entries(
     let n = k + 1;
     let total = f * n;
     if signs.len() < total {
-        return Counted::Refused(TOO_SHORT, 0);
+        return Err(Refusal::TooShort);
     }
     if faces.len() < total {
-        return Counted::Refused(TOO_SHORT, 0);
+        return Err(Refusal::TooShort);
     }
     if cofaces.len() < total {
-        return Counted::Refused(TOO_SHORT, 0);
+        return Err(Refusal::TooShort);
     }
     write_signs(n, total, signs);
     write_faces(k, f, ids, faces);
     write_cofaces(n, total, cofaces);
-    Counted::Count(total as u32)
+    Ok(total as u32)
 }
 
 // Hands out the entries of the operator from dimension k to k - 1.
@@ -276,7 +267,7 @@ fn list_entries(
     rows: &mut [u32],
     spare: &mut [u32],
     counts: &mut [u32],
-) -> Counted
+) -> Result<u32, Refusal>
     requires { Reaching d k words.now keys.old rows.old spare.old counts.old × (1 ≤ k) }
     ensures { EntriesHanded (entries_of (cells_of d words.now) k) result signs.old signs.new faces.old faces.new
         cofaces.old cofaces.new }
@@ -298,19 +289,19 @@ fn entries_work(
     rows: &mut [u32],
     spare: &mut [u32],
     counts: &mut [u32],
-) -> Counted
+) -> Result<u32, Refusal>
     requires { Working (face_need d (length words.now)) d words.now keys.old rows.old spare.old counts.old }
     ensures { EntriesWorked d k words.now result signs.old signs.new faces.old faces.new cofaces.old
         cofaces.new }
 {
     if !skeleton::sound(d, words, keys, rows, spare, counts) {
-        return Counted::Refused(CROWDED_FACET, 0);
+        return Err(Refusal::CrowdedFacet);
     }
     if k < 1 {
-        return Counted::Refused(BAD_FACES, 0);
+        return Err(Refusal::BadFaces);
     }
     if d < k {
-        return Counted::Refused(BAD_FACES, 0);
+        return Err(Refusal::BadFaces);
     }
     list_entries(
         d, k, words, signs, faces, cofaces, keys, rows, spare, counts,
@@ -329,7 +320,7 @@ fn entries_cleared(
     rows: &mut [u32],
     spare: &mut [u32],
     counts: &mut [u32],
-) -> Counted
+) -> Result<u32, Refusal>
     requires { Working (face_need d (length words.now)) d words.now keys.old rows.old spare.old counts.old }
     ensures work { EntriesWorked d k words.now result signs.old signs.new faces.old faces.new cofaces.old
         cofaces.new }
@@ -356,15 +347,12 @@ pub fn boundary(
     rows: &mut [u32],
     spare: &mut [u32],
     counts: &mut [u32],
-) -> Counted
+) -> Result<u32, Refusal>
     ensures { Bounded d k words.now result signs.old signs.new faces.old faces.new cofaces.old
         cofaces.new keys.old keys.new rows.old rows.new spare.old spare.new
         counts.old counts.new }
 {
-    let answer = complex::check_cells(d, words);
-    if let Answer::Refused(number, place) = answer {
-        return Counted::Refused(number, place);
-    }
+    complex::check_cells(d, words)?;
     let dim = d as usize;
     let need = need(dim, words.len());
     let have = Room {
@@ -374,7 +362,7 @@ pub fn boundary(
         counts: counts.len(),
     };
     if !refusal::has_room(need, have) {
-        return Counted::Refused(TOO_SHORT, 0);
+        return Err(Refusal::TooShort);
     }
     let a = need.keys;
     let r = need.rows;

@@ -68,11 +68,9 @@ pub fn descend(
     requires { Descending d k m b keys.old rows.old spare.old counts.old }
     ensures { cut (suc k) result rows.new ≡ faces_of (cut (suc d) m rows.old) k }
 {
-    let mut e = d;
     let mut count = m;
-    while k < e {
-        count = lower(e, count, b, keys, rows, spare, counts);
-        e -= 1;
+    for e in (k..d).rev() {
+        count = lower(e + 1, count, b, keys, rows, spare, counts);
     }
     count
 }

@@ -1,4 +1,7 @@
--- What a call of `drop_cells` hands out: where it says Kept, the mesh that it was without the cells that go; and where nothing goes, the mesh itself. Assumes nothing.
+-- What a call of `drop_cells` hands out: where it is not refused, the mesh that it was without the cells that go; and where nothing goes, the mesh itself. Assumes nothing.
+use Rattle.complex_dropped.specs.Says.{Dropping, kept_of}
+use Rattle.refusal.specs.declared.Refusal.{Refusal}
+use Rattle.std.specs.Prelude.{Err, Ok}
 use mathlib.Core.List.{List, []}
 use mathlib.Core.Path.{◌≡◌, refl, sym, ap, ◌∙◌, subst}
 use Prim.Native.Nat.{ℕ, suc, ◌+◌, ◌*◌, ◌/◌, ◌≤◌, ◌<◌}
@@ -7,7 +10,6 @@ use native.Mathlib.Omega.{arith}
 use lib.ListN.{length, take}
 use lib.Seq.{take_at}
 use Rattle.sorting.proofs.Sorts.{length-upto}
-use Rattle.refusal.specs.declared.Answer.TheVariants as Answer
 use Rattle.refusal.specs.declared.Room.{Room}
 use Rattle.refusal.specs.Lent.{lengths, onto, Roomy}
 use Rattle.refusal.specs.Call.{Comes, refused, cramped, ended}
@@ -20,7 +22,6 @@ use Rattle.complex.specs.Cells.{cells_of}
 use Rattle.complex.specs.Facets.{Crowded}
 use Rattle.orientation_laws.proofs.Coherent.{coherent-yes}
 use Rattle.complex_dropped.specs.declared.Dropped.{Dropped}
-use Rattle.complex_dropped.specs.declared.Dropped.TheVariants.{Kept, Refused}
 use Rattle.complex_dropped.specs.Kept.{staying, kept_words, old_numbers, names_missing}
 use Rattle.complex_dropped.specs.Promise.{Lists, nothing, kept_lists, Fits, Present, Ends, crowded, missing, emptied, short, kept_all, DropCells}
 use Rattle.complex_dropped.specs.KeptMesh.{KeptMesh, Unchanged}
@@ -30,25 +31,27 @@ use Rattle.complex_dropped.proofs.Determined.{ends-one}
 
 -- what a call that handed out n words tells
 record Told (d : ℕ) (ws gone : List ℕ) (n v : ℕ) (l : Lists) : Type 0 where
-  fine : answer_of d ws ≡ Answer.Fine
+  fine : answer_of d ws ≡ Ok tt
   free : Crowded d (cells_of d ws) → ⊥
   some : length (staying d ws gone) ≡ 0 → ⊥
   words-many : n ≡ length (staying d ws gone)
   vertices-many : v ≡ length (old_numbers d ws gone)
   is : l ≡ kept_lists d ws gone
 
-other : {a b c e : ℕ} → Refused a b ≡ Kept c e → ⊥
-other p = let z : ◌≡◌ {A = ℕ} 0 1 = cc in omega arith
+other : {why : Refusal} {n v : ℕ} → ◌≡◌ {A = Dropping} (Err why) (kept_of n v) → ⊥
+other p = cc
 
 module _ (d : ℕ) (ws gone : List ℕ) (k o n v : ℕ) where
-  ends-told : (r : Dropped) (l : Lists) → answer_of d ws ≡ Answer.Fine → Ends d ws gone k o r l → r ≡ Kept n v → Told d ws gone n v l
+  ends-told : (r : Dropping) (l : Lists) → answer_of d ws ≡ Ok tt → Ends d ws gone k o r l → r ≡ kept_of n v → Told d ws gone n v l
   ends-told r l f (crowded x) q = absurd (other q)
   ends-told r l f (missing x e) q = absurd (other q)
   ends-told r l f (emptied x e) q = absurd (other q)
   ends-told r l f (short x s e) q = absurd (other q)
-  ends-told r l f (kept_all x s e) q = record { fine = f; free = x.uncrowded; some = s; words-many = cc; vertices-many = cc; is = refl }
+  ends-told r l f (kept_all x s e) q =
+      let same : ◌≡◌ {A = Dropped} (record { words = n; vertices = v }) (record { words = length (staying d ws gone); vertices = length (old_numbers d ws gone) }) = cc in
+      record { fine = f; free = x.uncrowded; some = s; words-many = ap (λ (t : Dropped). t.words) same; vertices-many = ap (λ (t : Dropped). t.vertices) same; is = refl }
 
-  comes-told : (need have : Room) (r : Dropped) (l : Lists) (u : Room) → Comes Refused nothing (answer_of d ws) need have (Ends d ws gone k o) r l u → r ≡ Kept n v → Told d ws gone n v l
+  comes-told : (need have : Room) (r : Dropping) (l : Lists) (u : Room) → Comes Err nothing (answer_of d ws) need have (Ends d ws gone k o) r l u → r ≡ kept_of n v → Told d ws gone n v l
   comes-told need have r l u (refused e) q = absurd (other q)
   comes-told need have r l u (cramped e f) q = absurd (other q)
   comes-told need have r l u (ended e f t) q = ends-told r l e t q
@@ -68,9 +71,9 @@ kept-mesh-of d ws gone p free some = record {
 }
 
 module _ (d : ℕ) (ws gone : List ℕ) (n v : ℕ) (kept kept' old old' keys keys' rows rows' spare spare' counts counts' : List ℕ)
-    (a : DropCells d ws gone (Kept n v) kept kept' old old' keys keys' rows rows' spare spare' counts counts') where
+    (a : DropCells d ws gone (kept_of n v) kept kept' old old' keys keys' rows rows' spare spare' counts counts') where
   told : Told d ws gone n v a.handed
-  told = comes-told d ws gone (length kept) (length old) n v _ (lengths keys rows spare counts) (Kept n v) a.handed a.used a.comes refl
+  told = comes-told d ws gone (length kept) (length old) n v _ (lengths keys rows spare counts) (kept_of n v) a.handed a.used a.comes refl
 
   pub out_words : take (n * (d + 1)) kept' ≡ kept_words d ws gone
   out_words =
@@ -88,7 +91,7 @@ module _ (d : ℕ) (ws gone : List ℕ) (n v : ℕ) (kept kept' old old' keys ke
       (kept-mesh-of d ws gone (fine-passed d ws told.fine) told.free told.some))
 
 -- ---- removing nothing, for a list that passes all checks, where there is room
-module _ (d : ℕ) (ws : List ℕ) (fine : answer_of d ws ≡ Answer.Fine) (free : Crowded d (cells_of d ws) → ⊥) (kept old : List ℕ) (kl : length ws ≤ length kept) (ol : largest_of ws < length old) where
+module _ (d : ℕ) (ws : List ℕ) (fine : answer_of d ws ≡ Ok tt) (free : Crowded d (cells_of d ws) → ⊥) (kept old : List ℕ) (kl : length ws ≤ length kept) (ol : largest_of ws < length old) where
   passed : Passed d ws
   passed = fine-passed d ws fine
 
@@ -110,23 +113,23 @@ module _ (d : ℕ) (ws : List ℕ) (fine : answer_of d ws ≡ Answer.Fine) (free
     in_old = omega (arith, ap length (drop-nothing-old d ws passed), length-upto (suc (largest_of ws)));
   }
 
-  not-refused : (n p : ℕ) → answer_of d ws ≡ Answer.Refused n p → ⊥
-  not-refused n p e = let z : ◌≡◌ {A = ℕ} 0 1 = cc in absurd (omega arith)
+  not-refused : (why : Refusal) → answer_of d ws ≡ Err why → ⊥
+  not-refused why e = cc
 
-  all-kept : (have : Room) (r : Dropped) (l : Lists) (u : Room) → Roomy (need_of d (length ws)) have
-      → Comes Refused nothing (answer_of d ws) (need_of d (length ws)) have (Ends d ws [] (length kept) (length old)) r l u
-      → (r ≡ Kept (length (staying d ws [])) (length (old_numbers d ws []))) × (l ≡ kept_lists d ws [])
-  all-kept have r l u room (refused {n} {p} e) = absurd (not-refused n p e)
+  all-kept : (have : Room) (r : Dropping) (l : Lists) (u : Room) → Roomy (need_of d (length ws)) have
+      → Comes Err nothing (answer_of d ws) (need_of d (length ws)) have (Ends d ws [] (length kept) (length old)) r l u
+      → (r ≡ kept_of (length (staying d ws [])) (length (old_numbers d ws []))) × (l ≡ kept_lists d ws [])
+  all-kept have r l u room (refused {why} e) = absurd (not-refused why e)
   all-kept have r l u room (cramped e f) = absurd (f room)
   all-kept have r l u room (ended e f t) = ends-one d ws [] (length kept) (length old) r _ l _ t (kept_all here some fits)
 
-  pub nothing-changes : (r : Dropped) (kept' old' keys keys' rows rows' spare spare' counts counts' : List ℕ) → Roomy (need_of d (length ws)) (lengths keys rows spare counts)
+  pub nothing-changes : (r : Dropping) (kept' old' keys keys' rows rows' spare spare' counts counts' : List ℕ) → Roomy (need_of d (length ws)) (lengths keys rows spare counts)
       → DropCells d ws [] r kept kept' old old' keys keys' rows rows' spare spare' counts counts' → Unchanged d ws r kept kept' old old'
   nothing-changes r kept' old' keys keys' rows rows' spare spare' counts counts' room a =
       let w = all-kept (lengths keys rows spare counts) r a.handed a.used room a.comes in
       let e : length (old_numbers d ws []) ≡ suc (largest_of ws) = ap length (drop-nothing-old d ws passed) ∙ length-upto (suc (largest_of ws)) in
       record {
-        says = w.0 ∙ ap (λ (z : ℕ). Kept z (length (old_numbers d ws []))) many ∙ ap (λ (z : ℕ). Kept (length ws / (d + 1)) z) e;
+        says = w.0 ∙ ap (λ (z : ℕ). kept_of z (length (old_numbers d ws []))) many ∙ ap (λ (z : ℕ). kept_of (length ws / (d + 1)) z) e;
         words = a.in_kept ∙ ap (λ (l : Lists). onto l.words kept) w.1 ∙ ap (λ (l : List ℕ). onto l kept) (drop-nothing d ws passed);
         numbers = a.in_old ∙ ap (λ (l : Lists). onto l.old old) w.1 ∙ ap (λ (l : List ℕ). onto l old) (drop-nothing-old d ws passed);
       }

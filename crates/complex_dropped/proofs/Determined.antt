@@ -1,12 +1,12 @@
 -- The promise of `drop_cells` determines what it says and every list: two calls on equal inputs end alike. Assumes nothing.
+use Rattle.complex_dropped.specs.Says.{Dropping}
+use Rattle.std.specs.Prelude.{Err}
 use mathlib.Core.Bool.{Bool, true, false}
 use mathlib.Core.List.{List}
 use mathlib.Core.Path.{◌≡◌, refl, sym, ap, ◌∙◌}
 use Prim.Native.Nat.{ℕ}
 use native.Mathlib.Omega.{arith}
 use lib.ListN.{length}
-use Rattle.complex_dropped.specs.declared.Dropped.{Dropped}
-use Rattle.complex_dropped.specs.declared.Dropped.TheVariants.{Refused}
 use Rattle.refusal.specs.Lent.{onto, lengths}
 use Rattle.refusal.proofs.Determined.{comes-one, cleared-one}
 use Rattle.complex.specs.Check.{answer_of}
@@ -18,7 +18,7 @@ clash p q = let z : ◌≡◌ {A = ℕ} 0 1 = cc in omega arith
 
 module _ (d : ℕ) (ws gone : List ℕ) (k o : ℕ) where
   -- where neither 7 nor 23 applies, two ends are alike
-  here-one : Present d ws gone → (r r' : Dropped) (l l' : Lists) → Ends d ws gone k o r l → Ends d ws gone k o r' l' → (r ≡ r') × (l ≡ l')
+  here-one : Present d ws gone → (r r' : Dropping) (l l' : Lists) → Ends d ws gone k o r l → Ends d ws gone k o r' l' → (r ≡ r') × (l ≡ l')
   here-one x r r' l l' (crowded c) b = absurd (x.uncrowded c)
   here-one x r r' l l' (missing n e) b = absurd (clash e x.there)
   here-one x r r' l l' (emptied p e) (crowded c) = absurd (x.uncrowded c)
@@ -37,7 +37,7 @@ module _ (d : ℕ) (ws gone : List ℕ) (k o : ℕ) where
   here-one x r r' l l' (kept_all p n f) (short q m g) = absurd (g f)
   here-one x r r' l l' (kept_all p n f) (kept_all q m g) = (refl, refl)
 
-  pub ends-one : (r r' : Dropped) (l l' : Lists) → Ends d ws gone k o r l → Ends d ws gone k o r' l' → (r ≡ r') × (l ≡ l')
+  pub ends-one : (r r' : Dropping) (l l' : Lists) → Ends d ws gone k o r l → Ends d ws gone k o r' l' → (r ≡ r') × (l ≡ l')
   ends-one r r' l l' (crowded x) (crowded y) = (refl, refl)
   ends-one r r' l l' (crowded x) (missing n e) = absurd (n x)
   ends-one r r' l l' (crowded x) (emptied p e) = absurd (p.uncrowded x)
@@ -53,11 +53,11 @@ module _ (d : ℕ) (ws gone : List ℕ) (k o : ℕ) where
   ends-one r r' l l' (kept_all p n f) b = here-one p r r' l l' (kept_all p n f) b
 
 -- two exits of one call: what is said, the result lists and the working lists are equal
-pub drop-cells-one : (d : ℕ) (ws gone : List ℕ) (r r' : Dropped) (kept a a' old b b' keys k k' rows o o' spare p p' counts c c' : List ℕ) →
+pub drop-cells-one : (d : ℕ) (ws gone : List ℕ) (r r' : Dropping) (kept a a' old b b' keys k k' rows o o' spare p p' counts c c' : List ℕ) →
     DropCells d ws gone r kept a old b keys k rows o spare p counts c → DropCells d ws gone r' kept a' old b' keys k' rows o' spare p' counts c' →
     (r ≡ r') × (a ≡ a') × (b ≡ b') × ((k ≡ k') × (o ≡ o') × (p ≡ p') × (c ≡ c'))
 drop-cells-one d ws gone r r' kept a a' old b b' keys k k' rows o o' spare p p' counts c c' x y =
-    let w = comes-one Refused nothing (answer_of d ws) (need_of d (length ws)) (lengths keys rows spare counts) (Ends d ws gone (length kept) (length old)) (ends-one d ws gone (length kept) (length old)) x.comes y.comes in (
+    let w = comes-one Err nothing (answer_of d ws) (need_of d (length ws)) (lengths keys rows spare counts) (Ends d ws gone (length kept) (length old)) (ends-one d ws gone (length kept) (length old)) x.comes y.comes in (
       w.0,
       x.in_kept ∙ ap (λ (l : Lists). onto l.words kept) w.1 ∙ sym y.in_kept,
       x.in_old ∙ ap (λ (l : Lists). onto l.old old) w.1 ∙ sym y.in_old,

@@ -1,4 +1,5 @@
 -- What stays when cells go: the new cells are the kept ones renamed, in the same order, so every mating of new cells is one of old cells. Assumes nothing.
+use Rattle.refusal.specs.Says.{fine}
 use mathlib.Core.Bool.{true, false, not}
 use mathlib.Core.List.{List, [], ◌∷◌, map, map-map, Memᴰ}
 use mathlib.Core.Path.{◌≡◌, sym, ap, ◌∙◌, subst}
@@ -20,7 +21,6 @@ use Rattle.sorting.proofs.Colex.{row-length}
 use Rattle.multiindex.specs.Sign.{Sign}
 use Rattle.multiindex.specs.Sort.{sort_word}
 use Rattle.multiindex.proofs.SortLaws.{sort-length}
-use Rattle.refusal.specs.declared.Answer.TheVariants.{Fine}
 use Rattle.refusal.specs.Limits.{most_vertices}
 use Rattle.complex.specs.Check.{Passed, answer_of}
 use Rattle.complex.proofs.Fine.{passed-fine}
@@ -356,7 +356,7 @@ module _ (d : ℕ) (ws gone : List ℕ) (p : Passed d ws) where
       }
 
   -- none of 1 to 6 either
-  pub kept_fine : (length (staying d ws gone) ≡ 0 → ⊥) → answer_of d (kept_words d ws gone) ≡ Fine
+  pub kept_fine : (length (staying d ws gone) ≡ 0 → ⊥) → answer_of d (kept_words d ws gone) ≡ fine
   kept_fine some = passed-fine d (kept_words d ws gone) (kept-passed some)
 
   -- the old numbers lead back to the words as they were given

@@ -1,36 +1,20 @@
 -- The loops, one turn at a time. Assumes nothing.
-use mathlib.Core.Bool.{Bool, true, false, not, ◌||◌}
+use mathlib.Core.Bool.{Bool, true, false, not}
 use mathlib.Core.List.{List, [], ◌∷◌, ◌++◌, map, map-append}
 use mathlib.Core.Path.{◌≡◌, refl, sym, ap, ◌∙◌}
-use mathlib.Core.Logic.{◌⊎◌, ⊎_elim}
+use mathlib.Core.Logic.{⊎_elim}
 use Prim.Native.Nat.{ℕ, ◌+◌, ◌<◌, ◌≤◌}
 use native.Mathlib.Nat.{eq-or-lt_of_le}
 use native.Mathlib.Numerals.{add-one}
 use native.Mathlib.Omega.{arith}
-use lib.Dec.{eqb, leb}
-use lib.ListN.{length, get_or, take, drop, set, length-append, length-map, length-set, drop_of_length-le}
-use lib.Seq.{drop-cons, length-take-le, get_or-set_same, get_or-set_other}
-use borrow.Author.Tests.{eq-eqb, ne_eqb, le-leb, lt-leb}
+use lib.Dec.{eqb}
+use lib.ListN.{length, get_or, take, drop, set, length-append, length-map, length-set}
+use lib.Seq.{length-take-le, get_or-set_same, get_or-set_other}
+use borrow.Author.Tests.{eq-eqb, ne_eqb}
 use Rattle.lists.proofs.Front.{put, take_more}
 use Rattle.complex.specs.Skeleton.{numbers}
-use Rattle.complex_dropped.specs.Kept.{names_missing}
 use Rattle.complex_dropped.specs.Work.{Numbered}
 use Rattle.complex_dropped.proofs.Counting.{numbers-yes, numbers-no, count_most}
-
--- ---- a number of the set is not below m, or it is
-missing-step : (m : ℕ) (gone : List ℕ) (i : ℕ) → i < length gone → names_missing m (drop i gone) ≡ (leb m (get_or gone i 0) || names_missing m (drop (i + 1) gone))
-unfolding names_missing
-missing-step m gone i h = rw add-one (ap (names_missing m) (drop-cons gone i 0 h))
-
-pub missing-hit : (m : ℕ) (gone : List ℕ) (i : ℕ) → i < length gone → m ≤ get_or gone i 0 → names_missing m (drop i gone) ≡ true
-missing-hit m gone i h l = missing-step m gone i h ∙ rw (le-leb m (get_or gone i 0) l)
-
-pub missing-miss : (m : ℕ) (gone : List ℕ) (i : ℕ) → i < length gone → get_or gone i 0 < m → names_missing m (drop i gone) ≡ names_missing m (drop (i + 1) gone)
-missing-miss m gone i h l = missing-step m gone i h ∙ rw (lt-leb m (get_or gone i 0) l)
-
-pub missing-end : (m : ℕ) (gone : List ℕ) (i : ℕ) → length gone ≤ i → names_missing m (drop i gone) ≡ false
-unfolding names_missing
-missing-end m gone i h = ap (names_missing m) (drop_of_length-le gone h)
 
 -- ---- one more renamed
 pub rename-turn : (f : ℕ → ℕ) (xs to₀ to : List ℕ) (i : ℕ) → i < length xs → i < length to₀ → to ≡ map f (take i xs) ++ drop i to₀ → set to i (f (get_or xs i 0)) ≡ map f (take (i + 1) xs) ++ drop (i + 1) to₀

@@ -1,4 +1,7 @@
 -- How the work of `drop_cells` ends. Assumes nothing.
+use Rattle.complex_dropped.specs.Says.{Dropping, kept_of}
+use Rattle.refusal.specs.declared.Refusal.TheVariants.{CrowdedFacet, NoSuchCell, RaggedWords}
+use Rattle.std.specs.Prelude.{Err}
 use mathlib.Core.Bool.{Bool, true, false}
 use mathlib.Core.List.{List, [], ◌∷◌, ◌++◌, map}
 use mathlib.Core.Path.{◌≡◌, refl, sym, ap, ◌∙◌, subst}
@@ -7,9 +10,6 @@ use native.Mathlib.Nat.{mul_comm, mul-zero, mul-suc, mul-le-mul_right}
 use native.Mathlib.Omega.{arith}
 use lib.ListN.{length, get_or, take, drop, length-map}
 use Rattle.complex_mates.proofs.Mated.{not-crowded}
-use Rattle.complex_dropped.specs.declared.Dropped.{Dropped}
-use Rattle.complex_dropped.specs.declared.Dropped.TheVariants.{Kept, Refused}
-use Rattle.refusal.specs.Table.{ragged_words, crowded_facet, no_such_cell}
 use Rattle.refusal.specs.Lent.{onto}
 use Rattle.lists.specs.Rows.{cut}
 use Rattle.lists.proofs.Rows.{cut-length}
@@ -35,11 +35,11 @@ renamed-onto n xs new old kept part a e =
     let q : part ≡ map (new_number xs) xs = e ∙ map_on (λ v. get_or new v 0) (new_number xs) xs (λ i h. a.named (get_or xs i 0) (mem-among (get_or xs i 0) xs (Mem-of xs i h))) in
     ap (λ (l : List ℕ). l ++ drop (length xs) kept) q ∙ ap (λ (z : ℕ). map (new_number xs) xs ++ drop z kept) (sym (length-map xs (new_number xs)))
 
-pub worked-emptied : (d : ℕ) (ws gone : List ℕ) (n : ℕ) (keys kept old : List ℕ) → Present d ws gone → Gathered d ws gone n keys → n ≡ 0 → Worked d ws gone (Refused ragged_words 0) kept kept old old
+pub worked-emptied : (d : ℕ) (ws gone : List ℕ) (n : ℕ) (keys kept old : List ℕ) → Present d ws gone → Gathered d ws gone n keys → n ≡ 0 → Worked d ws gone (Err RaggedWords) kept kept old old
 worked-emptied d ws gone n keys kept old here a e = record { handed = nothing; ends = emptied here (sym a.many ∙ e); in_kept = refl; in_old = refl }
 
 worked-of : (d : ℕ) (ws gone : List ℕ) (n : ℕ) (xs places kept old : List ℕ) → Present d ws gone → n ≡ length (staying d ws gone) → (n ≡ 0 → ⊥) → xs ≡ corners d ws gone → places ≡ old_numbers d ws gone →
-    (r : Dropped) (kept' old' : List ℕ) → HandedOut n xs places kept old r kept' old' → Worked d ws gone r kept kept' old old'
+    (r : Dropping) (kept' old' : List ℕ) → HandedOut n xs places kept old r kept' old' → Worked d ws gone r kept kept' old old'
 worked-of d ws gone n xs places kept old here en some ex ep r kept' old' (no_room f) =
     record {
       handed = nothing;
@@ -51,17 +51,17 @@ worked-of d ws gone n xs places kept old here en some ex ep r kept' old' (all_ou
     record {
       handed = kept_lists d ws gone;
       ends =
-          subst (λ (t : Dropped). Ends d ws gone (length kept) (length old) t (kept_lists d ws gone)) (said (sym en) (ap length (sym ep)))
+          subst (λ (t : Dropping). Ends d ws gone (length kept) (length old) t (kept_lists d ws gone)) (said (sym en) (ap length (sym ep)))
           (kept_all here (λ e. some (en ∙ e)) (record { in_kept = omega (arith, length-map (corners d ws gone) (new_number (corners d ws gone)), ap length ex); in_old = omega (arith, ap length ep) }));
       in_kept = a ∙ ap (λ (l : List ℕ). onto (map (new_number l) l) kept) ex;
       in_old = b ∙ ap (λ (l : List ℕ). onto l old) ep;
     }
   where
-    said : {a b c e : ℕ} → a ≡ b → c ≡ e → Kept a c ≡ Kept b e
+    said : {a b c e : ℕ} → a ≡ b → c ≡ e → kept_of a c ≡ kept_of b e
     said p q = cc
 
 module _ (d : ℕ) (ws gone : List ℕ) (n : ℕ) (keys : List ℕ) (a : Gathered d ws gone n keys) (r : ℕ) (order spare : List ℕ) (b : Renumbered (take (n * (d + 1)) keys) r order spare) where
-  pub worked-handed : Present d ws gone → (n ≡ 0 → ⊥) → (kept old : List ℕ) (t : Dropped) (kept' old' : List ℕ) → HandedOut n (take (n * (d + 1)) keys) (take r order) kept old t kept' old' → Worked d ws gone t kept kept' old old'
+  pub worked-handed : Present d ws gone → (n ≡ 0 → ⊥) → (kept old : List ℕ) (t : Dropping) (kept' old' : List ℕ) → HandedOut n (take (n * (d + 1)) keys) (take r order) kept old t kept' old' → Worked d ws gone t kept kept' old old'
   worked-handed here some kept old t kept' old' h =
       worked-of d ws gone n (take (n * (d + 1)) keys) (take r order) kept old here a.many some a.front (b.old ∙ ap in_use a.front) t kept' old' h
 
@@ -100,7 +100,7 @@ module _ (d : ℕ) (ws gone keys order spare counts : List ℕ) (w : Working d w
     cells-many = ap length (sym a.same) ∙ cut-length (suc d) m order'
 
     -- 7
-    pub worked-crowded : (kept old : List ℕ) → Crowded d (cut (suc d) m order') → Worked d ws gone (Refused crowded_facet 0) kept kept old old
+    pub worked-crowded : (kept old : List ℕ) → Crowded d (cut (suc d) m order') → Worked d ws gone (Err CrowdedFacet) kept kept old old
     worked-crowded kept old x = record { handed = nothing; ends = crowded (subst (λ (cs : List (List ℕ)). Crowded d cs) a.same x); in_kept = refl; in_old = refl }
 
     module _ (mates : List ℕ) (t : MateTable d (cut (suc d) m order') mates) where
@@ -112,7 +112,7 @@ module _ (d : ℕ) (ws gone keys order spare counts : List ℕ) (w : Working d w
         told = ap (λ (z : ℕ). names_missing z gone) cells-many ∙ sym e
 
         -- 23
-        pub worked-missing : ok ≡ true → (kept old : List ℕ) → Worked d ws gone (Refused no_such_cell 0) kept kept old old
+        pub worked-missing : ok ≡ true → (kept old : List ℕ) → Worked d ws gone (Err NoSuchCell) kept kept old old
         worked-missing y kept old = record { handed = nothing; ends = missing free (told ∙ y); in_kept = refl; in_old = refl }
 
         pub gathering : ok ≡ false → (keys'' order'' spare'' counts'' : List ℕ) → length keys'' ≡ length keys' → length order'' ≡ length order' → length spare'' ≡ length spare' → length counts'' ≡ length counts' →

@@ -1,9 +1,10 @@
--- Document 02, K11, sentence by sentence, of a call that says Kept: what stays is the mesh that it was. Assumes nothing.
+-- Document 02, K11, sentence by sentence, of a call that is not refused: what stays is the mesh that it was. Assumes nothing.
+use Rattle.std.specs.Prelude.{true}
+use Rattle.complex_dropped.specs.Says.{Dropping, kept_of}
+use Rattle.refusal.specs.Says.{Verdict}
+use Rattle.std.specs.Prelude.{Ok}
 use Rattle.std.specs.Prelude.{List, map, ◌≡◌, ℕ, suc, ◌+◌, ◌/◌, ◌<◌, length, get_or}
 use Rattle.lists.specs.Tables.{upto}
-use Rattle.refusal.specs.declared.Answer.TheVariants.{Fine}
-use Rattle.refusal.specs.declared.Verdict.{Verdict}
-use Rattle.refusal.specs.declared.Verdict.TheVariants.{Yes}
 use Rattle.refusal.specs.Lent.{onto}
 use Rattle.lists.specs.Words.{largest_of}
 use Rattle.multiindex.specs.Sign.{Sign}
@@ -12,8 +13,6 @@ use Rattle.complex.specs.Cells.{cells_of}
 use Rattle.complex.specs.Facets.{cell_at, Mates, Crowded}
 use Rattle.orientation_signs.specs.Signs.{Coherent, sign_list}
 use Rattle.orientation_laws.specs.Asked.{OrientByCalled}
-use Rattle.complex_dropped.specs.declared.Dropped.{Dropped}
-use Rattle.complex_dropped.specs.declared.Dropped.TheVariants.{Kept}
 use Rattle.complex_dropped.specs.Kept.{new_number, corners, cells_left}
 
 -- the old number of the cell that is now cell c
@@ -33,14 +32,14 @@ pub record KeptMesh (d : ℕ) (ws gone out old : List ℕ) : Type 0 where
   pub facets : (c i c' i' : ℕ) → Mates d (cells_of d out) c i c' i' → Mates d (cells_of d ws) (old_cell d ws gone c) i (old_cell d ws gone c') i'
   -- so 7 cannot occur, and none of 1 to 6 either
   pub uncrowded : Crowded d (cells_of d out) → ⊥
-  pub fine : answer_of d out ≡ Fine
+  pub fine : answer_of d out ≡ Ok tt
   -- signs coherent before are coherent after, each kept cell with its own; so `orient_by` says yes to them, above dimension 0
   pub coherent : (σ : ℕ → Sign) → Coherent d (cells_of d ws) σ → Coherent d (cells_of d out) (λ c. σ (old_cell d ws gone c))
   pub agreed : (σ : ℕ → Sign) → Coherent d (cells_of d ws) σ → 0 < d → (r : Verdict)
-      → OrientByCalled d out (sign_list (λ c. σ (old_cell d ws gone c)) (length (cells_of d out))) r → r ≡ Yes
+      → OrientByCalled d out (sign_list (λ c. σ (old_cell d ws gone c)) (length (cells_of d out))) r → r ≡ Ok true
 
 -- Removing nothing changes nothing: all words stay as they were given, and each vertex keeps its number.
-pub record Unchanged (d : ℕ) (ws : List ℕ) (r : Dropped) (kept kept' old old' : List ℕ) : Type 0 where
-  pub says : r ≡ Kept (length ws / (d + 1)) (suc (largest_of ws))
+pub record Unchanged (d : ℕ) (ws : List ℕ) (r : Dropping) (kept kept' old old' : List ℕ) : Type 0 where
+  pub says : r ≡ kept_of (length ws / (d + 1)) (suc (largest_of ws))
   pub words : kept' ≡ onto ws kept
   pub numbers : old' ≡ onto (upto (suc (largest_of ws))) old

@@ -3,3 +3,4 @@ pub mod Promise
 pub mod KeptMesh
 -- what the inner functions ask and give: nobody else need read it
 pub mod Work
+pub mod Says

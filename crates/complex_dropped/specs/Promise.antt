@@ -1,9 +1,9 @@
 -- What the call `drop_cells` comes to, on every input. Assumes nothing.
+use Rattle.complex_dropped.specs.Says.{Dropping, kept_of}
+use Rattle.refusal.specs.declared.Refusal.TheVariants.{CrowdedFacet, NoSuchCell, RaggedWords, TooShort}
+use Rattle.std.specs.Prelude.{Err}
 use Rattle.std.specs.Prelude.{true, false, List, [], ◌≡◌, ℕ, ◌≤◌, length}
-use Rattle.complex_dropped.specs.declared.Dropped.{Dropped}
-use Rattle.complex_dropped.specs.declared.Dropped.TheVariants.{Kept, Refused}
 use Rattle.refusal.specs.declared.Room.{Room}
-use Rattle.refusal.specs.Table.{ragged_words, crowded_facet, too_short, no_such_cell}
 use Rattle.refusal.specs.Lent.{onto, lengths, Cleared}
 use Rattle.refusal.specs.Call.{Comes}
 use Rattle.complex.specs.Check.{answer_of}
@@ -34,24 +34,24 @@ pub record Present (d : ℕ) (ws gone : List ℕ) : Type 0 where
   pub there : names_missing (length (cells_of d ws)) gone ≡ false
 
 -- how a call ends once its words are checked and there is room: 7, 23, 2, 12, or the words that stay. `kept` and `old` are the lengths of the result lists.
-pub data Ends (d : ℕ) (ws gone : List ℕ) (kept old : ℕ) : Dropped → Lists → Type 0 where
+pub data Ends (d : ℕ) (ws gone : List ℕ) (kept old : ℕ) : Dropping → Lists → Type 0 where
   -- a facet in three or more cells
-  crowded : Crowded d (cells_of d ws) → Ends d ws gone kept old (Refused crowded_facet 0) nothing
+  crowded : Crowded d (cells_of d ws) → Ends d ws gone kept old (Err CrowdedFacet) nothing
   -- the set names a cell that is not there
-  missing : (Crowded d (cells_of d ws) → ⊥) → names_missing (length (cells_of d ws)) gone ≡ true → Ends d ws gone kept old (Refused no_such_cell 0) nothing
+  missing : (Crowded d (cells_of d ws) → ⊥) → names_missing (length (cells_of d ws)) gone ≡ true → Ends d ws gone kept old (Err NoSuchCell) nothing
   -- all cells would go
-  emptied : Present d ws gone → length (staying d ws gone) ≡ 0 → Ends d ws gone kept old (Refused ragged_words 0) nothing
+  emptied : Present d ws gone → length (staying d ws gone) ≡ 0 → Ends d ws gone kept old (Err RaggedWords) nothing
   -- a result list is too short
-  short : Present d ws gone → (length (staying d ws gone) ≡ 0 → ⊥) → (Fits (kept_lists d ws gone) kept old → ⊥) → Ends d ws gone kept old (Refused too_short 0) nothing
+  short : Present d ws gone → (length (staying d ws gone) ≡ 0 → ⊥) → (Fits (kept_lists d ws gone) kept old → ⊥) → Ends d ws gone kept old (Err TooShort) nothing
   -- the words that stay are handed out
   kept_all : Present d ws gone → (length (staying d ws gone) ≡ 0 → ⊥) → Fits (kept_lists d ws gone) kept old →
-      Ends d ws gone kept old (Kept (length (staying d ws gone)) (length (old_numbers d ws gone))) (kept_lists d ws gone)
+      Ends d ws gone kept old (kept_of (length (staying d ws gone)) (length (old_numbers d ws gone))) (kept_lists d ws gone)
 
 -- the promise: r is what the call says, and a list with ' is what it holds at exit
-pub record DropCells (d : ℕ) (ws gone : List ℕ) (r : Dropped) (kept kept' old old' keys keys' rows rows' spare spare' counts counts' : List ℕ) : Type 0 where
+pub record DropCells (d : ℕ) (ws gone : List ℕ) (r : Dropping) (kept kept' old old' keys keys' rows rows' spare spare' counts counts' : List ℕ) : Type 0 where
   pub handed : Lists
   pub used : Room
-  pub comes : Comes Refused nothing (answer_of d ws) (need_of d (length ws)) (lengths keys rows spare counts) (Ends d ws gone (length kept) (length old)) r handed used
+  pub comes : Comes Err nothing (answer_of d ws) (need_of d (length ws)) (lengths keys rows spare counts) (Ends d ws gone (length kept) (length old)) r handed used
   pub in_kept : kept' ≡ onto handed.words kept
   pub in_old : old' ≡ onto handed.old old
   pub room : Cleared used keys keys' rows rows' spare spare' counts counts'

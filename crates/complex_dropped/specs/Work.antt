@@ -1,9 +1,9 @@
 -- What the inner functions of `drop_cells` ask and give, in lists of just the lengths that are needed. Assumes nothing.
+use Rattle.complex_dropped.specs.Says.{Dropping, kept_of}
+use Rattle.refusal.specs.declared.Refusal.TheVariants.{TooShort}
+use Rattle.std.specs.Prelude.{Err}
 use Rattle.std.specs.Prelude.{true, not, List, ◌++◌, map, ◌≡◌, ℕ, ◌+◌, ◌*◌, ◌/◌, ◌<◌, ◌≤◌, ◌^◌, eqb, length, get_or, take, drop}
 use Rattle.lists.specs.Rows.{row}
-use Rattle.complex_dropped.specs.declared.Dropped.{Dropped}
-use Rattle.complex_dropped.specs.declared.Dropped.TheVariants.{Kept, Refused}
-use Rattle.refusal.specs.Table.{too_short}
 use Rattle.refusal.specs.Lent.{onto}
 use Rattle.lists.specs.Words.{among}
 use Rattle.complex.specs.Check.{Passed}
@@ -73,13 +73,13 @@ pub record Handing (n : ℕ) (xs new old : List ℕ) : Type 0 where
   pub few_old : length old < 2 ^ 32
 
 -- n words with these corners are handed out by their new numbers, with the old numbers, or a result list is too short
-pub data HandedOut (n : ℕ) (xs places : List ℕ) (kept old : List ℕ) : Dropped → List ℕ → List ℕ → Type 0 where
-  no_room : (length xs ≤ length kept → length places ≤ length old → ⊥) → HandedOut n xs places kept old (Refused too_short 0) kept old
+pub data HandedOut (n : ℕ) (xs places : List ℕ) (kept old : List ℕ) : Dropping → List ℕ → List ℕ → Type 0 where
+  no_room : (length xs ≤ length kept → length places ≤ length old → ⊥) → HandedOut n xs places kept old (Err TooShort) kept old
   all_out : {kept' old' : List ℕ} → length xs ≤ length kept → length places ≤ length old → kept' ≡ onto (map (new_number xs) xs) kept → old' ≡ onto places old →
-      HandedOut n xs places kept old (Kept n (length places)) kept' old'
+      HandedOut n xs places kept old (kept_of n (length places)) kept' old'
 
 -- the call on the cells, and the result lists afterwards
-pub record Worked (d : ℕ) (ws gone : List ℕ) (r : Dropped) (kept kept' old old' : List ℕ) : Type 0 where
+pub record Worked (d : ℕ) (ws gone : List ℕ) (r : Dropping) (kept kept' old old' : List ℕ) : Type 0 where
   pub handed : Lists
   pub ends : Ends d ws gone (length kept) (length old) r handed
   pub in_kept : kept' ≡ onto handed.words kept

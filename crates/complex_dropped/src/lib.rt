@@ -17,28 +17,20 @@ ghost use Rattle.complex_dropped.specs.Kept.{names_missing};
 ghost use Rattle.complex_dropped.specs.Promise.{DropCells};
 ghost use Rattle.complex_dropped.specs.Work.{Within, WordCells, Staying, Numbered, Gathering, Gathered, Numbering, Renumbered, Handing, HandedOut, Working, Worked};
 
-use lists::wide;
-use refusal::{Answer, CROWDED_FACET, NO_SUCH_CELL, RAGGED_WORDS, Room, TOO_SHORT};
+use refusal::{Refusal, Room};
 
 // What the call says: how many words stay, a word given twice counted twice, and how many vertices they have.
-#[derive(Clone, Copy)]
-pub enum Dropped {
-    Kept(u32, u32),
-    Refused(u32, u32),
+#[derive(Clone, Copy, Debug, PartialEq, Eq)]
+pub struct Dropped {
+    pub words: u32,
+    pub vertices: u32,
 }
 
 // Whether the set names a cell that is not there, where there are m.
 fn names_missing(m: usize, gone: &[u32]) -> bool
     ensures { result ≡ names_missing m gone.now }
 {
-    let mut i = 0;
-    while i < gone.len() {
-        if m <= wide(gone[i]) {
-            return true;
-        }
-        i += 1;
-    }
-    false
+    gone.iter().any(|&cell| m <= cell as usize)
 }
 
 // Stores a 1 at each of the places.
@@ -46,11 +38,8 @@ fn mark(places: &[u32], marks: &mut [u32])
     requires { Within places.now (length marks.old) }
     ensures { marks.new ≡ marked marks.old places.now }
 {
-    let mut i = 0;
-    while i < places.len() {
-        let at = wide(places[i]);
-        marks[at] = 1;
-        i += 1;
+    for &place in places {
+        marks[place as usize] = 1;
     }
 }
 
@@ -69,7 +58,7 @@ fn number_words(
     let n = d + 1;
     let len = words.len();
     let count = len / n;
-    lists::copy(words, &mut keys[..len]);
+    keys[..len].copy_from_slice(words);
     multiindex::word::sort_words(keys, n, count);
     sorting::sort_rows(keys, n, count, len, rows, spare, counts);
     sorting::distinct(keys, n, count, rows, spare, counts);
@@ -82,16 +71,13 @@ fn list_staying(count: usize, ids: &[u32], marks: &[u32], list: &mut [u32]) -> u
         × (list.new ≡ numbers (λ k. eqb (get_or marks.now (get_or ids.now k 0) 0) 0) count ++ drop result list.old) }
 {
     let mut j = 0;
-    let mut k = 0;
-    while k < count {
-        let cell = wide(ids[k]);
+    for k in 0..count {
+        let cell = ids[k] as usize;
         if marks[cell] != 0 {
-            k += 1;
             continue;
         }
         list[j] = k as u32;
         j += 1;
-        k += 1;
     }
     j
 }
@@ -110,7 +96,7 @@ fn gather_staying(
     ensures { Gathered d words.now gone.now result keys.new }
 {
     number_words(d, words, keys, rows, spare, counts);
-    lists::clear(rows);
+    rows.fill(0);
     mark(gone, rows);
     let n = d + 1;
     let count = words.len() / n;
@@ -125,16 +111,13 @@ fn number_marked(marks: &mut [u32], places: &mut [u32]) -> usize
     ensures { Numbered marks.old places.old result marks.new places.new }
 {
     let mut next: usize = 0;
-    let mut v = 0;
-    while v < marks.len() {
-        if marks[v] == 0 {
-            v += 1;
+    for (v, mark) in marks.iter_mut().enumerate() {
+        if *mark == 0 {
             continue;
         }
         places[next] = v as u32;
-        marks[v] = next as u32;
+        *mark = next as u32;
         next += 1;
-        v += 1;
     }
     next
 }
@@ -144,7 +127,7 @@ fn renumber(corners: &[u32], rows: &mut [u32], spare: &mut [u32]) -> usize
     requires { Numbering corners.now rows.old spare.old }
     ensures { Renumbered corners.now result rows.new spare.new }
 {
-    lists::clear(spare);
+    spare.fill(0);
     mark(corners, spare);
     number_marked(spare, rows)
 }
@@ -154,11 +137,8 @@ fn rename(numbers: &[u32], corners: &[u32], to: &mut [u32])
     requires { (length to.old ≡ length corners.now) × Within corners.now (length numbers.now) }
     ensures { to.new ≡ map (λ v. get_or numbers.now v 0) corners.now }
 {
-    let mut i = 0;
-    while i < corners.len() {
-        let at = wide(corners[i]);
-        to[i] = numbers[at];
-        i += 1;
+    for (i, &corner) in corners.iter().enumerate() {
+        to[i] = numbers[corner as usize];
     }
 }
 
@@ -170,21 +150,24 @@ fn hand_out(
     places: &[u32],
     kept: &mut [u32],
     old: &mut [u32],
-) -> Dropped
+) -> Result<Dropped, Refusal>
     requires { Handing staying corners.now numbers.now places.now }
     ensures { HandedOut staying corners.now places.now kept.old old.old result kept.new old.new }
 {
     let len = corners.len();
     let vertices = places.len();
     if kept.len() < len {
-        return Dropped::Refused(TOO_SHORT, 0);
+        return Err(Refusal::TooShort);
     }
     if old.len() < vertices {
-        return Dropped::Refused(TOO_SHORT, 0);
+        return Err(Refusal::TooShort);
     }
     rename(numbers, corners, &mut kept[..len]);
-    lists::copy(places, &mut old[..vertices]);
-    Dropped::Kept(staying as u32, vertices as u32)
+    old[..vertices].copy_from_slice(places);
+    Ok(Dropped {
+        words: staying as u32,
+        vertices: vertices as u32,
+    })
 }
 
 // The cells that stay, where the set names cells that are there: 2 where none stays, then 12 where a result list is too short.
@@ -198,13 +181,13 @@ fn keep_others(
     rows: &mut [u32],
     spare: &mut [u32],
     counts: &mut [u32],
-) -> Dropped
+) -> Result<Dropped, Refusal>
     requires { Gathering d words.now gone.now keys.old rows.old spare.old counts.old }
     ensures { Worked d words.now gone.now result kept.old kept.new old.old old.new }
 {
     let staying = gather_staying(d, words, gone, keys, rows, spare, counts);
     if staying == 0 {
-        return Dropped::Refused(RAGGED_WORDS, 0);
+        return Err(Refusal::RaggedWords);
     }
     let len = staying * (d + 1);
     let vertices = renumber(&keys[..len], rows, spare);
@@ -222,16 +205,16 @@ fn work(
     rows: &mut [u32],
     spare: &mut [u32],
     counts: &mut [u32],
-) -> Dropped
+) -> Result<Dropped, Refusal>
     requires { Working d words.now keys.old rows.old spare.old counts.old }
     ensures { Worked d words.now gone.now result kept.old kept.new old.old old.new }
 {
     let m = complex_cells::cells(d, words, keys, rows, spare, counts);
     if !complex_mates::mates(d, m, words.len(), keys, rows, spare, counts) {
-        return Dropped::Refused(CROWDED_FACET, 0);
+        return Err(Refusal::CrowdedFacet);
     }
     if names_missing(m, gone) {
-        return Dropped::Refused(NO_SUCH_CELL, 0);
+        return Err(Refusal::NoSuchCell);
     }
     keep_others(d, words, gone, kept, old, keys, rows, spare, counts)
 }
@@ -247,7 +230,7 @@ fn cleared(
     rows: &mut [u32],
     spare: &mut [u32],
     counts: &mut [u32],
-) -> Dropped
+) -> Result<Dropped, Refusal>
     requires { Working d words.now keys.old rows.old spare.old counts.old }
     ensures work { Worked d words.now gone.now result kept.old kept.new old.old old.new }
     ensures room { AllZero keys.old keys.new rows.old rows.new spare.old spare.new counts.old
@@ -272,14 +255,11 @@ pub fn drop_cells(
     rows: &mut [u32],
     spare: &mut [u32],
     counts: &mut [u32],
-) -> Dropped
+) -> Result<Dropped, Refusal>
     ensures { DropCells d words.now gone.now result kept.old kept.new old.old old.new keys.old
         keys.new rows.old rows.new spare.old spare.new counts.old counts.new }
 {
-    let checked = complex::check_cells(d, words);
-    if let Answer::Refused(number, place) = checked {
-        return Dropped::Refused(number, place);
-    }
+    complex::check_cells(d, words)?;
     let dim = d as usize;
     let need = complex::need(dim, words.len());
     let have = Room {
@@ -289,7 +269,7 @@ pub fn drop_cells(
         counts: counts.len(),
     };
     if !refusal::has_room(need, have) {
-        return Dropped::Refused(TOO_SHORT, 0);
+        return Err(Refusal::TooShort);
     }
     let k = need.keys;
     let r = need.rows;

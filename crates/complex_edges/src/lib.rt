@@ -2,21 +2,11 @@
 // Follows the 1-skeleton of `Complex::from_cells` and `Complex::edges` (crates/simplicial/src/topology/complex.rs).
 #![tactic(auto)]
 
-ghost use Rattle.std.specs.Prelude.{◌≡◌, ℕ, suc, ◌*◌, ◌<◌, min};
+ghost use Rattle.std.specs.Prelude.{◌≡◌, ℕ, suc, ◌*◌, ◌<◌};
 ghost use Rattle.lists.specs.Rows.{cut};
 ghost use Rattle.complex.specs.Skeleton.{edges_of};
 ghost use Rattle.complex_cells.specs.WorkNamed.{Named};
 ghost use Rattle.complex_edges.specs.WorkPairs.{PairAt, Writing, Edging};
-
-// The smaller of two numbers.
-fn lesser(a: usize, b: usize) -> usize
-    ensures { result ≡ min a b }
-{
-    if a < b {
-        return a;
-    }
-    b
-}
 
 // Writes the pairs of the m cells, d·d rows a cell, so that each two vertices of a cell are a row.
 fn pair_rows(d: usize, m: usize, cells: &[u32], keys: &mut [u32])
@@ -25,16 +15,14 @@ fn pair_rows(d: usize, m: usize, cells: &[u32], keys: &mut [u32])
 {
     let n = d + 1;
     let total = m * d * d;
-    let mut x = 0;
-    while x < total {
+    for x in 0..total {
         let block = x / d;
         let from = block / d * n;
         let high = block % d;
-        let low = lesser(x % d, high);
+        let low = (x % d).min(high);
         let at = x * 2;
         keys[at] = cells[from + low];
         keys[at + 1] = cells[from + high + 1];
-        x += 1;
     }
 }
 

@@ -1,8 +1,8 @@
 -- The records tell the mates of the rows: a row is the lower or the upper row of its facet, so that its record has the cell across, and the two signs are equal exactly where the
 -- positions dropped are both even or both odd. Assumes nothing.
-use mathlib.Core.Bool.{Bool, true}
+use mathlib.Core.Bool.{Bool}
 use mathlib.Core.List.{List, ◌++◌}
-use mathlib.Core.Logic.{◌⊎◌, inl, inr, ⊎_elim}
+use mathlib.Core.Logic.{inl, inr, ⊎_elim}
 use mathlib.Core.Path.{◌≡◌, sym, ap, ◌∙◌, subst}
 use Prim.Native.Nat.{ℕ, zero, suc, ◌+◌, ◌-◌, ◌*◌, ◌/◌, ◌%◌, ◌<◌, ◌≤◌}
 use native.Mathlib.Nat.{add_comm, div-le_self, mul-le-mul_left}
@@ -135,7 +135,7 @@ module _ (d k : ℕ) (reps others : List ℕ) where
       ∙ get_or-append (fives d k f reps others) tail 0 (i * 5 + j) (omega (arith, fives-length d k reps others f)) ∙ fives-at f i j h l
 
 -- ---- the function `records`, step by step
-module _ (d m b : ℕ) (keys rows spare counts : List ℕ) (a : Keeping d m b keys rows spare counts) (sound : Bool) (f : ℕ) (keys' reps ids mates : List ℕ) (lk : length keys' ≡ length keys) (lr : length reps ≡ length spare) (lm : length mates ≡ length rows) (c : Classed d m sound f rows keys' reps ids mates) where
+module _ (d m b : ℕ) (keys rows spare counts : List ℕ) (a : Keeping d m b keys rows spare counts) (f : ℕ) (keys' reps ids mates : List ℕ) (lk : length keys' ≡ length keys) (lr : length reps ≡ length spare) (lm : length mates ≡ length rows) (c : Classed d m f rows keys' reps ids mates) where
   few-rows : m * slots d ≤ m * suc d
   few-rows = mul-le-mul_left m (slots-most d)
 
@@ -146,7 +146,7 @@ module _ (d m b : ℕ) (keys rows spare counts : List ℕ) (a : Keeping d m b ke
   in_rows = omega (arith, c.distinct.few, few-rows, a.meeting.rows_long)
 
   pub turning-keys : Turning f reps mates keys'
-  turning-keys = turning d m b keys rows spare counts a.meeting sound f keys' reps ids mates lk lr lm c keys' in_keys
+  turning-keys = turning d m b keys rows spare counts a.meeting f keys' reps ids mates lk lr lm c keys' in_keys
 
   -- the other rows stand in `from`, and are copied to the front of the mates
   module _ (from : List ℕ) (lf : length from ≡ length keys') (turned : (i : ℕ) → i < f → get_or from i 0 ≡ get_or mates (get_or reps i 0) 0) (part : List ℕ) (e : part ≡ take f from) where
@@ -172,12 +172,12 @@ module _ (d m b : ℕ) (keys rows spare counts : List ℕ) (a : Keeping d m b ke
             room = omega (arith, c.distinct.few, a.room);
           }
 
-      module _ (records : List ℕ) (t : records ≡ fives d k f reps (part ++ drop f mates) ++ drop (f * 5) from) (ok : sound ≡ true) where
+      module _ (records : List ℕ) (t : records ≡ fives d k f reps (part ++ drop f mates) ++ drop (f * 5) from) where
         as-slots : records ≡ fives d (slots d) f reps (part ++ drop f mates) ++ drop (f * 5) from
         as-slots = t ∙ ap (λ (z : ℕ). fives d z f reps (part ++ drop f mates) ++ drop (f * 5) from) ek
 
         the-pass : Pass d (cut (suc d) m rows) f keys' reps (part ++ drop f mates) mates
-        the-pass = classed-pass d m b keys rows spare counts a.meeting sound f keys' reps ids mates lk lr lm c a.narrow (part ++ drop f mates) others-long others-are ok
+        the-pass = classed-pass d m b keys rows spare counts a.meeting f keys' reps ids mates lk lr lm c a.narrow (part ++ drop f mates) others-long others-are
 
         free : Crowded d (cut (suc d) m rows) → ⊥
         free = not-crowded d m (cut (suc d) m rows) (cut-length (suc d) m rows) mates the-pass.mates a.meeting.few
@@ -186,7 +186,7 @@ module _ (d m b : ℕ) (keys rows spare counts : List ℕ) (a : Keeping d m b ke
         told x h =
             let i = get_or ids x 0 in
             let hi : i < f = c.distinct.id_below x h in
-            let s = c.yes ok in
+            let s = c.paired in
             let ir : get_or ids (get_or reps i 0) 0 ≡ i = id-rep (cell keys' d) d (m * slots d) f reps ids c.distinct i hi in
             record {
               lower = get_or reps i 0;
@@ -217,7 +217,7 @@ module _ (d m b : ℕ) (keys rows spare counts : List ℕ) (a : Keeping d m b ke
                   ∙ sym the-records;
               facet =
                   λ x h.
-                  row-facet d m b keys rows spare counts a.meeting keys' lk c.written f reps ids (part ++ drop f mates) mates c.distinct (omega (arith, few-rows, a.meeting.spare_long)) others-long (c.yes ok) others-are a.narrow x (in-m x h);
+                  row-facet d m b keys rows spare counts a.meeting keys' lk c.written f reps ids (part ++ drop f mates) mates c.distinct (omega (arith, few-rows, a.meeting.spare_long)) others-long c.paired others-are a.narrow x (in-m x h);
               inside =
                   λ x h.
                   omega (arith, c.distinct.id_below x (in-m x h), ap length as-slots, length-append (fives d (slots d) f reps (part ++ drop f mates)) (drop (f * 5) from), fives-length d (slots d) reps (part ++ drop f mates) f);

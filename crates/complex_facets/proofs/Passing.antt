@@ -1,5 +1,5 @@
 -- From classes of facet rows to the facets with their cells. Assumes nothing.
-use mathlib.Core.Bool.{Bool, true, false}
+use mathlib.Core.Bool.{true, false}
 use mathlib.Core.List.{List, [], ◌∷◌}
 use mathlib.Core.Path.{◌≡◌, refl, sym, ap, ◌∙◌, subst}
 use Prim.Native.Nat.{ℕ, suc, ◌-◌, ◌*◌, ◌/◌, ◌%◌, ◌<◌, ◌≤◌}
@@ -24,7 +24,7 @@ use Rattle.complex_cells.proofs.Words.{Word, In}
 use Rattle.complex_cells.proofs.Named.{named, row_list-at}
 use Rattle.complex_mates.specs.Table.{Written, Paired, Three, Meet, MateTable, Meeting}
 use Rattle.complex_mates.proofs.Meeting.{crowd, mate-table, slots-most}
-use Rattle.complex_facets.specs.WorkClasses.{Turning, Classed, Classes, Pass, Found}
+use Rattle.complex_facets.specs.WorkClasses.{Turning, Classed, Classes, Pass}
 use Rattle.lists.proofs.Words.{word-true, word-false}
 use Rattle.complex_facets.proofs.Numbers.{numbers-one, numbers-two, tab-in, in-tab}
 
@@ -150,14 +150,21 @@ module _ (d m b : ℕ) (keys rows spare counts : List ℕ) (a : Meeting d m b ke
   row-facet x h = sym (its-row (get_or ids x 0) (q.id_below x h) x h refl)
 
 -- what the pass leaves, with the number of rows a cell as the code has it
-pub classed-done : (d m b : ℕ) (keys rows spare counts : List ℕ) → Meeting d m b keys rows spare counts → (k : ℕ) → k ≡ slots d → (keys' : List ℕ) → length keys' ≡ length keys → (f : ℕ) (reps ids mates : List ℕ) (sound : Bool) →
-    Written d k rows keys' (m * k) → Distinct (cell keys' d) d (m * k) f reps ids → (sound ≡ true → Paired (m * k) ids mates) → (sound ≡ false → Three (m * k) ids) → Classed d m sound f rows keys' reps ids mates
-classed-done d m b keys rows spare counts a k e keys' l f reps ids mates sound =
-    subst (λ (z : ℕ). Written d z rows keys' (m * z) → Distinct (cell keys' d) d (m * z) f reps ids → (sound ≡ true → Paired (m * z) ids mates) → (sound ≡ false → Three (m * z) ids) → Classed d m sound f rows keys' reps ids mates) (sym e)
-    (λ w q p t. record { written = w; distinct = q; yes = p; no = λ n. crowd d m rows keys' reps ids a.cells (omega (arith, a.keys_long)) w f q (t n) })
+pub classed-done : (d m b : ℕ) (keys rows spare counts : List ℕ) → Meeting d m b keys rows spare counts → (k : ℕ) → k ≡ slots d → (keys' : List ℕ) → length keys' ≡ length keys → (f : ℕ) (reps ids mates : List ℕ) →
+    Written d k rows keys' (m * k) → Distinct (cell keys' d) d (m * k) f reps ids → Paired (m * k) ids mates → Classed d m f rows keys' reps ids mates
+classed-done d m b keys rows spare counts a k e keys' l f reps ids mates =
+    subst (λ (z : ℕ). Written d z rows keys' (m * z) → Distinct (cell keys' d) d (m * z) f reps ids → Paired (m * z) ids mates → Classed d m f rows keys' reps ids mates) (sym e)
+    (λ w q p. record { written = w; distinct = q; paired = p })
+
+-- or that a facet lies in three cells
+pub classed-crowd : (d m b : ℕ) (keys rows spare counts : List ℕ) → Meeting d m b keys rows spare counts → (k : ℕ) → k ≡ slots d → (keys' : List ℕ) → length keys' ≡ length keys → (f : ℕ) (reps ids : List ℕ) →
+    Written d k rows keys' (m * k) → Distinct (cell keys' d) d (m * k) f reps ids → Three (m * k) ids → Crowded d (cut (suc d) m rows)
+classed-crowd d m b keys rows spare counts a k e keys' l f reps ids =
+    subst (λ (z : ℕ). Written d z rows keys' (m * z) → Distinct (cell keys' d) d (m * z) f reps ids → Three (m * z) ids → Crowded d (cut (suc d) m rows)) (sym e)
+    (λ w q t. crowd d m rows keys' reps ids a.cells (omega (arith, a.keys_long)) w f q t)
 
 -- the facets with their other rows
-module _ (d m b : ℕ) (keys rows spare counts : List ℕ) (a : Meeting d m b keys rows spare counts) (sound : Bool) (f : ℕ) (keys' reps ids mates : List ℕ) (lk : length keys' ≡ length keys) (lr : length reps ≡ length spare) (lm : length mates ≡ length rows) (c : Classed d m sound f rows keys' reps ids mates) where
+module _ (d m b : ℕ) (keys rows spare counts : List ℕ) (a : Meeting d m b keys rows spare counts) (f : ℕ) (keys' reps ids mates : List ℕ) (lk : length keys' ≡ length keys) (lr : length reps ≡ length spare) (lm : length mates ≡ length rows) (c : Classed d m f rows keys' reps ids mates) where
   few-rows : m * slots d ≤ m * suc d
   few-rows = mul-le-mul_left m (slots-most d)
 
@@ -174,9 +181,6 @@ module _ (d m b : ℕ) (keys rows spare counts : List ℕ) (a : Meeting d m b ke
       }
 
   module _ (narrow : m * slots d * d < 4294967296) (others : List ℕ) (lo : f ≤ length others) (turned : (i : ℕ) → i < f → get_or others i 0 ≡ get_or mates (get_or reps i 0) 0) where
-    pub classed-pass : sound ≡ true → Pass d (cut (suc d) m rows) f keys' reps others mates
-    classed-pass e =
-        pass d m b keys rows spare counts a keys' lk c.written f reps ids others mates c.distinct (omega (arith, few-rows, a.spare_long)) lo (c.yes e) turned narrow
-
-    pub classed-found : Found d (cut (suc d) m rows) sound f keys' reps others mates
-    classed-found = record { yes = classed-pass; no = c.no }
+    pub classed-pass : Pass d (cut (suc d) m rows) f keys' reps others mates
+    classed-pass =
+        pass d m b keys rows spare counts a keys' lk c.written f reps ids others mates c.distinct (omega (arith, few-rows, a.spare_long)) lo c.paired turned narrow

@@ -1,7 +1,6 @@
 -- Facet rows in classes: each class is a facet, and its rows are the cells that it lies in. Assumes nothing.
-use Rattle.std.specs.Prelude.{Bool, true, false, List, [], ◌∷◌, ◌++◌, ◌≡◌, ℕ, zero, suc, ◌*◌, ◌<◌, ◌≤◌, eqb, length, get_or}
+use Rattle.std.specs.Prelude.{List, [], ◌∷◌, ◌++◌, ◌≡◌, ℕ, zero, suc, ◌*◌, ◌<◌, ◌≤◌, eqb, length, get_or, Option, Some, None}
 use Rattle.lists.specs.Words.{none}
-use Rattle.lists.specs.Rows.{cut}
 use Rattle.sorting.specs.Bucket.{cell}
 use Rattle.sorting.specs.Distinct.{Distinct}
 use Rattle.complex_mates.specs.Table.{Written, Paired, Meet, MateTable}
@@ -15,12 +14,11 @@ pub record Turning (f : ℕ) (reps mates to : List ℕ) : Type 0 where
   pub in_to : f ≤ length to
   pub inside : (i : ℕ) → i < f → get_or reps i 0 < length mates
 
--- what one pass over the facet rows of m cells leaves: the rows, the lowest row of each of the f facets, the facet of each row, and the mates, or that a facet lies in three cells
-pub record Classed (d m : ℕ) (sound : Bool) (f : ℕ) (cells keys reps ids mates : List ℕ) : Type 0 where
+-- what one pass over the facet rows of m cells leaves where no facet lies in three of them: the rows, the lowest row of each of the f facets, the facet of each row, and the mates
+pub record Classed (d m f : ℕ) (cells keys reps ids mates : List ℕ) : Type 0 where
   pub written : Written d (slots d) cells keys (m * slots d)
   pub distinct : Distinct (cell keys d) d (m * slots d) f reps ids
-  pub yes : sound ≡ true → Paired (m * slots d) ids mates
-  pub no : sound ≡ false → Crowded d (cut (suc d) m cells)
+  pub paired : Paired (m * slots d) ids mates
 
 -- the facets of cells: f of them, named by their lowest rows, and the other row of each, or none
 pub record Classes (d : ℕ) (cs : List (List ℕ)) (f : ℕ) (keys reps others : List ℕ) : Type 0 where
@@ -37,10 +35,10 @@ pub record Pass (d : ℕ) (cs : List (List ℕ)) (f : ℕ) (keys reps others row
   pub mates : MateTable d cs rows
   pub meet : (i : ℕ) → i < f → (get_or others i 0 ≡ none → ⊥) → Meet d cs (get_or reps i 0) (get_or others i 0)
 
--- what one pass over the facet rows finds: the facets, or that one lies in three cells
-pub record Found (d : ℕ) (cs : List (List ℕ)) (sound : Bool) (f : ℕ) (keys reps others rows : List ℕ) : Type 0 where
-  pub yes : sound ≡ true → Pass d cs f keys reps others rows
-  pub no : sound ≡ false → Crowded d cs
+-- what one pass over the facet rows finds: the facets and how many there are, or that one lies in three cells
+pub record Found (d : ℕ) (cs : List (List ℕ)) (found : Option ℕ) (keys reps others rows : List ℕ) : Type 0 where
+  pub yes : (f : ℕ) → found ≡ Some f → Pass d cs f keys reps others rows
+  pub no : found ≡ None → Crowded d cs
 
 -- the lowest rows of the first f classes that have no other row
 unfoldable pub lone_rows : ℕ → List ℕ → List ℕ → List ℕ

@@ -2,7 +2,7 @@
 // Follows `Complex::facets` and `Complex::boundary_facets` (crates/simplicial/src/topology/complex.rs).
 #![tactic(auto)]
 
-ghost use Rattle.std.specs.Prelude.{true, false, ◌++◌, ◌≡◌, ℕ, suc, ◌*◌, ◌<◌, ◌≤◌, eqb, length, get_or, drop};
+ghost use Rattle.std.specs.Prelude.{true, false, ◌++◌, ◌≡◌, ℕ, suc, ◌*◌, ◌<◌, ◌≤◌, eqb, length, get_or, drop, Option, Some, None};
 ghost use Rattle.refusal.specs.Limits.{many_corners};
 ghost use Rattle.lists.specs.Rows.{cut};
 ghost use Rattle.complex.specs.Facets.{Crowded, slots};
@@ -18,28 +18,18 @@ use refusal::Room;
 // No row: a facet in one cell has no second row.
 const NONE: u32 = 4294967295;
 
-// What one pass over the facet rows finds: whether no facet lies in three cells, and how many facets there are.
-#[derive(Clone, Copy)]
-pub struct FacetCount {
-    pub sound: bool,
-    pub count: usize,
-}
-
 // The mates of the first rows of f classes.
 fn others(f: usize, reps: &[u32], mates: &[u32], to: &mut [u32])
     requires { Turning f reps.now mates.now to.old }
     ensures { (i : ℕ) → i < f → get_or to.new i 0 ≡ get_or mates.now (get_or reps.now i 0) 0 }
 {
-    let mut i = 0;
-    while i < f {
-        let x = lists::wide(reps[i]);
-        to[i] = mates[x];
-        i += 1;
+    for i in 0..f {
+        to[i] = mates[reps[i] as usize];
     }
 }
 
 // One pass over the facet rows of the m cells in `rows`: the rows stand in `keys`, the lowest row of each facet, in order, in `spare`, the facet of each row in `counts`, and
-// the mate of each row in `rows`.
+// the mate of each row in `rows`. Says how many facets there are, or None where one lies in three cells.
 fn classes(
     d: usize,
     m: usize,
@@ -48,22 +38,25 @@ fn classes(
     rows: &mut [u32],
     spare: &mut [u32],
     counts: &mut [u32],
-) -> FacetCount
+) -> Option<usize>
     requires { Meeting d m b keys.old rows.old spare.old counts.old }
-    ensures { Classed d m result.sound result.count rows.old keys.new spare.new counts.new rows.new }
+    ensures all { (f : ℕ) → result ≡ Some f → Classed d m f rows.old keys.new spare.new counts.new rows.new }
+    ensures crowd { result ≡ None → Crowded d (cut (suc d) m rows.old) }
 {
     let k = complex_mates::slots(d);
     complex_mates::facet_rows(d, k, m, rows, keys);
     let total = m * k;
     sorting::sort_rows(keys, d, total, b, rows, spare, counts);
     let count = sorting::distinct(keys, d, total, rows, spare, counts);
-    lists::fill(&mut rows[..total], NONE);
-    let sound = complex_mates::pair_up(total, spare, counts, rows);
-    FacetCount { sound, count }
+    rows[..total].fill(NONE);
+    if !complex_mates::pair_up(total, spare, counts, rows) {
+        return None;
+    }
+    Some(count)
 }
 
 // The distinct facets of the m cells in `rows`, in one pass: their rows stand in `keys`, the lowest row of each, in order, in `spare`, the other row, where there is one, in
-// `counts`, and the mate of each row in `rows`.
+// `counts`, and the mate of each row in `rows`. Says how many facets there are, or None where one lies in three cells.
 pub fn facets(
     d: usize,
     m: usize,
@@ -72,13 +65,13 @@ pub fn facets(
     rows: &mut [u32],
     spare: &mut [u32],
     counts: &mut [u32],
-) -> FacetCount
+) -> Option<usize>
     requires { Meeting d m b keys.old rows.old spare.old counts.old × (m * slots d * d < 4294967296) }
-    ensures { Found d (cut (suc d) m rows.old) result.sound result.count keys.new spare.new counts.new rows.new }
+    ensures { Found d (cut (suc d) m rows.old) result keys.new spare.new counts.new rows.new }
 {
-    let found = classes(d, m, b, keys, rows, spare, counts);
-    others(found.count, spare, rows, counts);
-    found
+    let f = classes(d, m, b, keys, rows, spare, counts)?;
+    others(f, spare, rows, counts);
+    Some(f)
 }
 
 // The lowest rows of the classes that have no second row, in their order. Says how many there are.
@@ -87,15 +80,11 @@ pub fn lone(f: usize, reps: &[u32], others: &[u32], to: &mut [u32]) -> usize
     ensures { (result ≡ length (lone_rows f reps.now others.now)) × (to.new ≡ lone_rows f reps.now others.now ++ drop result to.old) }
 {
     let mut j = 0;
-    let mut i = 0;
-    while i < f {
-        if others[i] != NONE {
-            i += 1;
-            continue;
+    for i in 0..f {
+        if others[i] == NONE {
+            to[j] = reps[i];
+            j += 1;
         }
-        to[j] = reps[i];
-        j += 1;
-        i += 1;
     }
     j
 }
@@ -108,7 +97,7 @@ fn cell_of(k: usize, x: u32) -> u32
     if x == NONE {
         return NONE;
     }
-    (lists::wide(x) / k) as u32
+    (x as usize / k) as u32
 }
 
 // The position that a row drops, and NONE where there is no row.
@@ -119,7 +108,7 @@ fn place_of(d: usize, k: usize, x: u32) -> u32
     if x == NONE {
         return NONE;
     }
-    (d - lists::wide(x) % k) as u32
+    (d - x as usize % k) as u32
 }
 
 // Writes for each of the f facets its cells and the positions dropped there: by its lowest row, and by its other row.
@@ -127,8 +116,7 @@ pub fn write_table(d: usize, k: usize, f: usize, reps: &[u32], others: &[u32], t
     requires { Tabling d k f reps.now others.now table.old }
     ensures { table.new ≡ fours d k f reps.now others.now ++ drop (f * 4) table.old }
 {
-    let mut i = 0;
-    while i < f {
+    for i in 0..f {
         let x = reps[i];
         let y = others[i];
         let at = i * 4;
@@ -139,7 +127,6 @@ pub fn write_table(d: usize, k: usize, f: usize, reps: &[u32], others: &[u32], t
         table[second] = place_of(d, k, x);
         table[third] = cell_of(k, y);
         table[fourth] = place_of(d, k, y);
-        i += 1;
     }
 }
 
@@ -151,7 +138,7 @@ fn sign_of(d: usize, k: usize, x: u32) -> u32
     if x == NONE {
         return 0;
     }
-    let place = d - lists::wide(x) % k;
+    let place = d - x as usize % k;
     (place % 2 + 1) as u32
 }
 
@@ -167,8 +154,7 @@ pub fn write_records(
     requires { Recording d k f reps.now others.now records.old }
     ensures { records.new ≡ fives d k f reps.now others.now ++ drop (f * 5) records.old }
 {
-    let mut i = 0;
-    while i < f {
+    for i in 0..f {
         let x = reps[i];
         let y = others[i];
         let at = i * 5;
@@ -181,7 +167,6 @@ pub fn write_records(
         records[third] = cell_of(k, y);
         records[fourth] = sign_of(d, k, y);
         records[fifth] = 1;
-        i += 1;
     }
 }
 
@@ -199,13 +184,11 @@ pub fn records(
     ensures all { result ≡ true → Recorded d (cut (suc d) m rows.old) keys.new counts.new }
     ensures crowd { result ≡ false → Crowded d (cut (suc d) m rows.old) }
 {
-    let found = classes(d, m, b, keys, rows, spare, counts);
-    if !found.sound {
+    let Some(f) = classes(d, m, b, keys, rows, spare, counts) else {
         return false;
-    }
-    let f = found.count;
+    };
     others(f, spare, rows, keys);
-    lists::copy(&keys[..f], &mut rows[..f]);
+    rows[..f].copy_from_slice(&keys[..f]);
     write_records(d, complex_mates::slots(d), f, spare, rows, keys);
     true
 }
@@ -242,15 +225,13 @@ pub fn across(
     requires { Crossing k total records.now ids.now other.old flip.old }
     ensures { (x : ℕ) → x < total → Crossed k records.now ids.now other.new flip.new x }
 {
-    let mut x = 0;
-    while x < total {
-        let at = lists::wide(ids[x]) * 5;
+    for x in 0..total {
+        let at = ids[x] as usize * 5;
         let second = at + 1;
         let third = second + 1;
         let fourth = third + 1;
         other[x] = other_cell((x / k) as u32, records[at], records[third]);
         flip[x] = flip_of(records[second], records[fourth]);
-        x += 1;
     }
 }
 

@@ -1,10 +1,10 @@
 -- The promise determines what is said and every list: two calls on equal inputs end alike. Assumes nothing.
+use Rattle.refusal.specs.Says.{Counted}
 use mathlib.Core.List.{List, []}
 use mathlib.Core.Path.{◌≡◌, refl, sym, ap, ◌∙◌}
 use Prim.Native.Nat.{ℕ}
 use native.Mathlib.Omega.{arith}
 use lib.ListN.{length}
-use Rattle.refusal.specs.declared.Counted.{Counted}
 use Rattle.refusal.specs.Lent.{onto}
 use Rattle.complex.specs.Room.{need_of}
 use Rattle.skeleton.specs.Promise.{GivesBoth, words_short, table_short, both_listed}

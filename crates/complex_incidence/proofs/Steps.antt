@@ -1,8 +1,11 @@
 -- The steps of the index: what each inner call asks follows from what the calls before it gave. Assumes nothing.
+use Rattle.refusal.specs.declared.Refusal.TheVariants.{CrowdedFacet, TooShort}
+use Rattle.refusal.specs.Says.{Counted}
+use Rattle.std.specs.Prelude.{Err, Ok}
 use mathlib.Core.Bool.{Bool, true, false}
 use mathlib.Core.List.{List, [], ◌++◌, map}
 use mathlib.Core.Path.{◌≡◌, refl, sym, ap, ◌∙◌, subst}
-use Prim.Native.Nat.{ℕ, suc, ◌+◌, ◌-◌, ◌*◌, ◌/◌, ◌%◌, ◌<◌, ◌≤◌}
+use Prim.Native.Nat.{ℕ, suc, ◌+◌, ◌*◌, ◌/◌, ◌%◌, ◌<◌, ◌≤◌}
 use native.Mathlib.Nat.{mod-lt, div-lt_iff_lt-mul, div-add-mod', mul-one, add-zero}
 use native.Mathlib.Numerals.{add-one}
 use native.Mathlib.Decide.{dec_lt}
@@ -10,9 +13,6 @@ use native.Mathlib.Omega.{arith}
 use lib.ListN.{length, get_or, take, drop, length-append, length-take, length-drop, take-append-drop}
 use lib.Seq.{length-take-le, get_or-take, get_or-drop, take_at}
 use Rattle.lists.specs.Tables.{upto, tab}
-use Rattle.refusal.specs.declared.Counted.{Counted}
-use Rattle.refusal.specs.declared.Counted.TheVariants.{Count, Refused}
-use Rattle.refusal.specs.Table.{crowded_facet, too_short}
 use Rattle.lists.specs.Words.{largest_of}
 use Rattle.lists.specs.Rows.{flat, cut, rows as rows_of_lem}
 use Rattle.lists.proofs.Words.{below-largest}
@@ -95,18 +95,18 @@ module _ (n long vertices : ℕ) (corners order : List ℕ) (b : ByVertex vertic
   starts-long : length (starts_of (index_of cs vertices)) ≡ vertices + 1
   starts-long = ap length starts-are ∙ length-tab (vertices + 1) (corners_below corners long)
 
-  pub cells-short : (touching starts : List ℕ) → length touching < long → Handed cs vertices (Refused too_short 0) touching touching starts starts
+  pub cells-short : (touching starts : List ℕ) → length touching < long → Handed cs vertices (Err TooShort) touching touching starts starts
   cells-short touching starts h = record { handed = ([], []); gives = words_short (omega (arith, flat-long)); result = refl; sides = refl }
 
-  pub starts-short : (touching starts : List ℕ) → length starts ≤ vertices → Handed cs vertices (Refused too_short 0) touching touching starts starts
+  pub starts-short : (touching starts : List ℕ) → length starts ≤ vertices → Handed cs vertices (Err TooShort) touching touching starts starts
   starts-short touching starts h = record { handed = ([], []); gives = table_short (omega (arith, starts-long)); result = refl; sides = refl }
 
-  pub both-handed : (touching touching' starts starts' : List ℕ) → long ≤ length touching → vertices < length starts → touching' ≡ tab long (λ i. get_or order i 0 / n) ++ drop long touching → starts' ≡ tab (vertices + 1) (corners_below corners long) ++ drop (vertices + 1) starts → Handed cs vertices (Count vertices) touching touching' starts starts'
+  pub both-handed : (touching touching' starts starts' : List ℕ) → long ≤ length touching → vertices < length starts → touching' ≡ tab long (λ i. get_or order i 0 / n) ++ drop long touching → starts' ≡ tab (vertices + 1) (corners_below corners long) ++ drop (vertices + 1) starts → Handed cs vertices (Ok vertices) touching touching' starts starts'
   both-handed touching touching' starts starts' h l p q =
       record {
         handed = (flat (index_of cs vertices), starts_of (index_of cs vertices));
         gives =
-            subst (λ (m : ℕ). GivesBoth (index_of cs vertices) (starts_of (index_of cs vertices)) (length touching) (length starts) (Count m) (flat (index_of cs vertices), starts_of (index_of cs vertices))) (length-tab vertices (cells_at cs))
+            subst (λ (m : ℕ). GivesBoth (index_of cs vertices) (starts_of (index_of cs vertices)) (length touching) (length starts) (Ok m) (flat (index_of cs vertices), starts_of (index_of cs vertices))) (length-tab vertices (cells_at cs))
             (both_listed (omega (arith, flat-long)) (omega (arith, starts-long)));
         result = rw (flat-long, flat-is) p;
         sides = rw (starts-long, starts-are) q;
@@ -226,7 +226,7 @@ module _ (d : ℕ) (ws keys rows spare counts : List ℕ) (w : Working (need_of 
 
 -- ---- after 7
 module _ (d : ℕ) (ws : List ℕ) (ok : Bool) (s : Sound d ws ok) where
-  pub work-crowded : (touching starts : List ℕ) → ok ≡ false → Worked d ws (Refused crowded_facet 0) touching touching starts starts
+  pub work-crowded : (touching starts : List ℕ) → ok ≡ false → Worked d ws (Err CrowdedFacet) touching touching starts starts
   work-crowded touching starts e = record { handed = ([], []); ends = crowded (s.no e); result = refl; sides = refl }
 
   pub work-rest : (r : Counted) (touching touching' starts starts' : List ℕ) → ok ≡ true → Handed (cells_of d ws) (largest_of ws + 1) r touching touching' starts starts' → Worked d ws r touching touching' starts starts'

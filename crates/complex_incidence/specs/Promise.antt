@@ -1,6 +1,6 @@
 -- What the call `incidence` comes to, on every input. Assumes nothing.
+use Rattle.refusal.specs.Says.{Counted}
 use Rattle.std.specs.Prelude.{List, [], ◌≡◌, ℕ, length}
-use Rattle.refusal.specs.declared.Counted.{Counted}
 use Rattle.refusal.specs.Lent.{onto}
 use Rattle.complex.specs.Room.{need_of}
 use Rattle.skeleton.specs.Promise.{GivesBoth, Call}

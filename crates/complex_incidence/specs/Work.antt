@@ -1,6 +1,6 @@
 -- What the inner functions ask of their lists and give: corners by vertex, and the index from them. Assumes nothing.
+use Rattle.refusal.specs.Says.{Counted}
 use Rattle.std.specs.Prelude.{Bool, true, false, List, [], ◌≡◌, ℕ, suc, ◌*◌, ◌<◌, ◌≤◌, length, get_or, take}
-use Rattle.refusal.specs.declared.Counted.{Counted}
 use Rattle.refusal.specs.Lent.{onto}
 use Rattle.lists.specs.Tables.{upto}
 use Rattle.lists.specs.Rows.{cut}

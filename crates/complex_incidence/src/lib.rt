@@ -17,8 +17,8 @@ ghost use Rattle.lists.specs.Tables.{tab};
 ghost use Rattle.complex_incidence.specs.Work.{corners_below, IsBelow, CornerOrder, Sorting, ByVertex, Handing, Handed, Worked};
 ghost use Rattle.complex_incidence.specs.Promise.{Indexed};
 
-use lists::{largest, wide};
-use refusal::{Answer, CROWDED_FACET, Counted, Room, TOO_SHORT};
+use lists::largest;
+use refusal::{Refusal, Room};
 
 // Whether there is a corner at place i of the order, and its vertex is below v.
 fn is_below(v: usize, i: usize, long: usize, corners: &[u32], order: &[u32]) -> bool
@@ -28,8 +28,7 @@ fn is_below(v: usize, i: usize, long: usize, corners: &[u32], order: &[u32]) -> 
     if long <= i {
         return false;
     }
-    let at = wide(order[i]);
-    wide(corners[at]) < v
+    (corners[order[i] as usize] as usize) < v
 }
 
 // Writes how many corners have a vertex below v, for each v up to `vertices`: where the vertex's cells start, and, last, where they end.
@@ -37,16 +36,13 @@ fn write_starts(vertices: usize, long: usize, corners: &[u32], order: &[u32], st
     requires { ByVertex vertices long corners.now order.now × (vertices < length starts.old) }
     ensures { starts.new ≡ tab (vertices + 1) (corners_below corners.now long) ++ drop (vertices + 1) starts.old }
 {
-    let end = vertices + 1;
     let mut i = 0;
-    let mut v = 0;
-    while v < end {
-        if is_below(v, i, long, corners, order) {
+    for v in 0..vertices + 1 {
+        // Kept: the walk ends at the first corner whose vertex is not below v.
+        while is_below(v, i, long, corners, order) {
             i += 1;
-            continue;
         }
         starts[v] = i as u32;
-        v += 1;
     }
 }
 
@@ -55,7 +51,7 @@ fn cell_of(n: usize, corner: u32) -> u32
     requires { 0 < n }
     ensures { result ≡ corner / n }
 {
-    (wide(corner) / n) as u32
+    (corner as usize / n) as u32
 }
 
 // Writes the cell of each corner, n corners a cell, in the order's sequence.
@@ -63,10 +59,8 @@ fn write_cells(n: usize, long: usize, order: &[u32], to: &mut [u32])
     requires { (0 < n) × (long ≤ length order.now) × (long ≤ length to.old) }
     ensures { to.new ≡ tab long (λ i. get_or order.now i 0 / n) ++ drop long to.old }
 {
-    let mut i = 0;
-    while i < long {
+    for i in 0..long {
         to[i] = cell_of(n, order[i]);
-        i += 1;
     }
 }
 
@@ -82,7 +76,7 @@ fn by_vertex(
     requires { Sorting long vertices keys.old rows.old spare.old counts.old }
     ensures { ByVertex vertices long keys.new rows.new × (take long keys.new ≡ take long rows.old) }
 {
-    lists::copy(&rows[..long], &mut keys[..long]);
+    keys[..long].copy_from_slice(&rows[..long]);
     sorting::sort_rows(keys, 1, long, vertices, rows, spare, counts);
 }
 
@@ -95,20 +89,20 @@ fn hand_index(
     order: &[u32],
     touching: &mut [u32],
     starts: &mut [u32],
-) -> Counted
+) -> Result<u32, Refusal>
     requires { (0 < n) × ByVertex vertices long corners.now order.now }
     ensures { (cs : List (List ℕ)) → Handing n long vertices corners.now cs → Handed cs vertices result touching.old touching.new
         starts.old starts.new }
 {
     if touching.len() < long {
-        return Counted::Refused(TOO_SHORT, 0);
+        return Err(Refusal::TooShort);
     }
     if starts.len() <= vertices {
-        return Counted::Refused(TOO_SHORT, 0);
+        return Err(Refusal::TooShort);
     }
     write_cells(n, long, order, touching);
     write_starts(vertices, long, corners, order, starts);
-    Counted::Count(vertices as u32)
+    Ok(vertices as u32)
 }
 
 // Hands out the index.
@@ -121,7 +115,7 @@ fn list_index(
     rows: &mut [u32],
     spare: &mut [u32],
     counts: &mut [u32],
-) -> Counted
+) -> Result<u32, Refusal>
     requires { Working (need_of d (length words.now)) d words.now keys.old rows.old spare.old counts.old }
     ensures { Handed (cells_of d words.now) (largest_of words.now + 1) result touching.old touching.new starts.old
         starts.new }
@@ -129,7 +123,7 @@ fn list_index(
     let m = complex_cells::cells(d, words, keys, rows, spare, counts);
     let n = d + 1;
     let long = m * n;
-    let vertices = wide(largest(words)) + 1;
+    let vertices = largest(words) as usize + 1;
     by_vertex(long, vertices, keys, rows, spare, counts);
     hand_index(n, long, vertices, keys, rows, touching, starts)
 }
@@ -144,12 +138,12 @@ fn index_work(
     rows: &mut [u32],
     spare: &mut [u32],
     counts: &mut [u32],
-) -> Counted
+) -> Result<u32, Refusal>
     requires { Working (need_of d (length words.now)) d words.now keys.old rows.old spare.old counts.old }
     ensures { Worked d words.now result touching.old touching.new starts.old starts.new }
 {
     if !skeleton::sound(d, words, keys, rows, spare, counts) {
-        return Counted::Refused(CROWDED_FACET, 0);
+        return Err(Refusal::CrowdedFacet);
     }
     list_index(d, words, touching, starts, keys, rows, spare, counts)
 }
@@ -164,7 +158,7 @@ fn index_cleared(
     rows: &mut [u32],
     spare: &mut [u32],
     counts: &mut [u32],
-) -> Counted
+) -> Result<u32, Refusal>
     requires { Working (need_of d (length words.now)) d words.now keys.old rows.old spare.old counts.old }
     ensures work { Worked d words.now result touching.old touching.new starts.old starts.new }
     ensures room { AllZero keys.old keys.new rows.old rows.new spare.old spare.new counts.old
@@ -187,14 +181,11 @@ pub fn incidence(
     rows: &mut [u32],
     spare: &mut [u32],
     counts: &mut [u32],
-) -> Counted
+) -> Result<u32, Refusal>
     ensures { Indexed d words.now result touching.old touching.new starts.old starts.new keys.old
         keys.new rows.old rows.new spare.old spare.new counts.old counts.new }
 {
-    let answer = complex::check_cells(d, words);
-    if let Answer::Refused(number, place) = answer {
-        return Counted::Refused(number, place);
-    }
+    complex::check_cells(d, words)?;
     let dim = d as usize;
     let need = complex::need(dim, words.len());
     let have = Room {
@@ -204,7 +195,7 @@ pub fn incidence(
         counts: counts.len(),
     };
     if !refusal::has_room(need, have) {
-        return Counted::Refused(TOO_SHORT, 0);
+        return Err(Refusal::TooShort);
     }
     let k = need.keys;
     let r = need.rows;

@@ -6,32 +6,18 @@ ghost use Rattle.std.specs.Prelude.{true, false, ◌≡◌, ℕ, suc, ◌+◌, �
 ghost use Rattle.lists.specs.Rows.{cut, row};
 ghost use Rattle.complex.specs.Facets.{facet_at, slots, Cells, Crowded};
 ghost use Rattle.lists.specs.Words.{none};
-ghost use Rattle.complex_mates.specs.Table.{Kept, Written, Writing, Grouped, Paired, Three, MateTable, Across, Crossing, Meeting};
+ghost use Rattle.complex_mates.specs.Table.{Written, Writing, Grouped, Paired, Three, MateTable, Across, Crossing, Meeting};
 
 // No row: a facet in one cell has no mate.
 pub const NONE: u32 = 4294967295;
-
-// Where number j of the facet stands in the cell.
-fn kept(skip: usize, j: usize) -> usize
-    requires { j < 4294967296 }
-    ensures { Kept skip j result }
-{
-    if j < skip {
-        return j;
-    }
-    j + 1
-}
 
 // Writes the cell w without its number at skip.
 fn facet(w: &[u32], skip: usize, to: &mut [u32])
     requires { (length w.now ≡ length to.old + 1) × (skip ≤ length to.old) × (length to.old < 4294967296) }
     ensures { to.new ≡ facet_at w.now skip }
 {
-    let mut j = 0;
-    while j < to.len() {
-        to[j] = w[kept(skip, j)];
-        j += 1;
-    }
+    to[..skip].copy_from_slice(&w[..skip]);
+    to[skip..].copy_from_slice(&w[skip + 1..]);
 }
 
 // How many facets a cell has.
@@ -52,14 +38,10 @@ pub fn facet_rows(d: usize, k: usize, m: usize, cells: &[u32], keys: &mut [u32])
 {
     let n = d + 1;
     let total = m * k;
-    let mut x = 0;
-    while x < total {
+    for x in 0..total {
         let from = x / k * n;
-        let until = from + n;
         let at = x * d;
-        let end = at + d;
-        facet(&cells[from..until], d - x % k, &mut keys[at..end]);
-        x += 1;
+        facet(&cells[from..from + n], d - x % k, &mut keys[at..at + d]);
     }
 }
 
@@ -70,12 +52,9 @@ pub fn pair_up(total: usize, reps: &[u32], ids: &[u32], mates: &mut [u32]) -> bo
     ensures all { result ≡ true → Paired total ids.now mates.new }
     ensures crowd { result ≡ false → Three total ids.now }
 {
-    let mut x = 0;
-    while x < total {
-        let id = lists::wide(ids[x]);
-        let first = lists::wide(reps[id]);
+    for x in 0..total {
+        let first = reps[ids[x] as usize] as usize;
         if first == x {
-            x += 1;
             continue;
         }
         if mates[first] != NONE {
@@ -83,7 +62,6 @@ pub fn pair_up(total: usize, reps: &[u32], ids: &[u32], mates: &mut [u32]) -> bo
         }
         mates[first] = x as u32;
         mates[x] = first as u32;
-        x += 1;
     }
     true
 }
@@ -107,7 +85,7 @@ pub fn mates(
     let total = m * k;
     sorting::sort_rows(keys, d, total, b, rows, spare, counts);
     sorting::distinct(keys, d, total, rows, spare, counts);
-    lists::fill(&mut rows[..total], NONE);
+    rows[..total].fill(NONE);
     pair_up(total, spare, counts, rows)
 }
 
@@ -116,18 +94,14 @@ pub fn across(k: usize, total: usize, mates: &[u32], other: &mut [u32], flip: &m
     requires { Crossing k total mates.now other.old flip.old }
     ensures { (x : ℕ) → x < total → Across k mates.now other.new flip.new x }
 {
-    let mut x = 0;
-    while x < total {
-        let y = mates[x];
-        if y == NONE {
+    for x in 0..total {
+        if mates[x] == NONE {
             other[x] = NONE;
             flip[x] = 0;
-            x += 1;
             continue;
         }
-        let mate = lists::wide(y);
+        let mate = mates[x] as usize;
         other[x] = (mate / k) as u32;
         flip[x] = ((x % k + mate % k + 1) % 2) as u32;
-        x += 1;
     }
 }

@@ -1,4 +1,7 @@
 -- The border by the records: those with no other cell are as many as the facets that lie in one cell, and so `border` says after `records`. Assumes nothing.
+use Rattle.refusal.specs.declared.Refusal.{Refusal}
+use Rattle.refusal.specs.Says.{Counted, fine}
+use Rattle.std.specs.Prelude.{Err, Ok}
 use mathlib.Core.Bool.{Bool, true, false}
 use mathlib.Core.List.{List, [], ◌∷◌, ◌++◌, append-nil}
 use mathlib.Core.Path.{◌≡◌, refl, sym, ap, ◌∙◌, subst}
@@ -10,9 +13,6 @@ use lib.Dec.{eqb}
 use lib.ListN.{length, get_or, take, drop, length-append, get_or-append}
 use lib.Seq.{take-length, get_or-append-add}
 use borrow.Author.Tests.{eq-eqb, ne_eqb}
-use Rattle.refusal.specs.declared.Answer.TheVariants.{Fine}
-use Rattle.refusal.specs.declared.Counted.{Counted}
-use Rattle.refusal.specs.declared.Counted.TheVariants.{Count, Refused}
 use Rattle.refusal.specs.declared.Room.{Room}
 use Rattle.refusal.specs.Lent.{lengths}
 use Rattle.refusal.specs.Call.{Comes, refused, cramped, ended}
@@ -121,23 +121,23 @@ front-decides (suc n) l t h =
     ap (λ (r : FacetRec). bordering n (l ++ t) + lone_of r) (get_or-append l t no_facet n (omega arith))
     ∙ ap (λ (x : ℕ). x + lone_of (get_or l n no_facet)) (front-decides n l t (omega arith))
 
-other-answer : {a b n : ℕ} → Refused a b ≡ Count n → ⊥
-other-answer p = let z : ◌≡◌ {A = ℕ} 0 1 = cc in omega arith
+other-answer : {why : Refusal} {n : ℕ} → ◌≡◌ {A = Counted} (Err why) (Ok n) → ⊥
+other-answer p = cc
 
 -- what a count tells
 record Told (d : ℕ) (ws : List ℕ) (n : ℕ) : Type 0 where
-  fine : answer_of d ws ≡ Fine
+  passes : answer_of d ws ≡ fine
   many : n ≡ length (facets_of d (cells_of d ws))
 
 module _ (d : ℕ) (ws : List ℕ) (given long room n : ℕ) where
-  ends-told : (r : Counted) (h : List ℕ × List ℕ) → answer_of d ws ≡ Fine → Ends ([], []) d (cells_of d ws) (GivesFew (facets_of d (cells_of d ws)) (records_of d (cells_of d ws) (cells_of d ws)) given long room) r h → r ≡ Count n → Told d ws n
+  ends-told : (r : Counted) (h : List ℕ × List ℕ) → answer_of d ws ≡ fine → Ends ([], []) d (cells_of d ws) (GivesFew (facets_of d (cells_of d ws)) (records_of d (cells_of d ws) (cells_of d ws)) given long room) r h → r ≡ Ok n → Told d ws n
   ends-told r h f (crowded x) q = absurd (other-answer q)
   ends-told r h f (rest x (words_short y)) q = absurd (other-answer q)
   ends-told r h f (rest x (numbers_short y)) q = absurd (other-answer q)
   ends-told r h f (rest x (records_short y)) q = absurd (other-answer q)
-  ends-told r h f (rest x (all_listed y z w)) q = record { fine = f; many = cc }
+  ends-told r h f (rest x (all_listed y z w)) q = record { passes = f; many = cc }
 
-  comes-told : (need have : Room) (r : Counted) (h : List ℕ × List ℕ) (used : Room) → Comes Refused ([], []) (answer_of d ws) need have (Ends ([], []) d (cells_of d ws) (GivesFew (facets_of d (cells_of d ws)) (records_of d (cells_of d ws) (cells_of d ws)) given long room)) r h used → r ≡ Count n → Told d ws n
+  comes-told : (need have : Room) (r : Counted) (h : List ℕ × List ℕ) (used : Room) → Comes Err ([], []) (answer_of d ws) need have (Ends ([], []) d (cells_of d ws) (GivesFew (facets_of d (cells_of d ws)) (records_of d (cells_of d ws) (cells_of d ws)) given long room)) r h used → r ≡ Ok n → Told d ws n
   comes-told need have r h used (refused e) q = absurd (other-answer q)
   comes-told need have r h used (cramped e f) q = absurd (other-answer q)
   comes-told need have r h used (ended e f t) q = ends-told r h e t q
@@ -146,15 +146,15 @@ few-rows : (d : ℕ) (ws : List ℕ) → Passed d ws → length (cells_of d ws) 
 few-rows d ws p = omega (arith, mul-le-mul_left (length (cells_of d ws)) (slots-most d), corners-most d ws p, few-corners d ws p)
 
 -- WHERE `records` SAYS n, `border` OF ITS RECORDS AND n SAYS HOW MANY FACETS THE BORDER HAS
-pub border-told : (d : ℕ) (ws : List ℕ) (n : ℕ) (facets facets' list list' : List ℕ) (records records' : List FacetRec) (keys keys' rows rows' spare spare' counts counts' : List ℕ) → Records d ws (Count n) facets facets' list list' records records' keys keys' rows rows' spare spare' counts counts' →
+pub border-told : (d : ℕ) (ws : List ℕ) (n : ℕ) (facets facets' list list' : List ℕ) (records records' : List FacetRec) (keys keys' rows rows' spare spare' counts counts' : List ℕ) → Records d ws (Ok n) facets facets' list list' records records' keys keys' rows rows' spare spare' counts counts' →
     bordering (min n (length records')) records' ≡ length (border_of d (cells_of d ws))
 border-told d ws n facets facets' list list' records records' keys keys' rows rows' spare spare' counts counts' a =
     let cs = cells_of d ws in
     let x = a.numbers in
-    let t : Told d ws n = comes-told d ws (length facets) (length list) (length records) n (need_of d (length ws)) (lengths keys rows spare counts) (Count n) x.handed x.call.used x.call.comes refl in
+    let t : Told d ws n = comes-told d ws (length facets) (length list) (length records) n (need_of d (length ws)) (lengths keys rows spare counts) (Ok n) x.handed x.call.used x.call.comes refl in
     let l : List FacetRec = facet_records d cs cs in
     let rest_of : List FacetRec = drop (length l) records in
     let e : records' ≡ l ++ rest_of = a.written in
     let many : length l ≡ n = records-length d cs cs ∙ sym t.many in
     let whole : min n (length records') ≡ n = min-eq_left (omega (arith, ap length e, length-append l rest_of, many)) in
-    ap (λ (k : ℕ). bordering k records') whole ∙ ap (bordering n) e ∙ front-decides n l rest_of (omega (arith, many)) ∙ ap (λ (k : ℕ). bordering k l) t.many ∙ border-records d cs cs (few-rows d ws (fine-passed d ws t.fine))
+    ap (λ (k : ℕ). bordering k records') whole ∙ ap (bordering n) e ∙ front-decides n l rest_of (omega (arith, many)) ∙ ap (λ (k : ℕ). bordering k l) t.many ∙ border-records d cs cs (few-rows d ws (fine-passed d ws t.passes))

@@ -1,4 +1,6 @@
 -- What the call over numbers gives, and what the records hold then. Assumes nothing.
+use Rattle.refusal.specs.Says.{Answer, Counted}
+use Rattle.std.specs.Prelude.{Err}
 use mathlib.Core.List.{List, [], ◌∷◌, ◌++◌, append_assoc}
 use mathlib.Core.Path.{◌≡◌, refl, ap, ◌∙◌, subst}
 use Prim.Native.Nat.{ℕ, zero, suc, ◌+◌, ◌*◌, ◌≤◌}
@@ -7,9 +9,6 @@ use native.Mathlib.Decide.{dec_lt}
 use native.Mathlib.Omega.{arith}
 use lib.ListN.{length, get_or, take, drop, length-append, take-append-drop, get_or-append}
 use lib.Seq.{length-take-le}
-use Rattle.refusal.specs.declared.Answer.{Answer}
-use Rattle.refusal.specs.declared.Counted.{Counted}
-use Rattle.refusal.specs.declared.Counted.TheVariants.{Refused}
 use Rattle.refusal.specs.declared.Room.{Room}
 use Rattle.refusal.specs.Told.{count_of}
 use Rattle.refusal.specs.Lent.{onto, lengths}
@@ -63,14 +62,14 @@ module _ (words : List Word) (numbers : List ℕ) (five : length numbers ≡ len
   few-ends d cs r h (crowded x) = crowded x
   few-ends d cs r h (rest n x) = rest n (few-of r h x)
 
-  few-comes : (d : ℕ) (cs : List Word) (checked : Answer) (need have : Room) (r : Counted) (h : List ℕ × List ℕ) (used : Room) → Comes Refused ([], []) checked need have (Ends ([], []) d cs (GivesBoth words numbers given part)) r h used → Comes Refused ([], []) checked need have (Ends ([], []) d cs (GivesFew words numbers given long room)) r h used
+  few-comes : (d : ℕ) (cs : List Word) (checked : Answer) (need have : Room) (r : Counted) (h : List ℕ × List ℕ) (used : Room) → Comes Err ([], []) checked need have (Ends ([], []) d cs (GivesBoth words numbers given part)) r h used → Comes Err ([], []) checked need have (Ends ([], []) d cs (GivesFew words numbers given long room)) r h used
   few-comes d cs checked need have r h used (refused e) = refused e
   few-comes d cs checked need have r h used (cramped e f) = cramped e f
   few-comes d cs checked need have r h used (ended e f x) = ended e f (few-ends d cs r h x)
 
 -- what is handed out has room in the part
 module _ (words : List Word) (numbers : List ℕ) (given part d : ℕ) (cs : List Word) (checked : Answer) (need have : Room) where
-  part-holds : (r : Counted) (h : List ℕ × List ℕ) (used : Room) → Comes Refused ([], []) checked need have (Ends ([], []) d cs (GivesBoth words numbers given part)) r h used → length h.1 ≤ part
+  part-holds : (r : Counted) (h : List ℕ × List ℕ) (used : Room) → Comes Err ([], []) checked need have (Ends ([], []) d cs (GivesBoth words numbers given part)) r h used → length h.1 ≤ part
   part-holds r h used (refused e) = omega arith
   part-holds r h used (cramped e f) = omega arith
   part-holds r h used (ended e f (crowded x)) = omega arith
@@ -93,7 +92,7 @@ pub numbers_of : (d : ℕ) (ws : List ℕ) (room long : ℕ) (r : Counted) (face
 numbers_of d ws room long r facets facets' list part' keys keys' rows rows' spare spare' counts counts' s a =
     let cs = cells_of d ws in
     let c =
-    subst (λ (n : ℕ). Comes Refused ([], []) (answer_of d ws) (need_of d (length ws)) (lengths keys rows spare counts) (Ends ([], []) d cs (GivesBoth (facets_of d cs) (records_of d cs cs) (length facets) n)) r a.handed a.call.used)
+    subst (λ (n : ℕ). Comes Err ([], []) (answer_of d ws) (need_of d (length ws)) (lengths keys rows spare counts) (Ends ([], []) d cs (GivesBoth (facets_of d cs) (records_of d cs cs) (length facets) n)) r a.handed a.call.used)
     (length-take-le long list s.within) a.call.comes in
     record {
       handed = a.handed;
@@ -126,7 +125,7 @@ first-front (suc k) l t h =
 
 module _ (words : List Word) (numbers : List ℕ) (five : length numbers ≡ length words * 5) (given long room d : ℕ) (cs : List Word) (checked : Answer) (need have : Room) where
   -- the count has room, in the records and in the flat list
-  count_fits_lem : (r : Counted) (h : List ℕ × List ℕ) (used : Room) → Comes Refused ([], []) checked need have (Ends ([], []) d cs (GivesFew words numbers given long room)) r h used → (count_of r ≤ room) × (count_of r * 5 ≤ long)
+  count_fits_lem : (r : Counted) (h : List ℕ × List ℕ) (used : Room) → Comes Err ([], []) checked need have (Ends ([], []) d cs (GivesFew words numbers given long room)) r h used → (count_of r ≤ room) × (count_of r * 5 ≤ long)
   count_fits_lem r h used (refused e) = (omega arith, omega arith)
   count_fits_lem r h used (cramped e f) = (omega arith, omega arith)
   count_fits_lem r h used (ended e f (crowded x)) = (omega arith, omega arith)
@@ -137,7 +136,7 @@ module _ (words : List Word) (numbers : List ℕ) (five : length numbers ≡ len
 
 module _ (d : ℕ) (cs : List Word) (given long room : ℕ) (checked : Answer) (need have : Room) where
   -- the first records of the flat list are the facets'
-  first-are : (list : List ℕ) (r : Counted) (h : List ℕ × List ℕ) (used : Room) → Comes Refused ([], []) checked need have (Ends ([], []) d cs (GivesFew (facets_of d cs) (records_of d cs cs) given long room)) r h used → first_records (count_of r) (onto h.1 list) ≡ records_for r d cs
+  first-are : (list : List ℕ) (r : Counted) (h : List ℕ × List ℕ) (used : Room) → Comes Err ([], []) checked need have (Ends ([], []) d cs (GivesFew (facets_of d cs) (records_of d cs cs) given long room)) r h used → first_records (count_of r) (onto h.1 list) ≡ records_for r d cs
   unfolding first_records
   first-are list r h used (refused e) = refl
   first-are list r h used (cramped e f) = refl

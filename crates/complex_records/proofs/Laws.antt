@@ -1,4 +1,5 @@
 -- What the records come to: how many there are, which stands where, that the call has one outcome, and that the border is the records with one cell. Assumes nothing.
+use Rattle.refusal.specs.Says.{Counted}
 use mathlib.Core.Path.{◌≡◌, refl, ap, sym, ◌∙◌}
 use Prim.Native.Nat.{ℕ, zero, suc, ◌<◌}
 use native.Mathlib.Omega.{arith}
@@ -7,7 +8,6 @@ use mathlib.Core.Logic.{⊎_elim}
 use mathlib.Core.List.{List, [], ◌∷◌, ◌++◌}
 use lib.ListN.{length, get_or}
 use lib.Seq.{append_snoc, get_or_at}
-use Rattle.refusal.specs.declared.Counted.{Counted}
 use Rattle.refusal.specs.Lent.{onto}
 use Rattle.complex.specs.Cells.{cells_of}
 use Rattle.complex.specs.Room.{need_of}

@@ -1,8 +1,8 @@
 -- What the call `records` comes to, on every input. Assumes nothing.
+use Rattle.refusal.specs.declared.Refusal.TheVariants.{TooShort}
+use Rattle.refusal.specs.Says.{Counted}
+use Rattle.std.specs.Prelude.{Err, Ok}
 use Rattle.std.specs.Prelude.{List, [], ◌≡◌, ℕ, ◌<◌, ◌≤◌, length}
-use Rattle.refusal.specs.declared.Counted.{Counted}
-use Rattle.refusal.specs.declared.Counted.TheVariants.{Count, Refused}
-use Rattle.refusal.specs.Table.{too_short}
 use Rattle.refusal.specs.Lent.{onto}
 use Rattle.lists.specs.Rows.{flat}
 use Rattle.complex.specs.Cells.{cells_of}
@@ -15,10 +15,10 @@ use Rattle.complex_records.specs.Record.{facet_records}
 
 -- the words and five numbers for each are handed out, or 12 where either list is too short or there is room for fewer records
 pub data GivesFew (words : List (List ℕ)) (numbers : List ℕ) (given given' room : ℕ) : Counted → List ℕ × List ℕ → Type 0 where
-  words_short : given < length (flat words) → GivesFew words numbers given given' room (Refused too_short 0) ([], [])
-  numbers_short : given' < length numbers → GivesFew words numbers given given' room (Refused too_short 0) ([], [])
-  records_short : room < length words → GivesFew words numbers given given' room (Refused too_short 0) ([], [])
-  all_listed : length (flat words) ≤ given → length numbers ≤ given' → length words ≤ room → GivesFew words numbers given given' room (Count (length words)) (flat words, numbers)
+  words_short : given < length (flat words) → GivesFew words numbers given given' room (Err TooShort) ([], [])
+  numbers_short : given' < length numbers → GivesFew words numbers given given' room (Err TooShort) ([], [])
+  records_short : room < length words → GivesFew words numbers given given' room (Err TooShort) ([], [])
+  all_listed : length (flat words) ≤ given → length numbers ≤ given' → length words ≤ room → GivesFew words numbers given given' room (Ok (length words)) (flat words, numbers)
 
 -- what is promised of the lists of numbers
 pub record Numbers (d : ℕ) (ws : List ℕ) (room : ℕ) (r : Counted) (facets facets' list list' keys keys' rows rows' spare spare' counts counts' : List ℕ) : Type 0 where
@@ -29,8 +29,8 @@ pub record Numbers (d : ℕ) (ws : List ℕ) (room : ℕ) (r : Counted) (facets 
 
 -- the records that an answer hands out: those of the facets, by the cells' own words, and none for a refusal
 abbrev pub records_for : Counted → ℕ → List (List ℕ) → List FacetRec
-records_for (Count n) d cs = facet_records d cs cs
-records_for (Refused number place) d cs = []
+records_for (Ok n) d cs = facet_records d cs cs
+records_for (Err why) d cs = []
 
 -- the promise of `records`: r is what it says, and a list with ' is what it holds at exit
 pub record Records (d : ℕ) (ws : List ℕ) (r : Counted) (facets facets' list list' : List ℕ) (records records' : List FacetRec) (keys keys' rows rows' spare spare' counts counts' : List ℕ) : Type 0 where

@@ -1,11 +1,9 @@
 -- The facet records as structs: what five numbers of the flat list say of a facet. Assumes nothing.
-use Rattle.std.specs.Prelude.{ℕ, zero, suc, ◌+◌, ◌*◌, Bool, true, false, List, [], ◌∷◌, ◌++◌, ℤ, pos, negsuc, length, get_or, eqb, ltb}
+use Rattle.std.specs.Prelude.{ℕ, zero, suc, ◌+◌, ◌*◌, Bool, true, false, List, [], ◌∷◌, ◌++◌, Option, Some, None, ℤ, pos, negsuc, length, get_or, eqb, ltb}
 use Rattle.lists.specs.Words.{none}
 use Rattle.complex.specs.Skeleton.{facets_of}
 use Rattle.complex_facets.specs.Records.{one_if, records_of}
 use Rattle.complex_records.specs.declared.FacetRec.{FacetRec}
-use Rattle.complex_records.specs.declared.Found.{Found}
-use Rattle.complex_records.specs.declared.Found.TheVariants.{Facet, NoFacet}
 
 -- what stands past the end of a list of records
 abbrev pub no_facet : FacetRec
@@ -42,10 +40,10 @@ unfoldable pub bordering : ℕ → List FacetRec → ℕ
 bordering zero records = 0
 bordering (suc n) records = bordering n records + lone_of (get_or records n no_facet)
 
--- the i-th record, or that there is none
-abbrev pub found_if : Bool → FacetRec → Found
-found_if true r = Facet r
-found_if false r = NoFacet
+-- the i-th record, or None where there is none
+abbrev pub found_if : Bool → FacetRec → Option FacetRec
+found_if true r = Some r
+found_if false r = None
 
-abbrev pub found_at : List FacetRec → ℕ → Found
+abbrev pub found_at : List FacetRec → ℕ → Option FacetRec
 found_at records i = found_if (ltb i (length records)) (get_or records i no_facet)

@@ -10,7 +10,7 @@ ghost use Rattle.complex_records.specs.Record.{no_facet, sign_number, record_at,
 ghost use Rattle.complex_records.specs.Promise.{Numbers, Records};
 ghost use Rattle.complex_records.specs.Work.{Shared};
 
-use refusal::Counted;
+use refusal::Refusal;
 
 // A facet: its lower cell and the induced sign there, its other cell and the induced sign there, 1 or -1, and whether the words of its cells agree on it. Where it lies in one
 // cell the other is 4294967295, the sign there 0, and they agree.
@@ -23,44 +23,11 @@ pub struct FacetRec {
     pub agree: bool,
 }
 
-// What a question for one record says.
-#[derive(Clone, Copy)]
-pub enum Found {
-    Facet(FacetRec),
-    NoFacet,
-}
-
-// The i-th record.
-fn load(records: &[FacetRec], i: usize) -> FacetRec
-    requires { i < length records.now }
-    ensures { result ≡ get_or records.now i no_facet }
-{
-    records[i]
-}
-
-// The record that is found.
-fn this_facet(r: FacetRec) -> Found
-    ensures { result ≡ Found.Facet r }
-{
-    Found::Facet(r)
-}
-
-// No record is found.
-fn no_facet() -> Found
-    ensures { result ≡ Found.NoFacet }
-{
-    Found::NoFacet
-}
-
-// The i-th record, or that there is none.
-pub fn read(records: &[FacetRec], i: usize) -> Found
+// The i-th record, or None where there is none.
+pub fn read(records: &[FacetRec], i: usize) -> Option<FacetRec>
     ensures { result ≡ found_at records.now i }
 {
-    if records.len() <= i {
-        return no_facet();
-    }
-    let r = load(records, i);
-    this_facet(r)
+    records.get(i).copied()
 }
 
 // The sign that a mark stands for: 1 for the mark 1, -1 for 2, and 0 where there is none.
@@ -109,20 +76,18 @@ fn fill_first(records: &mut [FacetRec], k: usize, flat: &[u32])
     requires { (k ≤ length records.old) × (k * 5 ≤ length flat.now) }
     ensures { records.new ≡ onto (first_records k flat.now) records.old }
 {
-    let mut i = 0;
-    while i < k {
+    for i in 0..k {
         store_at(records, i, flat);
-        i += 1;
     }
 }
 
 // The count of an answer, 0 for a refusal.
-fn count_of(said: Counted) -> usize
+fn count_of(said: Result<u32, Refusal>) -> usize
     ensures { result ≡ count_of said }
 {
     match said {
-        Counted::Count(n) => n as usize,
-        Counted::Refused(_, _) => 0,
+        Ok(n) => n as usize,
+        Err(_) => 0,
     }
 }
 
@@ -147,7 +112,7 @@ fn numbers(
     rows: &mut [u32],
     spare: &mut [u32],
     counts: &mut [u32],
-) -> Counted
+) -> Result<u32, Refusal>
     ensures { Numbers d words.now room result facets.old facets.new flat.old flat.new keys.old
         keys.new rows.old rows.new spare.old spare.new counts.old counts.new }
 {
@@ -177,7 +142,7 @@ pub fn records(
     rows: &mut [u32],
     spare: &mut [u32],
     counts: &mut [u32],
-) -> Counted
+) -> Result<u32, Refusal>
     ensures { Records d words.now result facets.old facets.new flat.old flat.new records.old
         records.new keys.old keys.new rows.old rows.new spare.old spare.new
         counts.old counts.new }
@@ -187,13 +152,6 @@ pub fn records(
     let n = count_of(said);
     fill_first(records, n, flat);
     said
-}
-
-// The lesser of two numbers.
-fn lesser(n: usize, m: usize) -> usize
-    ensures { result ≡ min n m }
-{
-    if n < m { n } else { m }
 }
 
 // One more where the facet lies in one cell.
@@ -212,13 +170,9 @@ fn bump(count: usize, r: FacetRec) -> usize
 pub fn border(records: &[FacetRec], n: usize) -> usize
     ensures { result ≡ bordering (min n (length records.now)) records.now }
 {
-    let m = lesser(n, records.len());
     let mut count = 0;
-    let mut i = 0;
-    while i < m {
-        let r = load(records, i);
-        count = bump(count, r);
-        i += 1;
+    for i in 0..n.min(records.len()) {
+        count = bump(count, records[i]);
     }
     count
 }

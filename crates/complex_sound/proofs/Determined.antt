@@ -1,10 +1,10 @@
 -- The promise of the checks determines what they say and what the working lists hold. Assumes nothing.
+use Rattle.refusal.specs.Says.{Answer}
+use Rattle.std.specs.Prelude.{Err}
 use mathlib.Core.List.{List}
 use mathlib.Core.Path.{◌≡◌, refl}
 use Prim.Native.Nat.{ℕ}
 use lib.ListN.{length}
-use Rattle.refusal.specs.declared.Answer.{Answer}
-use Rattle.refusal.specs.declared.Answer.TheVariants.{Refused}
 use Rattle.refusal.specs.Lent.{lengths}
 use Rattle.refusal.proofs.Determined.{comes-one, cleared-one}
 use Rattle.complex.specs.Check.{answer_of}
@@ -22,5 +22,5 @@ facets-one d cs r r' h h' (free x) (free y) = (refl, refl)
 pub checked-one : (d : ℕ) (ws : List ℕ) (r r' : Answer) (keys k k' rows o o' spare p p' counts c c' : List ℕ) → Checked d ws r keys k rows o spare p counts c → Checked d ws r' keys k' rows o' spare p' counts c' →
     (r ≡ r') × ((k ≡ k') × (o ≡ o') × (p ≡ p') × (c ≡ c'))
 checked-one d ws r r' keys k k' rows o o' spare p p' counts c c' a b =
-    let w = comes-one Refused (tt {0}) (answer_of d ws) (need_of d (length ws)) (lengths keys rows spare counts) (Facets d (cells_of d ws)) (facets-one d (cells_of d ws)) a.comes b.comes in
+    let w = comes-one Err (tt {0}) (answer_of d ws) (need_of d (length ws)) (lengths keys rows spare counts) (Facets d (cells_of d ws)) (facets-one d (cells_of d ws)) a.comes b.comes in
     (w.0, cleared-one a.used b.used keys k k' rows o o' spare p p' counts c c' w.2 a.room b.room)

@@ -1,4 +1,8 @@
 -- The test of the facets, step by step, and the ways out of the checks of a cell list. Assumes nothing.
+use Rattle.refusal.specs.declared.Refusal.{Refusal}
+use Rattle.refusal.specs.declared.Refusal.TheVariants.{CrowdedFacet, TooShort}
+use Rattle.refusal.specs.Says.{Answer, fine}
+use Rattle.std.specs.Prelude.{Err}
 use mathlib.Core.Bool.{Bool, true, false}
 use mathlib.Core.List.{List, ◌++◌}
 use mathlib.Core.Path.{◌≡◌, refl, sym, subst}
@@ -7,10 +11,7 @@ use native.Mathlib.Nat.{mul_comm, mul-zero, suc-mul, mul-le-mul_right}
 use native.Mathlib.Omega.{arith}
 use lib.ListN.{length, take, drop}
 use lib.Seq.{length-take-le}
-use Rattle.refusal.specs.declared.Answer.{Answer}
-use Rattle.refusal.specs.declared.Answer.TheVariants as Answer
 use Rattle.refusal.specs.declared.Room.{Room}
-use Rattle.refusal.specs.Table.{crowded_facet, too_short}
 use Rattle.refusal.specs.Lent.{untouched, lengths, Roomy}
 use Rattle.refusal.specs.Call.{Comes, refused, cramped, ended}
 use Rattle.refusal.proofs.Parts.{parts-cleared}
@@ -75,11 +76,11 @@ module _ (d : ℕ) (ws keys rows spare counts : List ℕ) (w : Working d ws keys
 -- ---- the ways out of `check`
 
 module _ (d : ℕ) (ws keys rows spare counts : List ℕ) where
-  pub out-refused : (n p : ℕ) → answer_of d ws ≡ Answer.Refused n p → Checked d ws (Answer.Refused n p) keys keys rows rows spare spare counts counts
-  out-refused n p e =
+  pub out-refused : (why : Refusal) → answer_of d ws ≡ Err why → Checked d ws (Err why) keys keys rows rows spare spare counts counts
+  out-refused why e =
       record { used = untouched; comes = refused e; room = record { of_keys = refl; of_rows = refl; of_spare = refl; of_counts = refl } }
 
-  pub out-cramped : answer_of d ws ≡ Answer.Fine → (n : Room) → n ≡ need_of d (length ws) → (Roomy n (lengths keys rows spare counts) → ⊥) → Checked d ws (Answer.Refused too_short 0) keys keys rows rows spare spare counts counts
+  pub out-cramped : answer_of d ws ≡ fine → (n : Room) → n ≡ need_of d (length ws) → (Roomy n (lengths keys rows spare counts) → ⊥) → Checked d ws (Err TooShort) keys keys rows rows spare spare counts counts
   out-cramped e n q f =
       record {
         used = untouched;
@@ -87,7 +88,7 @@ module _ (d : ℕ) (ws keys rows spare counts : List ℕ) where
         room = record { of_keys = refl; of_rows = refl; of_spare = refl; of_counts = refl };
       }
 
-  module _ (e : answer_of d ws ≡ Answer.Fine) (n : Room) (q : n ≡ need_of d (length ws)) (h : Roomy n (lengths keys rows spare counts)) where
+  module _ (e : answer_of d ws ≡ fine) (n : Room) (q : n ≡ need_of d (length ws)) (h : Roomy n (lengths keys rows spare counts)) where
     pub working : Working d ws (take n.keys keys) (take n.rows rows) (take n.spare spare) (take n.counts counts)
     working =
         record {
@@ -108,12 +109,12 @@ module _ (d : ℕ) (ws keys rows spare counts : List ℕ) where
       ending a x =
           record {
             used = n;
-            comes = subst (λ (m : Room). Comes Answer.Refused (tt {0}) (answer_of d ws) m (lengths keys rows spare counts) (Facets d (cells_of d ws)) a (tt {0}) n) q (ended e h x);
+            comes = subst (λ (m : Room). Comes Err (tt {0}) (answer_of d ws) m (lengths keys rows spare counts) (Facets d (cells_of d ws)) a (tt {0}) n) q (ended e h x);
             room = parts-cleared n keys k rows w spare s counts c h z;
           }
 
-      pub out-free : r ≡ true → Checked d ws Answer.Fine keys (k ++ drop n.keys keys) rows (w ++ drop n.rows rows) spare (s ++ drop n.spare spare) counts (c ++ drop n.counts counts)
-      out-free t = ending Answer.Fine (free (sound.yes t))
+      pub out-free : r ≡ true → Checked d ws fine keys (k ++ drop n.keys keys) rows (w ++ drop n.rows rows) spare (s ++ drop n.spare spare) counts (c ++ drop n.counts counts)
+      out-free t = ending fine (free (sound.yes t))
 
-      pub out-crowded : r ≡ false → Checked d ws (Answer.Refused crowded_facet 0) keys (k ++ drop n.keys keys) rows (w ++ drop n.rows rows) spare (s ++ drop n.spare spare) counts (c ++ drop n.counts counts)
-      out-crowded t = ending (Answer.Refused crowded_facet 0) (crowded (sound.no t))
+      pub out-crowded : r ≡ false → Checked d ws (Err CrowdedFacet) keys (k ++ drop n.keys keys) rows (w ++ drop n.rows rows) spare (s ++ drop n.spare spare) counts (c ++ drop n.counts counts)
+      out-crowded t = ending (Err CrowdedFacet) (crowded (sound.no t))

@@ -8,7 +8,7 @@ ghost use Rattle.lists.specs.Zero.{AllZero};
 ghost use Rattle.complex_sound.specs.Promise.{Checked};
 ghost use Rattle.complex_sound.specs.Work.{Working, Sound};
 
-use refusal::{Answer, CROWDED_FACET, Room, TOO_SHORT};
+use refusal::{Refusal, Room};
 
 // Whether no facet lies in three or more cells.
 fn sound(
@@ -54,14 +54,11 @@ pub fn check(
     rows: &mut [u32],
     spare: &mut [u32],
     counts: &mut [u32],
-) -> Answer
+) -> Result<(), Refusal>
     ensures { Checked d words.now result keys.old keys.new rows.old rows.new spare.old spare.new
         counts.old counts.new }
 {
-    let answer = complex::check_cells(d, words);
-    if let Answer::Refused(number, place) = answer {
-        return Answer::Refused(number, place);
-    }
+    complex::check_cells(d, words)?;
     let dim = d as usize;
     let need = complex::need(dim, words.len());
     let have = Room {
@@ -71,7 +68,7 @@ pub fn check(
         counts: counts.len(),
     };
     if !refusal::has_room(need, have) {
-        return Answer::Refused(TOO_SHORT, 0);
+        return Err(Refusal::TooShort);
     }
     let k = need.keys;
     let r = need.rows;
@@ -85,7 +82,7 @@ pub fn check(
         &mut spare[..s],
         &mut counts[..c],
     ) {
-        return Answer::Fine;
+        return Ok(());
     }
-    Answer::Refused(CROWDED_FACET, 0)
+    Err(Refusal::CrowdedFacet)
 }

@@ -1,43 +1,32 @@
 // Document 01's figures that are run: the refusal's number, 00 for none, and for signs the facet looks, 00 where none are reported, and the first six. The starred figures are proved in `figures_starred`; their signs are run too.
 #![tactic(auto)]
 
+use arrayvec::ArrayString;
 use grid_sides::Sides;
 use orientation::Coherence;
 use quotient::{Axis, Glue, Grid};
-use refusal::{Answer, Counted};
+use refusal::Refusal;
+use std::fmt::Write;
 
-fn number(a: Counted) -> u32 {
-    match a {
-        Counted::Count(_) => 0,
-        Counted::Refused(n, _) => n,
+// The refusal's number, 0 for none.
+fn number(why: Option<Refusal>) -> u32 {
+    match why {
+        None => 0,
+        Some(why) => why.number(),
     }
 }
 
-fn looks(a: Coherence) -> u32 {
-    match a {
-        Coherence::Signs(_, n) => n,
-        Coherence::OneSided(n) => n,
-        Coherence::Refused(_, _) => 0,
+fn looks(said: Result<Coherence, Refusal>) -> u32 {
+    match said {
+        Ok(Coherence::Signs(_, n) | Coherence::OneSided(n)) => n,
+        Err(_) => 0,
     }
-}
-
-fn digit(n: u32) -> u8 {
-    48 + (n % 10) as u8
-}
-
-fn mark(sign: i32) -> u8 {
-    if sign == 1 {
-        return b'+';
-    }
-    if sign == -1 {
-        return b'-';
-    }
-    b'.'
 }
 
 fn line(n: u32) {
-    let bytes = [digit(n / 10), digit(n), b'\n'];
-    io::write_all(1, &bytes);
+    let mut line = ArrayString::<16>::new();
+    let _ = writeln!(line, "{n:02}");
+    io::write_all(1, line.as_bytes());
 }
 
 // The signs of a list of words.
@@ -56,24 +45,22 @@ fn signs(d: u32, words: &[u32]) {
         &mut spare,
         &mut counts,
     );
-    let n = number(orientation::counted(said));
-    let seen = looks(said);
-    let bytes = [
-        digit(n / 10),
-        digit(n),
-        b' ',
-        digit(seen / 10),
-        digit(seen),
-        b' ',
-        mark(signs[0]),
-        mark(signs[1]),
-        mark(signs[2]),
-        mark(signs[3]),
-        mark(signs[4]),
-        mark(signs[5]),
-        b'\n',
-    ];
-    io::write_all(1, &bytes);
+    let mut line = ArrayString::<32>::new();
+    let _ = write!(
+        line,
+        "{:02} {:02} ",
+        number(orientation::counted(said).err()),
+        looks(said)
+    );
+    for sign in signs {
+        let _ = match sign {
+            1 => write!(line, "+"),
+            -1 => write!(line, "-"),
+            _ => write!(line, "."),
+        };
+    }
+    let _ = writeln!(line);
+    io::write_all(1, line.as_bytes());
 }
 
 // Whether an open axis with so many cells is taken.
@@ -94,11 +81,7 @@ fn row(count: u32) {
         third: open,
         sides: side,
     };
-    let a = grid.check();
-    match a {
-        Answer::Fine => line(0),
-        Answer::Refused(n, _) => line(n),
-    }
+    line(number(grid.check().err()));
 }
 
 // The edge lengths of 3×3×1, axis 0 twisted over 1, 1 over 2, 2 open, with the sides 3, 3, 1.
@@ -129,43 +112,38 @@ fn two_lengths() {
     let mut rows = [0u32; 648];
     let mut spare = [0u32; 648];
     let mut counts = [0u32; 648];
-    line(number(grid_lengths::edge_lengths_sq(
+    let said = grid_lengths::edge_lengths_sq(
         grid,
         &mut lengths,
         &mut keys,
         &mut rows,
         &mut spare,
         &mut counts,
-    )));
+    );
+    line(number(said.err()));
 }
 
 fn main() {
     // 3×1, axis 0 twisted over 1
-    signs(
-        2,
-        &[0u32, 1, 4, 0, 3, 4, 1, 2, 5, 1, 4, 5, 2, 3, 0, 2, 5, 0],
-    );
+    signs(2, &[0, 1, 4, 0, 3, 4, 1, 2, 5, 1, 4, 5, 2, 3, 0, 2, 5, 0]);
     // 3×1, axis 0 periodic
-    signs(
-        2,
-        &[0u32, 1, 4, 0, 3, 4, 1, 2, 5, 1, 4, 5, 2, 0, 3, 2, 5, 3],
-    );
+    signs(2, &[0, 1, 4, 0, 3, 4, 1, 2, 5, 1, 4, 5, 2, 0, 3, 2, 5, 3]);
     // five triangles, one_sided in the middle of a cell
-    signs(2, &[0u32, 1, 2, 1, 2, 3, 0, 1, 4, 0, 3, 4, 2, 3, 4]);
+    signs(2, &[0, 1, 2, 1, 2, 3, 0, 1, 4, 0, 3, 4, 2, 3, 4]);
     // one triangle
-    signs(2, &[0u32, 1, 2]);
+    signs(2, &[0, 1, 2]);
     // triangles 012, 013, 014
-    signs(2, &[0u32, 1, 2, 0, 1, 3, 0, 1, 4]);
+    signs(2, &[0, 1, 2, 0, 1, 3, 0, 1, 4]);
     // words 0,0,1
-    signs(2, &[0u32, 0, 1]);
+    signs(2, &[0, 0, 1]);
     // words 0,1,3 alone
-    signs(2, &[0u32, 1, 3]);
+    signs(2, &[0, 1, 3]);
     // three points, one of them twice
-    signs(0, &[0u32, 2, 1, 1]);
+    signs(0, &[0, 2, 1, 1]);
     // seven edges in a row: the sign list is too short
-    signs(1, &[0u32, 1, 1, 2, 2, 3, 3, 4, 4, 5, 5, 6, 6, 7]);
-    row(4095);
-    row(4096);
-    row(4097);
+    signs(1, &[0, 1, 1, 2, 2, 3, 3, 4, 4, 5, 5, 6, 6, 7]);
+    for count in [4095, 4096, 4097] {
+        row(count);
+    }
     two_lengths();
 }

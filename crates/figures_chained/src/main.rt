@@ -1,53 +1,47 @@
 // Figures of honest gluing: the number of classes and each point's class, by the quick engine and by the plain one; and refusals.
 #![tactic(auto)]
 
-use grid_chained::{Classed, calls};
+use arrayvec::ArrayString;
+use grid_chained::{ClassVertex, calls};
 use grid_sides::Sides;
 use quotient::{Axis, Glue, Grid, GridVertex};
-use refusal::Counted;
+use refusal::Refusal;
+use std::fmt::Write;
 
-fn write_number(n: u32) {
-    io::write_all(1, b" ");
-    io::print_decimal(1, n as u64);
+type Line = ArrayString<1024>;
+
+fn write_refusal(line: &mut Line, why: Refusal) {
+    let _ = write!(line, " refused {} {}", why.number(), why.place());
 }
 
-fn write_end() {
-    io::write_all(1, b"\n");
-}
-
-fn write_refusal(number: u32, place: u32) {
-    io::write_all(1, b" refused");
-    write_number(number);
-    write_number(place);
-}
-
-fn write_counted(said: Counted) {
+fn write_counted(line: &mut Line, said: Result<u32, Refusal>) {
     match said {
-        Counted::Count(n) => write_number(n),
-        Counted::Refused(number, place) => write_refusal(number, place),
+        Ok(n) => {
+            let _ = write!(line, " {n}");
+        }
+        Err(why) => write_refusal(line, why),
     }
 }
 
-fn write_classed(said: Classed) {
+fn write_classed(line: &mut Line, said: Result<ClassVertex, Refusal>) {
     match said {
-        Classed::At(v) => write_number(v.0),
-        Classed::Refused(number, place) => write_refusal(number, place),
+        Ok(class) => {
+            let _ = write!(line, " {}", class.0);
+        }
+        Err(why) => write_refusal(line, why),
     }
 }
 
 fn axis(count: u32, glue: Glue) -> Axis {
-    Axis {
-        count: count,
-        glue: glue,
-    }
+    Axis { count, glue }
 }
 
 fn grid(d: u32, first: Axis, second: Axis, third: Axis) -> Grid {
     Grid {
-        d: d,
-        first: first,
-        second: second,
-        third: third,
+        d,
+        first,
+        second,
+        third,
         sides: Sides {
             first: 1.0,
             second: 1.0,
@@ -56,186 +50,101 @@ fn grid(d: u32, first: Axis, second: Axis, third: Axis) -> Grid {
     }
 }
 
-fn write_list(list: &[u32]) {
-    let mut i = 0;
-    while i < list.len() {
-        write_number(list[i]);
-        i += 1;
-    }
-    write_end();
-}
-
 // The count of classes, the class of point 1 and of a point past the last.
 fn ask(g: Grid, past: u32, room: &mut [u32]) {
-    io::write_all(1, b"nvertices");
-    write_counted(calls::nvertices(g, room));
-    io::write_all(1, b", point 1");
-    write_classed(calls::reduce(g, GridVertex(1), room));
-    io::write_all(1, b", past the last");
-    write_classed(calls::reduce(g, GridVertex(past), room));
-    write_end();
+    let mut line = Line::new();
+    let _ = write!(line, "nvertices");
+    write_counted(&mut line, calls::nvertices(g, room));
+    let _ = write!(line, ", point 1");
+    write_classed(&mut line, calls::reduce(g, GridVertex(1), room));
+    let _ = write!(line, ", past the last");
+    write_classed(&mut line, calls::reduce(g, GridVertex(past), room));
+    let _ = writeln!(line);
+    io::write_all(1, line.as_bytes());
 }
 
-// The list of classes by each engine.
-fn list(g: Grid, to: &mut [u32], other: &mut [u32], room: &mut [u32]) {
-    io::write_all(1, b"classes");
-    write_counted(calls::classes(g, to, room));
-    io::write_all(1, b":");
-    write_list(to);
-    io::write_all(1, b"closed_classes");
-    write_counted(calls::closed_classes(g, other, room));
-    io::write_all(1, b":");
-    write_list(other);
+// The call's name, what it says, and the list of classes.
+fn list(name: &str, said: Result<u32, Refusal>, classes: &[u32]) {
+    let mut line = Line::new();
+    let _ = write!(line, "{name}");
+    write_counted(&mut line, said);
+    let _ = write!(line, ":");
+    for class in classes {
+        let _ = write!(line, " {class}");
+    }
+    let _ = writeln!(line);
+    io::write_all(1, line.as_bytes());
 }
 
-fn show(g: Grid, past: u32, to: &mut [u32], other: &mut [u32], room: &mut [u32]) {
-    ask(g, past, room);
-    list(g, to, other, room);
+// All calls, with lists for so many points and so much room.
+fn show(g: Grid, past: u32, points: usize, room: usize) {
+    let mut classes = [777u32; 82];
+    let mut closed = [777u32; 82];
+    let mut work = [5u32; 8192];
+    let classes = &mut classes[..points.min(82)];
+    let closed = &mut closed[..points.min(82)];
+    let work = &mut work[..room.min(8192)];
+    ask(g, past, work);
+    list("classes", calls::classes(g, classes, work), classes);
+    list(
+        "closed_classes",
+        calls::closed_classes(g, closed, work),
+        closed,
+    );
 }
 
-fn none() -> Axis {
-    axis(0, Glue::Open)
-}
-
-// 3 x 3, twisted over each other; the room is just enough.
-fn plane() {
-    let mut to = [777u32; 17];
-    let mut other = [777u32; 17];
-    let mut room = [5u32; 54];
-    let g = grid(
+fn main() {
+    let none = axis(0, Glue::Open);
+    // 3 x 3, twisted over each other; the room is just enough.
+    let plane = grid(
         2,
         axis(3, Glue::Twisted(2)),
         axis(3, Glue::Twisted(1)),
-        none(),
+        none,
     );
-    show(g, 16, &mut to, &mut other, &mut room);
-}
-
-// 3 x 2, axis 0 twisted over 1.
-fn band() {
-    let mut to = [777u32; 13];
-    let mut other = [777u32; 13];
-    let mut room = [5u32; 36];
-    let g = grid(2, axis(3, Glue::Twisted(2)), axis(2, Glue::Open), none());
-    show(g, 12, &mut to, &mut other, &mut room);
-}
-
-// 3 x 1 x 3, axis 0 twisted over 2, axis 2 over both others.
-fn solid() {
-    let mut to = [777u32; 33];
-    let mut other = [777u32; 33];
-    let mut room = [5u32; 216];
-    let g = grid(
+    show(plane, 16, 17, 54);
+    // 3 x 2, axis 0 twisted over 1.
+    let band = grid(2, axis(3, Glue::Twisted(2)), axis(2, Glue::Open), none);
+    show(band, 12, 13, 36);
+    // 3 x 1 x 3, axis 0 twisted over 2, axis 2 over both others.
+    let solid = grid(
         3,
         axis(3, Glue::Twisted(4)),
         axis(1, Glue::Open),
         axis(3, Glue::Twisted(3)),
     );
-    show(g, 32, &mut to, &mut other, &mut room);
-}
-
-// 8 x 8, twisted over each other.
-fn large_plane() {
-    let mut to = [777u32; 82];
-    let mut other = [777u32; 82];
-    let mut room = [5u32; 384];
-    let g = grid(
+    show(solid, 32, 33, 216);
+    // 8 x 8, twisted over each other.
+    let large_plane = grid(
         2,
         axis(8, Glue::Twisted(2)),
         axis(8, Glue::Twisted(1)),
-        none(),
+        none,
     );
-    show(g, 81, &mut to, &mut other, &mut room);
-}
-
-// One number of room too few.
-fn cramped() {
-    let mut to = [777u32; 17];
-    let mut other = [777u32; 17];
-    let mut room = [5u32; 53];
-    let g = grid(
-        2,
-        axis(3, Glue::Twisted(2)),
-        axis(3, Glue::Twisted(1)),
-        none(),
-    );
-    show(g, 16, &mut to, &mut other, &mut room);
-}
-
-// One place too few in the lists.
-fn short() {
-    let mut to = [777u32; 15];
-    let mut other = [777u32; 15];
-    let mut room = [5u32; 54];
-    let g = grid(
-        2,
-        axis(3, Glue::Twisted(2)),
-        axis(3, Glue::Twisted(1)),
-        none(),
-    );
-    show(g, 4294967295, &mut to, &mut other, &mut room);
-}
-
-// An axis that reflects itself.
-fn self_reflected() {
-    let mut to = [777u32; 2];
-    let mut other = [777u32; 2];
-    let mut room = [5u32; 54];
-    let g = grid(
+    show(large_plane, 81, 82, 384);
+    // One number of room too few.
+    show(plane, 16, 17, 53);
+    // One place too few in the lists.
+    show(plane, 4294967295, 15, 54);
+    // An axis that reflects itself.
+    let self_reflected = grid(
         2,
         axis(3, Glue::Twisted(1)),
         axis(3, Glue::Twisted(1)),
-        none(),
+        none,
     );
-    show(g, 16, &mut to, &mut other, &mut room);
-}
-
-// A closed axis of two cells.
-fn narrow() {
-    let mut to = [777u32; 2];
-    let mut other = [777u32; 2];
-    let mut room = [5u32; 54];
-    let g = grid(1, axis(2, Glue::Periodic), none(), none());
-    show(g, 3, &mut to, &mut other, &mut room);
-}
-
-// No dimension.
-fn flat() {
-    let mut to = [777u32; 2];
-    let mut other = [777u32; 2];
-    let mut room = [5u32; 54];
-    let g = grid(0, none(), none(), none());
-    show(g, 1, &mut to, &mut other, &mut room);
-}
-
-// 4,097 classes.
-fn long_line() {
-    let mut to = [777u32; 2];
-    let mut other = [777u32; 2];
-    let mut room = [5u32; 8192];
-    let g = grid(1, axis(4096, Glue::Open), none(), none());
-    show(g, 4097, &mut to, &mut other, &mut room);
-}
-
-// 4,096 classes: too many for the lists.
-fn long_ring() {
-    let mut to = [777u32; 2];
-    let mut other = [777u32; 2];
-    let mut room = [5u32; 8192];
-    let g = grid(1, axis(4096, Glue::Periodic), none(), none());
-    show(g, 4097, &mut to, &mut other, &mut room);
-}
-
-fn main() {
-    plane();
-    band();
-    solid();
-    large_plane();
-    cramped();
-    short();
-    self_reflected();
-    narrow();
-    flat();
-    long_line();
-    long_ring();
+    show(self_reflected, 16, 2, 54);
+    // A closed axis of two cells.
+    show(grid(1, axis(2, Glue::Periodic), none, none), 3, 2, 54);
+    // No dimension.
+    show(grid(0, none, none, none), 1, 2, 54);
+    // 4,097 classes.
+    show(grid(1, axis(4096, Glue::Open), none, none), 4097, 2, 8192);
+    // 4,096 classes: too many for the lists.
+    show(
+        grid(1, axis(4096, Glue::Periodic), none, none),
+        4097,
+        2,
+        8192,
+    );
 }

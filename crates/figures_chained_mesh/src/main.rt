@@ -2,89 +2,37 @@
 // least and greatest numbers afterwards. Before the call the word list is full of 777 and the working lists of 5.
 #![tactic(auto)]
 
+use arrayvec::ArrayString;
 use grid_sides::Sides;
 use quotient::{Axis, Glue, Grid};
-use refusal::Counted;
+use std::fmt::Write;
 
-fn write_number(n: u32) {
-    io::write_all(1, b" ");
-    io::print_decimal(1, n as u64);
-}
+type Line = ArrayString<512>;
 
-fn write_end() {
-    io::write_all(1, b"\n");
-}
-
-fn write_said(said: Counted) {
-    match said {
-        Counted::Count(n) => {
-            io::write_all(1, b"count");
-            write_number(n);
-        }
-        Counted::Refused(number, place) => {
-            io::write_all(1, b"refused");
-            write_number(number);
-            write_number(place);
-        }
+fn write_list(line: &mut Line, list: &[u32]) {
+    for x in list {
+        let _ = write!(line, " {x}");
     }
-    write_end();
+    let _ = writeln!(line);
 }
 
-fn write_list(list: &[u32]) {
-    let mut i = 0;
-    while i < list.len() {
-        write_number(list[i]);
-        i += 1;
-    }
-    write_end();
-}
-
-fn lesser(a: u32, b: u32) -> u32 {
-    if a < b { a } else { b }
-}
-
-fn greater(a: u32, b: u32) -> u32 {
-    if a < b { b } else { a }
-}
-
-fn least(list: &[u32]) -> u32 {
-    let mut x = 9999;
-    let mut i = 0;
-    while i < list.len() {
-        x = lesser(x, list[i]);
-        i += 1;
-    }
-    x
-}
-
-fn greatest(list: &[u32]) -> u32 {
-    let mut x = 0;
-    let mut i = 0;
-    while i < list.len() {
-        x = greater(x, list[i]);
-        i += 1;
-    }
-    x
-}
-
-fn write_ends(list: &[u32]) {
-    write_number(least(list));
-    write_number(greatest(list));
+// The least and the greatest number of a list.
+fn write_ends(line: &mut Line, list: &[u32]) {
+    let least = list.iter().copied().min().unwrap_or(9999);
+    let greatest = list.iter().copied().max().unwrap_or(0);
+    let _ = write!(line, " {least} {greatest}");
 }
 
 fn axis(count: u32, glue: Glue) -> Axis {
-    Axis {
-        count: count,
-        glue: glue,
-    }
+    Axis { count, glue }
 }
 
 fn grid(d: u32, first: Axis, second: Axis, third: Axis) -> Grid {
     Grid {
-        d: d,
-        first: first,
-        second: second,
-        third: third,
+        d,
+        first,
+        second,
+        third,
         sides: Sides {
             first: 1.0,
             second: 1.0,
@@ -93,241 +41,85 @@ fn grid(d: u32, first: Axis, second: Axis, third: Axis) -> Grid {
     }
 }
 
-fn none() -> Axis {
-    axis(0, Glue::Open)
-}
-
-// The call on a grid, and what it leaves.
-fn show(
-    g: Grid,
-    words: &mut [u32],
-    keys: &mut [u32],
-    rows: &mut [u32],
-    spare: &mut [u32],
-    counts: &mut [u32],
-) {
-    write_said(grid_chained_mesh::cell_words(g, words, keys, rows, spare, counts));
-    io::write_all(1, b"words");
-    write_list(words);
-    io::write_all(1, b"room");
-    write_ends(keys);
-    write_ends(rows);
-    write_ends(spare);
-    write_ends(counts);
-    write_end();
-}
-
-// 3 x 3, twisted over each other: a facet in three cells.
-fn plane() {
-    let mut words = [777u32; 2];
-    let mut keys = [5u32; 108];
-    let mut rows = [5u32; 54];
-    let mut spare = [5u32; 54];
-    let mut counts = [5u32; 54];
-    let g = grid(
-        2,
-        axis(3, Glue::Twisted(2)),
-        axis(3, Glue::Twisted(1)),
-        none(),
-    );
-    show(g, &mut words, &mut keys, &mut rows, &mut spare, &mut counts);
-}
-
-// 4 x 4, twisted over each other: a facet in three cells again.
-fn larger_plane() {
-    let mut words = [777u32; 2];
-    let mut keys = [5u32; 192];
-    let mut rows = [5u32; 96];
-    let mut spare = [5u32; 96];
-    let mut counts = [5u32; 96];
-    let g = grid(
-        2,
-        axis(4, Glue::Twisted(2)),
-        axis(4, Glue::Twisted(1)),
-        none(),
-    );
-    show(g, &mut words, &mut keys, &mut rows, &mut spare, &mut counts);
-}
-
-// 3 x 1 x 3, axis 0 twisted over 2, axis 2 over both others: word 1 names a class twice.
-fn solid() {
-    let mut words = [777u32; 2];
-    let mut keys = [5u32; 648];
-    let mut rows = [5u32; 216];
-    let mut spare = [5u32; 216];
-    let mut counts = [5u32; 216];
-    let g = grid(
-        3,
-        axis(3, Glue::Twisted(4)),
-        axis(1, Glue::Open),
-        axis(3, Glue::Twisted(3)),
-    );
-    show(g, &mut words, &mut keys, &mut rows, &mut spare, &mut counts);
-}
-
-// 3 x 1, axis 0 periodic: document 01's words.
-fn ring() {
-    let mut words = [777u32; 18];
-    let mut keys = [5u32; 36];
-    let mut rows = [5u32; 18];
-    let mut spare = [5u32; 18];
-    let mut counts = [5u32; 18];
-    let g = grid(2, axis(3, Glue::Periodic), axis(1, Glue::Open), none());
-    show(g, &mut words, &mut keys, &mut rows, &mut spare, &mut counts);
-}
-
-// 3 x 2, axis 0 twisted over 1.
-fn band() {
-    let mut words = [777u32; 36];
-    let mut keys = [5u32; 72];
-    let mut rows = [5u32; 36];
-    let mut spare = [5u32; 36];
-    let mut counts = [5u32; 36];
-    let g = grid(2, axis(3, Glue::Twisted(2)), axis(2, Glue::Open), none());
-    show(g, &mut words, &mut keys, &mut rows, &mut spare, &mut counts);
-}
-
-// 3 x 1, axis 0 twisted over 1; the list is one number too long.
-fn small_band() {
-    let mut words = [777u32; 19];
-    let mut keys = [5u32; 36];
-    let mut rows = [5u32; 18];
-    let mut spare = [5u32; 18];
-    let mut counts = [5u32; 18];
-    let g = grid(2, axis(3, Glue::Twisted(2)), axis(1, Glue::Open), none());
-    show(g, &mut words, &mut keys, &mut rows, &mut spare, &mut counts);
-}
-
-// 3 x 1, axis 0 periodic; the list is one number too short.
-fn short() {
-    let mut words = [777u32; 17];
-    let mut keys = [5u32; 36];
-    let mut rows = [5u32; 18];
-    let mut spare = [5u32; 18];
-    let mut counts = [5u32; 18];
-    let g = grid(2, axis(3, Glue::Periodic), axis(1, Glue::Open), none());
-    show(g, &mut words, &mut keys, &mut rows, &mut spare, &mut counts);
-}
-
-// 3 x 1, axis 0 periodic; one working list is one number too short.
-fn cramped() {
-    let mut words = [777u32; 18];
-    let mut keys = [5u32; 36];
-    let mut rows = [5u32; 18];
-    let mut spare = [5u32; 18];
-    let mut counts = [5u32; 17];
-    let g = grid(2, axis(3, Glue::Periodic), axis(1, Glue::Open), none());
-    show(g, &mut words, &mut keys, &mut rows, &mut spare, &mut counts);
-}
-
-// 3 x 1, axis 0 periodic; the keys are one number longer than needed.
-fn roomy() {
-    let mut words = [777u32; 18];
-    let mut keys = [5u32; 37];
-    let mut rows = [5u32; 18];
-    let mut spare = [5u32; 18];
-    let mut counts = [5u32; 18];
-    let g = grid(2, axis(3, Glue::Periodic), axis(1, Glue::Open), none());
-    show(g, &mut words, &mut keys, &mut rows, &mut spare, &mut counts);
-}
-
-// 4,097 classes.
-fn long_line() {
-    let mut words = [777u32; 2];
-    let mut keys = [5u32; 8192];
-    let mut rows = [5u32; 8192];
-    let mut spare = [5u32; 8192];
-    let mut counts = [5u32; 8192];
-    let g = grid(1, axis(4096, Glue::Open), none(), none());
-    show(g, &mut words, &mut keys, &mut rows, &mut spare, &mut counts);
-}
-
-// 4,097 classes, and one working list is one number too short: the room is tested first.
-fn cramped_line() {
-    let mut words = [777u32; 2];
-    let mut keys = [5u32; 8192];
-    let mut rows = [5u32; 8192];
-    let mut spare = [5u32; 8191];
-    let mut counts = [5u32; 8192];
-    let g = grid(1, axis(4096, Glue::Open), none(), none());
-    show(g, &mut words, &mut keys, &mut rows, &mut spare, &mut counts);
-}
-
-// 3 x 1 x 3 as above, and one working list is one number too short.
-fn cramped_solid() {
-    let mut words = [777u32; 2];
-    let mut keys = [5u32; 648];
-    let mut rows = [5u32; 215];
-    let mut spare = [5u32; 216];
-    let mut counts = [5u32; 216];
-    let g = grid(
-        3,
-        axis(3, Glue::Twisted(4)),
-        axis(1, Glue::Open),
-        axis(3, Glue::Twisted(3)),
-    );
-    show(g, &mut words, &mut keys, &mut rows, &mut spare, &mut counts);
-}
-
-// An axis that reflects itself.
-fn self_reflected() {
-    let mut words = [777u32; 2];
-    let mut keys = [5u32; 36];
-    let mut rows = [5u32; 18];
-    let mut spare = [5u32; 18];
-    let mut counts = [5u32; 18];
-    let g = grid(2, axis(3, Glue::Twisted(1)), axis(1, Glue::Open), none());
-    show(g, &mut words, &mut keys, &mut rows, &mut spare, &mut counts);
-}
-
-// A closed axis of two cells.
-fn narrow() {
-    let mut words = [777u32; 2];
-    let mut keys = [5u32; 4];
-    let mut rows = [5u32; 4];
-    let mut spare = [5u32; 4];
-    let mut counts = [5u32; 4];
-    let g = grid(1, axis(2, Glue::Periodic), none(), none());
-    show(g, &mut words, &mut keys, &mut rows, &mut spare, &mut counts);
-}
-
-// No dimension.
-fn flat() {
-    let mut words = [777u32; 2];
-    let mut keys = [5u32; 1];
-    let mut rows = [5u32; 1];
-    let mut spare = [5u32; 1];
-    let mut counts = [5u32; 1];
-    let g = grid(0, none(), none(), none());
-    show(g, &mut words, &mut keys, &mut rows, &mut spare, &mut counts);
-}
-
-// 2 cells in a row.
-fn line() {
-    let mut words = [777u32; 4];
-    let mut keys = [5u32; 4];
-    let mut rows = [5u32; 4];
-    let mut spare = [5u32; 4];
-    let mut counts = [5u32; 4];
-    let g = grid(1, axis(2, Glue::Open), none(), none());
-    show(g, &mut words, &mut keys, &mut rows, &mut spare, &mut counts);
+// The call on a grid with lists of these lengths, and what it leaves.
+fn show(g: Grid, words: usize, keys: usize, rows: usize, spare: usize, counts: usize) {
+    let mut some_words = [777u32; 36];
+    let mut some_keys = [5u32; 8192];
+    let mut some_rows = [5u32; 8192];
+    let mut some_spare = [5u32; 8192];
+    let mut some_counts = [5u32; 8192];
+    let words = &mut some_words[..words.min(36)];
+    let keys = &mut some_keys[..keys.min(8192)];
+    let rows = &mut some_rows[..rows.min(8192)];
+    let spare = &mut some_spare[..spare.min(8192)];
+    let counts = &mut some_counts[..counts.min(8192)];
+    let mut line = Line::new();
+    let _ = match grid_chained_mesh::cell_words(g, words, keys, rows, spare, counts) {
+        Ok(n) => writeln!(line, "count {n}"),
+        Err(why) => writeln!(line, "refused {} {}", why.number(), why.place()),
+    };
+    let _ = write!(line, "words");
+    write_list(&mut line, words);
+    let _ = write!(line, "room");
+    write_ends(&mut line, keys);
+    write_ends(&mut line, rows);
+    write_ends(&mut line, spare);
+    write_ends(&mut line, counts);
+    let _ = writeln!(line);
+    io::write_all(1, line.as_bytes());
 }
 
 fn main() {
-    plane();
-    larger_plane();
-    solid();
-    ring();
-    band();
-    small_band();
-    short();
-    cramped();
-    roomy();
-    long_line();
-    cramped_line();
-    cramped_solid();
-    self_reflected();
-    narrow();
-    flat();
-    line();
+    let none = axis(0, Glue::Open);
+    let one = axis(1, Glue::Open);
+    // 3 x 3, twisted over each other: a facet in three cells.
+    let plane = grid(
+        2,
+        axis(3, Glue::Twisted(2)),
+        axis(3, Glue::Twisted(1)),
+        none,
+    );
+    show(plane, 2, 108, 54, 54, 54);
+    // 4 x 4, twisted over each other: a facet in three cells again.
+    let larger_plane = grid(
+        2,
+        axis(4, Glue::Twisted(2)),
+        axis(4, Glue::Twisted(1)),
+        none,
+    );
+    show(larger_plane, 2, 192, 96, 96, 96);
+    // 3 x 1 x 3, axis 0 twisted over 2, axis 2 over both others: word 1 names a class twice.
+    let solid = grid(3, axis(3, Glue::Twisted(4)), one, axis(3, Glue::Twisted(3)));
+    show(solid, 2, 648, 216, 216, 216);
+    // 3 x 1, axis 0 periodic: document 01's words.
+    let ring = grid(2, axis(3, Glue::Periodic), one, none);
+    show(ring, 18, 36, 18, 18, 18);
+    // 3 x 2, axis 0 twisted over 1.
+    let band = grid(2, axis(3, Glue::Twisted(2)), axis(2, Glue::Open), none);
+    show(band, 36, 72, 36, 36, 36);
+    // 3 x 1, axis 0 twisted over 1; the list is one number too long.
+    let small_band = grid(2, axis(3, Glue::Twisted(2)), one, none);
+    show(small_band, 19, 36, 18, 18, 18);
+    // 3 x 1, axis 0 periodic; the list is one number too short.
+    show(ring, 17, 36, 18, 18, 18);
+    // 3 x 1, axis 0 periodic; one working list is one number too short.
+    show(ring, 18, 36, 18, 18, 17);
+    // 3 x 1, axis 0 periodic; the keys are one number longer than needed.
+    show(ring, 18, 37, 18, 18, 18);
+    // 4,097 classes.
+    let long_line = grid(1, axis(4096, Glue::Open), none, none);
+    show(long_line, 2, 8192, 8192, 8192, 8192);
+    // 4,097 classes, and one working list is one number too short: the room is tested first.
+    show(long_line, 2, 8192, 8192, 8191, 8192);
+    // 3 x 1 x 3 as above, and one working list is one number too short.
+    show(solid, 2, 648, 215, 216, 216);
+    // An axis that reflects itself.
+    let self_reflected = grid(2, axis(3, Glue::Twisted(1)), one, none);
+    show(self_reflected, 2, 36, 18, 18, 18);
+    // A closed axis of two cells.
+    show(grid(1, axis(2, Glue::Periodic), none, none), 2, 4, 4, 4, 4);
+    // No dimension.
+    show(grid(0, none, none, none), 2, 1, 1, 1, 1);
+    // 2 cells in a row.
+    show(grid(1, axis(2, Glue::Open), none, none), 4, 4, 4, 4, 4);
 }

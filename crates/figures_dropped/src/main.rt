@@ -1,108 +1,80 @@
 // Cells dropped from small meshes, run: for each what is said, the words that stay and the old numbers, in lists that held sevens; and the refusals in the order of checks.
 #![tactic(auto)]
 
-use complex_dropped::Dropped;
+use arrayvec::ArrayString;
+use std::fmt::Write;
 
-fn digit(n: u32) -> u8 {
-    48 + (n % 10) as u8
-}
+type Line = ArrayString<64>;
 
-fn show(numbers: &[u32]) {
-    let mut i = 0;
-    while i < numbers.len() {
-        let bytes = [digit(numbers[i])];
-        io::write_all(1, &bytes);
-        i += 1;
+fn digits(line: &mut Line, numbers: &[u32]) {
+    for n in numbers {
+        let _ = write!(line, "{n}");
     }
 }
 
-// What is said.
-fn head(said: Dropped) {
-    match said {
-        Dropped::Kept(count, vertices) => {
-            let counts = [digit(count), b' ', digit(vertices), b' '];
-            io::write_all(1, b"kept ");
-            io::write_all(1, &counts);
-        }
-        Dropped::Refused(number, _) => {
-            let digits = [digit(number / 10), digit(number), b' '];
-            io::write_all(1, b"refused ");
-            io::write_all(1, &digits);
-        }
-    }
-}
-
-// One call with result lists of nine and six numbers.
-fn line(d: u32, words: &[u32], gone: &[u32]) {
-    let mut kept = [7u32; 9];
-    let mut old = [7u32; 6];
+// What one call says that hands out to these two lists and works in the third.
+fn said(
+    d: u32,
+    words: &[u32],
+    gone: &[u32],
+    kept: &mut [u32],
+    old: &mut [u32],
+    spare: &mut [u32],
+) -> Line {
     let mut keys = [7u32; 64];
     let mut rows = [7u32; 32];
-    let mut spare = [7u32; 32];
     let mut counts = [7u32; 32];
-    head(complex_dropped::drop_cells(
+    let said = complex_dropped::drop_cells(
         d,
         words,
         gone,
-        &mut kept,
-        &mut old,
+        kept,
+        old,
         &mut keys,
         &mut rows,
-        &mut spare,
+        spare,
         &mut counts,
-    ));
-    show(&kept);
-    io::write_all(1, b" ");
-    show(&old);
-    io::write_all(1, b"\n");
+    );
+    let mut line = Line::new();
+    let _ = match said {
+        Ok(dropped) => write!(line, "kept {} {} ", dropped.words, dropped.vertices),
+        Err(why) => write!(line, "refused {:02} ", why.number()),
+    };
+    line
+}
+
+// One call with result lists of nine numbers and of `most`, at most six.
+fn hand_out(d: u32, words: &[u32], gone: &[u32], most: usize) {
+    let mut kept = [7u32; 9];
+    let mut numbers = [7u32; 6];
+    let old = &mut numbers[..most.min(6)];
+    let mut spare = [7u32; 32];
+    let mut line = said(d, words, gone, &mut kept, old, &mut spare);
+    digits(&mut line, &kept);
+    let _ = write!(line, " ");
+    digits(&mut line, old);
+    let _ = writeln!(line);
+    io::write_all(1, line.as_bytes());
+}
+
+fn line(d: u32, words: &[u32], gone: &[u32]) {
+    hand_out(d, words, gone, 6);
 }
 
 // The same with a list of two old numbers.
 fn few_old(d: u32, words: &[u32], gone: &[u32]) {
-    let mut kept = [7u32; 9];
-    let mut old = [7u32; 2];
-    let mut keys = [7u32; 64];
-    let mut rows = [7u32; 32];
-    let mut spare = [7u32; 32];
-    let mut counts = [7u32; 32];
-    head(complex_dropped::drop_cells(
-        d,
-        words,
-        gone,
-        &mut kept,
-        &mut old,
-        &mut keys,
-        &mut rows,
-        &mut spare,
-        &mut counts,
-    ));
-    show(&kept);
-    io::write_all(1, b" ");
-    show(&old);
-    io::write_all(1, b"\n");
+    hand_out(d, words, gone, 2);
 }
 
 // The same with a working list of eight numbers, and what stands in it afterwards.
 fn little_room(d: u32, words: &[u32], gone: &[u32]) {
     let mut kept = [7u32; 9];
     let mut old = [7u32; 6];
-    let mut keys = [7u32; 64];
-    let mut rows = [7u32; 32];
     let mut spare = [7u32; 8];
-    let mut counts = [7u32; 32];
-    head(complex_dropped::drop_cells(
-        d,
-        words,
-        gone,
-        &mut kept,
-        &mut old,
-        &mut keys,
-        &mut rows,
-        &mut spare,
-        &mut counts,
-    ));
-    show(&spare);
-    io::write_all(1, b"\n");
+    let mut line = said(d, words, gone, &mut kept, &mut old, &mut spare);
+    digits(&mut line, &spare);
+    let _ = writeln!(line);
+    io::write_all(1, line.as_bytes());
 }
 
 fn main() {

@@ -1,9 +1,11 @@
 // Draws bands and prints the files, or the refusals, in document 02's order of checks.
 #![tactic(auto)]
 
+use arrayvec::ArrayString;
 use grid_sides::Sides;
 use quotient::{Axis, Glue, Grid};
-use refusal::Counted;
+use refusal::Refusal;
+use std::fmt::Write;
 
 // The standard output.
 const STDOUT_FILENO: i32 = 1;
@@ -29,59 +31,35 @@ fn grid(d: u32, n: u32, around: Glue, m: u32, up: Glue) -> Grid {
     }
 }
 
-// Prints the first n bytes.
-fn print(n: usize, bytes: &[u8]) {
-    if n <= bytes.len() {
-        io::write_all(STDOUT_FILENO, &bytes[..n]);
-    }
-}
-
 // Prints `refused` and the number.
 fn refused(number: u32) {
-    let mut line = [0u8; 32];
-    let a = file_writing::word(&mut line, 0, b"refused ");
-    let b = file_writing::number(&mut line, a, number);
-    let c = file_writing::word(&mut line, b, b"\n");
-    print(c, &line);
+    let mut line = ArrayString::<32>::new();
+    let _ = writeln!(line, "refused {number}");
+    io::write_all(STDOUT_FILENO, line.as_bytes());
 }
 
 // Prints what the call says: the file, or the refusal.
-fn show(said: Counted, bytes: &[u8]) {
+fn show(said: Result<u32, Refusal>, bytes: &[u8]) {
     match said {
-        Counted::Count(n) => print(n as usize, bytes),
-        Counted::Refused(number, _) => refused(number),
+        Ok(n) => {
+            if let Some(file) = bytes.get(..n as usize) {
+                io::write_all(STDOUT_FILENO, file);
+            }
+        }
+        Err(why) => refused(why.number()),
     }
 }
 
-// Draws into the first `most` bytes, with the first `room` numbers of each working list.
-fn lent(
-    g: Grid,
-    south: i32,
-    north: i32,
-    most: usize,
-    room: usize,
-    bytes: &mut [u8],
-    keys: &mut [u32],
-    rows: &mut [u32],
-    spare: &mut [u32],
-    counts: &mut [u32],
-) -> Counted {
-    if bytes.len() < most {
-        return Counted::Refused(0, 0);
-    }
-    if keys.len() < room {
-        return Counted::Refused(0, 0);
-    }
-    if rows.len() < room {
-        return Counted::Refused(0, 0);
-    }
-    if spare.len() < room {
-        return Counted::Refused(0, 0);
-    }
-    if counts.len() < room {
-        return Counted::Refused(0, 0);
-    }
-    file_geojson::geojson(
+// Draws into the first `most` bytes, with the first `room` numbers of each working list, and prints what is said.
+fn draw(g: Grid, south: i32, north: i32, most: usize, room: usize) {
+    let mut bytes = [0u8; 2800];
+    let mut keys = [7u32; 128];
+    let mut rows = [7u32; 128];
+    let mut spare = [7u32; 128];
+    let mut counts = [7u32; 128];
+    let most = most.min(2800);
+    let room = room.min(128);
+    let said = file_geojson::geojson(
         g,
         south,
         north,
@@ -90,86 +68,40 @@ fn lent(
         &mut rows[..room],
         &mut spare[..room],
         &mut counts[..room],
-    )
-}
-
-// Draws, and prints what is said.
-fn draw(g: Grid, south: i32, north: i32, most: usize, room: usize) {
-    let mut bytes = [0u8; 2800];
-    let mut keys = [7u32; 128];
-    let mut rows = [7u32; 128];
-    let mut spare = [7u32; 128];
-    let mut counts = [7u32; 128];
-    let said = lent(
-        g,
-        south,
-        north,
-        most,
-        room,
-        &mut bytes,
-        &mut keys,
-        &mut rows,
-        &mut spare,
-        &mut counts,
     );
     show(said, &bytes);
 }
 
+// The same with room enough for each of the bands here.
+fn ample(g: Grid, south: i32, north: i32) {
+    draw(g, south, north, 2800, 128);
+}
+
 fn main() {
     let band = grid(2, 3, Glue::Periodic, 1, Glue::Open);
-    draw(band, 0, 60, 2800, 128);
-    draw(band, -90, 90, 2800, 128);
-    draw(
-        grid(2, 3, Glue::Twisted(0), 2, Glue::Open),
-        -60,
-        60,
-        2800,
-        128,
-    );
-    draw(grid(2, 7, Glue::Periodic, 1, Glue::Open), -1, 1, 2800, 128);
+    ample(band, 0, 60);
+    ample(band, -90, 90);
+    ample(grid(2, 3, Glue::Twisted(0), 2, Glue::Open), -60, 60);
+    ample(grid(2, 7, Glue::Periodic, 1, Glue::Open), -1, 1);
     draw(band, 0, 60, 1164, 128);
     // 12: one byte too few; then too little room, even for another kind of grid
     draw(band, 0, 60, 1163, 128);
     draw(grid(1, 3, Glue::Periodic, 0, Glue::Open), 0, 60, 2800, 5);
     // 7 before 18
-    draw(
-        grid(2, 3, Glue::Twisted(2), 3, Glue::Twisted(1)),
-        0,
-        60,
-        2800,
-        128,
-    );
+    ample(grid(2, 3, Glue::Twisted(2), 3, Glue::Twisted(1)), 0, 60);
     // 18
-    draw(grid(1, 3, Glue::Periodic, 0, Glue::Open), 0, 60, 2800, 128);
-    draw(grid(2, 3, Glue::Open, 1, Glue::Open), 0, 0, 2800, 128);
-    draw(
-        grid(2, 3, Glue::Twisted(2), 1, Glue::Open),
-        0,
-        60,
-        2800,
-        128,
-    );
-    draw(
-        grid(2, 3, Glue::Periodic, 3, Glue::Periodic),
-        0,
-        60,
-        2800,
-        128,
-    );
+    ample(grid(1, 3, Glue::Periodic, 0, Glue::Open), 0, 60);
+    ample(grid(2, 3, Glue::Open, 1, Glue::Open), 0, 0);
+    ample(grid(2, 3, Glue::Twisted(2), 1, Glue::Open), 0, 60);
+    ample(grid(2, 3, Glue::Periodic, 3, Glue::Periodic), 0, 60);
     // 19
-    draw(band, 0, 0, 2800, 128);
-    draw(band, 60, 0, 2800, 128);
-    draw(band, -91, 0, 2800, 128);
-    draw(band, 0, 91, 2800, 128);
-    draw(band, -2147483648, 2147483647, 2800, 128);
+    ample(band, 0, 0);
+    ample(band, 60, 0);
+    ample(band, -91, 0);
+    ample(band, 0, 91);
+    ample(band, -2147483648, 2147483647);
     // 1, 9, 8
-    draw(grid(0, 3, Glue::Periodic, 1, Glue::Open), 0, 60, 2800, 128);
-    draw(
-        grid(2, 3, Glue::Twisted(1), 1, Glue::Open),
-        0,
-        60,
-        2800,
-        128,
-    );
-    draw(grid(2, 2, Glue::Periodic, 1, Glue::Open), 0, 60, 2800, 128);
+    ample(grid(0, 3, Glue::Periodic, 1, Glue::Open), 0, 60);
+    ample(grid(2, 3, Glue::Twisted(1), 1, Glue::Open), 0, 60);
+    ample(grid(2, 2, Glue::Periodic, 1, Glue::Open), 0, 60);
 }

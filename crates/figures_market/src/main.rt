@@ -1,64 +1,42 @@
 // Prints boundary operators as Matrix Market files, or the refusals, in the order of checks.
 #![tactic(auto)]
 
-use refusal::Counted;
+use arrayvec::ArrayString;
+use refusal::Refusal;
+use std::fmt::Write;
 
 // The standard output.
 const STDOUT_FILENO: i32 = 1;
 
-// Prints the first n bytes.
-fn print(n: usize, bytes: &[u8]) {
-    if n <= bytes.len() {
-        io::write_all(STDOUT_FILENO, &bytes[..n]);
-    }
-}
-
 // Prints `refused` and the number.
 fn refused(number: u32) {
-    let mut line = [0u8; 32];
-    let a = file_writing::word(&mut line, 0, b"refused ");
-    let b = file_writing::number(&mut line, a, number);
-    let c = file_writing::word(&mut line, b, b"\n");
-    print(c, &line);
+    let mut line = ArrayString::<32>::new();
+    let _ = writeln!(line, "refused {number}");
+    io::write_all(STDOUT_FILENO, line.as_bytes());
 }
 
 // Prints what the call says: the file, or the refusal.
-fn show(said: Counted, bytes: &[u8]) {
+fn show(said: Result<u32, Refusal>, bytes: &[u8]) {
     match said {
-        Counted::Count(n) => print(n as usize, bytes),
-        Counted::Refused(number, _) => refused(number),
+        Ok(n) => {
+            if let Some(file) = bytes.get(..n as usize) {
+                io::write_all(STDOUT_FILENO, file);
+            }
+        }
+        Err(why) => refused(why.number()),
     }
 }
 
-// Writes into the first `most` bytes, with the first `room` numbers of each working list.
-fn lent(
-    d: u32,
-    k: u32,
-    words: &[u32],
-    most: usize,
-    room: usize,
-    bytes: &mut [u8],
-    keys: &mut [u32],
-    rows: &mut [u32],
-    spare: &mut [u32],
-    counts: &mut [u32],
-) -> Counted {
-    if bytes.len() < most {
-        return Counted::Refused(0, 0);
-    }
-    if keys.len() < room {
-        return Counted::Refused(0, 0);
-    }
-    if rows.len() < room {
-        return Counted::Refused(0, 0);
-    }
-    if spare.len() < room {
-        return Counted::Refused(0, 0);
-    }
-    if counts.len() < room {
-        return Counted::Refused(0, 0);
-    }
-    file_market::matrix_market(
+// Writes the operator into the first `most` bytes, with the first `room` numbers of each working list, and prints what is said.
+fn operator(d: u32, k: u32, words: &[u32], most: usize, room: usize) {
+    let mut bytes = [0u8; 1024];
+    let mut keys = [7u32; 128];
+    let mut rows = [7u32; 128];
+    let mut spare = [7u32; 128];
+    let mut counts = [7u32; 128];
+    let most = most.min(1024);
+    let room = room.min(128);
+    let said = file_market::matrix_market(
         d,
         k,
         words,
@@ -67,27 +45,6 @@ fn lent(
         &mut rows[..room],
         &mut spare[..room],
         &mut counts[..room],
-    )
-}
-
-// Writes the operator, and prints what is said.
-fn operator(d: u32, k: u32, words: &[u32], most: usize, room: usize) {
-    let mut bytes = [0u8; 1024];
-    let mut keys = [7u32; 128];
-    let mut rows = [7u32; 128];
-    let mut spare = [7u32; 128];
-    let mut counts = [7u32; 128];
-    let said = lent(
-        d,
-        k,
-        words,
-        most,
-        room,
-        &mut bytes,
-        &mut keys,
-        &mut rows,
-        &mut spare,
-        &mut counts,
     );
     show(said, &bytes);
 }

@@ -10,10 +10,11 @@ pub(crate) struct Found {
 
 // The value of a digit.
 fn value(digit: u8) -> u8 {
-    if digit < 58 {
-        return digit % 16;
+    if digit <= b'9' {
+        digit % 16
+    } else {
+        (digit % 16 + 9) % 16
     }
-    (digit % 16 + 9) % 16
 }
 
 // The byte of two digits.
@@ -29,36 +30,18 @@ pub(crate) fn line(text: &[u8], from: usize, to: &mut [u8]) -> Found
     ensures end_in_bounds { result.end ≤ length text.now }
 {
     let mut end = from;
-    let mut i = 0;
-    while i < to.len() {
+    for i in 0..to.len() {
         if text.len() - end < 2 {
-            return Found { count: i, end: end };
+            return Found { count: i, end };
         }
         if text[end] == b'\n' {
-            return Found { count: i, end: end };
+            return Found { count: i, end };
         }
         to[i] = byte(text[end], text[end + 1]);
         end += 2;
-        i += 1;
     }
-    Found { count: i, end: end }
-}
-
-fn digit(value: u8) -> u8 {
-    if value < 10 {
-        return 48 + value;
-    }
-    87 + value % 16
-}
-
-// The first n bytes of the list.
-pub(crate) fn show(list: &[u8], n: usize) {
-    let mut i = 0;
-    while i < list.len() {
-        if i < n {
-            let pair = [digit(list[i] / 16), digit(list[i] % 16)];
-            io::write_all(1, &pair);
-        }
-        i += 1;
+    Found {
+        count: to.len(),
+        end,
     }
 }

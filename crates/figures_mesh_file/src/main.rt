@@ -7,33 +7,33 @@ mod hex;
 
 ghost use Rattle.std.specs.Prelude.{◌≤◌, ◌<◌, length};
 
+use arrayvec::ArrayString;
 use file_mesh_read::Reading;
-use refusal::Counted;
+use refusal::Refusal;
+use std::fmt::Write;
+
+// A line of the output: the longest has 5 numbers and 512 bytes.
+type Line = ArrayString<1536>;
 
 // How many numbers the words of so many cells have.
 fn corners(d: u32, cells: usize) -> usize
     requires { cells < 4294967296 }
 {
-    if d == 0 {
-        return cells;
+    match d {
+        0 => cells,
+        1 => cells * 2,
+        2 => cells * 3,
+        _ => cells * 4,
     }
-    if d == 1 {
-        return cells * 2;
-    }
-    if d == 2 {
-        return cells * 3;
-    }
-    cells * 4
 }
 
-fn refused(number: u32, place: u32) {
-    io::print_decimal(1, number as u64);
-    io::write_all(1, b" ");
-    io::print_decimal(1, place as u64);
+// The refusal's number and place.
+fn refused(why: Refusal, line: &mut Line) {
+    let _ = write!(line, "{} {}", why.number(), why.place());
 }
 
 // The bytes that writing these lists gives, or the refusal.
-fn written(d: u32, words: &[u32], births: &[u32], pairs: &[u32]) {
+fn written(d: u32, words: &[u32], births: &[u32], pairs: &[u32], line: &mut Line) {
     let mut bytes = [7u8; 512];
     let mut keys = [7u32; 512];
     let mut rows = [7u32; 256];
@@ -51,28 +51,28 @@ fn written(d: u32, words: &[u32], births: &[u32], pairs: &[u32]) {
         &mut counts,
     );
     match said {
-        Counted::Count(n) => hex::show(&bytes, n as usize),
-        Counted::Refused(number, place) => refused(number, place),
+        Ok(n) => {
+            for byte in bytes.iter().take(n as usize) {
+                let _ = write!(line, "{byte:02x}");
+            }
+        }
+        Err(why) => refused(why, line),
     }
 }
 
-// The first n words' numbers, b births' and p pairs', written again.
-fn again(d: u32, words: &[u32], n: usize, births: &[u32], b: usize, pairs: &[u32], p: usize) {
-    if words.len() < n {
-        return;
+// What was read, and the bytes that writing it gives.
+fn again(read: Reading, words: &[u32], births: &[u32], pairs: &[u32], line: &mut Line) {
+    let _ = write!(
+        line,
+        "0 {} {} {} {} ",
+        read.dimension, read.cells, read.births, read.pairs
+    );
+    let words = words.get(..corners(read.dimension, read.cells as usize));
+    let births = births.get(..read.births as usize * 3);
+    let pairs = pairs.get(..read.pairs as usize * 2);
+    if let (Some(words), Some(births), Some(pairs)) = (words, births, pairs) {
+        written(read.dimension, words, births, pairs, line);
     }
-    if births.len() < b {
-        return;
-    }
-    if pairs.len() < p {
-        return;
-    }
-    written(d, &words[..n], &births[..b], &pairs[..p]);
-}
-
-fn counted(n: u32) {
-    io::write_all(1, b" ");
-    io::print_decimal(1, n as u64);
 }
 
 // What reading the file says.
@@ -84,6 +84,7 @@ fn file(bytes: &[u8]) {
     let mut rows = [7u32; 256];
     let mut spare = [7u32; 256];
     let mut counts = [7u32; 256];
+    let mut line = Line::new();
     let said = file_mesh_read::read_mesh(
         bytes,
         &mut words,
@@ -95,35 +96,11 @@ fn file(bytes: &[u8]) {
         &mut counts,
     );
     match said {
-        Reading::Refused(number, place) => refused(number, place),
-        Reading::Read(d, cells, many, weights) => {
-            io::write_all(1, b"0");
-            counted(d);
-            counted(cells);
-            counted(many);
-            counted(weights);
-            io::write_all(1, b" ");
-            let n = corners(d, cells as usize);
-            again(
-                d,
-                &words,
-                n,
-                &births,
-                many as usize * 3,
-                &pairs,
-                weights as usize * 2,
-            );
-        }
+        Err(why) => refused(why, &mut line),
+        Ok(read) => again(read, &words, &births, &pairs, &mut line),
     }
-    io::write_all(1, b"\n");
-}
-
-// What reading the first n bytes says.
-fn cut(bytes: &[u8], n: usize) {
-    if bytes.len() < n {
-        return;
-    }
-    file(&bytes[..n]);
+    let _ = writeln!(line);
+    io::write_all(1, line.as_bytes());
 }
 
 // The file in the line that begins at `from`; where the next line begins.
@@ -133,17 +110,14 @@ fn line(text: &[u8], from: usize) -> usize
 {
     let mut bytes = [0u8; 512];
     let found = hex::line(text, from, &mut bytes);
-    cut(&bytes, found.count);
-    let end = found.end;
-    if end < text.len() {
-        return end + 1;
-    }
-    text.len()
+    file(&bytes[..found.count]);
+    text.len().min(found.end + 1)
 }
 
 // Every line.
 fn lines(text: &[u8]) {
     let mut at = 0;
+    // Kept: each line says where the next begins, so there is no range or list to count over.
     while at < text.len() {
         at = line(text, at);
     }

@@ -1,4 +1,6 @@
 -- The signs and the order of 3×1, axis 0 twisted over 1, and of 3×1, axis 0 periodic. Assumes nothing.
+use Rattle.refusal.specs.Says.{fine}
+use Rattle.std.specs.Prelude.{Ok}
 use mathlib.Core.Bool.{true}
 use mathlib.Core.List.{List, [], ◌∷◌}
 use mathlib.Core.Path.{◌≡◌, refl, sym, ap, ◌∙◌, subst}
@@ -7,7 +9,6 @@ use native.Mathlib.Nat.{le_refl}
 use native.Mathlib.Omega.{arith}
 use lib.IntN.{pos, negsuc}
 use lib.ListN.{length, get_or}
-use Rattle.refusal.specs.declared.Answer.TheVariants.{Fine}
 use Rattle.lists.specs.Rows.{cut, flat}
 use Rattle.lists.specs.Words.{found_at, first_where}
 use Rattle.multiindex.specs.Sort.{insert_by, insert, sort_word}
@@ -30,7 +31,6 @@ use Rattle.ordering_words.specs.Order.{word_if, word_of, by_cell, IsOrder, Agree
 use Rattle.grid_order.specs.declared.Triangulated.TheVariants as Triangulated
 use Rattle.grid_order.specs.Promise.{own_words, words_by_cell, HandsOut, cells_length}
 use Rattle.grid_order.specs.Promise as Order
-use Rattle.bandsum_line.specs.declared.Line.TheVariants as Line
 use Rattle.bandsum_line.specs.Grammar.{and_then, after, digits_from, count_from, set_from, glue_from, glued_from, axis_from, axis_at, grid_from, line_ends, ended, read_line}
 use Rattle.bandsum_lines.specs.declared.Summary.{Summary}
 use Rattle.bandsum_lines.specs.Lines.{lines_of}
@@ -90,10 +90,10 @@ ring-signs : Oriented 2 ring_cells ring-sign
 unfolding some ring-sign
 ring-signs = record { coherent = coherent-by 2 ring_cells ring-sign refl; lowest = ring-lowest }
 
-pub ring-oriented : Orientation.Ends 2 (glued_cells ring) (length (glued_cells ring)) (Coherence.Signs 6 18) (pos 1 ∷ negsuc 0 ∷ pos 1 ∷ negsuc 0 ∷ negsuc 0 ∷ pos 1 ∷ [])
+pub ring-oriented : Orientation.Ends 2 (glued_cells ring) (length (glued_cells ring)) (Ok (Coherence.Signs 6 18)) (pos 1 ∷ negsuc 0 ∷ pos 1 ∷ negsuc 0 ∷ negsuc 0 ∷ pos 1 ∷ [])
 unfolding ring-sign
 ring-oriented =
-    subst (λ (cs : Words). Orientation.Ends 2 cs (length cs) (Coherence.Signs 6 18) (pos 1 ∷ negsuc 0 ∷ pos 1 ∷ negsuc 0 ∷ negsuc 0 ∷ pos 1 ∷ [])) (sym ring-cells)
+    subst (λ (cs : Words). Orientation.Ends 2 cs (length cs) (Ok (Coherence.Signs 6 18)) (pos 1 ∷ negsuc 0 ∷ pos 1 ∷ negsuc 0 ∷ negsuc 0 ∷ pos 1 ∷ [])) (sym ring-cells)
     (Orientation.signed ring-free ring-sign ring-signs (le_refl 6))
 
 each-ring : (c : ℕ) → c < 6 → sort_word (word_of ring_words (cell_at ring_cells c)) ≡ cell_at ring_cells c
@@ -125,17 +125,17 @@ ring-hands-out =
       agree = subst (λ (ks : Words). AgreeOnFacets 2 (glued_cells ring) ks) (sym (by-words ring ring_cells ring_words ring_order ring-cells ring-words ring-by)) (subst (λ (cs : Words). AgreeOnFacets 2 cs ring_order) (sym ring-cells) ring-agree);
     }
 
-pub ring-ordered : Order.Ends ring (cells_length ring) (cells_length ring) (Triangulated.Ordered 6) (record { cells = flat (glued_cells ring); order = flat ring_order })
+pub ring-ordered : Order.Ends ring (cells_length ring) (cells_length ring) (Ok (Triangulated.Ordered 6)) (record { cells = flat (glued_cells ring); order = flat ring_order })
 ring-ordered =
-    subst (λ (n : ℕ). Order.Ends ring (cells_length ring) (cells_length ring) (Triangulated.Ordered n) (record { cells = flat (glued_cells ring); order = flat ring_order })) (ap length ring-cells)
-    (subst (λ (ks : Words). Order.Ends ring (cells_length ring) (cells_length ring) (Triangulated.Ordered (length (glued_cells ring))) (record { cells = flat (glued_cells ring); order = flat ks })) (by-words ring ring_cells ring_words ring_order ring-cells ring-words ring-by)
+    subst (λ (n : ℕ). Order.Ends ring (cells_length ring) (cells_length ring) (Ok (Triangulated.Ordered n)) (record { cells = flat (glued_cells ring); order = flat ring_order })) (ap length ring-cells)
+    (subst (λ (ks : Words). Order.Ends ring (cells_length ring) (cells_length ring) (Ok (Triangulated.Ordered (length (glued_cells ring)))) (record { cells = flat (glued_cells ring); order = flat ks })) (by-words ring ring_cells ring_words ring_order ring-cells ring-words ring-by)
     (Order.ordered (subst (λ (cs : Words). Crowded 2 cs → ⊥) (sym ring-cells) ring-free) ring-hands-out (le_refl _) (le_refl _)))
 
-ring-taken : check_of ring ≡ Fine
+ring-taken : check_of ring ≡ fine
 unfolding check_of first_where found_at bad_set some axis_of product
 ring-taken = refl
 
-ring-read : read_line ring_line ≡ Line.Taken ring
+ring-read : read_line ring_line ≡ Ok ring
 unfolding read_line ended line_ends grid_from axis_at axis_from glued_from glue_from set_from count_from digits_from after and_then
 ring-read = refl
 
@@ -191,9 +191,9 @@ band-no-order : HandsOut band → ⊥
 band-no-order h =
     band-differ (subst (λ (ks : Words). AgreeOnFacets 2 band_cells ks) (by-words band band_cells band_words band_order band-cells band-words band-by) (subst (λ (cs : Words). AgreeOnFacets 2 cs (words_by_cell band)) band-cells h.agree))
 
-pub band-ordered : Order.Ends band (cells_length band) (cells_length band) (Triangulated.Unordered 6) (record { cells = flat (glued_cells band); order = flat [] })
+pub band-ordered : Order.Ends band (cells_length band) (cells_length band) (Ok (Triangulated.Unordered 6)) (record { cells = flat (glued_cells band); order = flat [] })
 band-ordered =
-    subst (λ (n : ℕ). Order.Ends band (cells_length band) (cells_length band) (Triangulated.Unordered n) (record { cells = flat (glued_cells band); order = [] })) (ap length band-cells)
+    subst (λ (n : ℕ). Order.Ends band (cells_length band) (cells_length band) (Ok (Triangulated.Unordered n)) (record { cells = flat (glued_cells band); order = [] })) (ap length band-cells)
     (Order.unordered (subst (λ (cs : Words). Crowded 2 cs → ⊥) (sym band-cells) band-free) band-no-order (le_refl _))
 
 -- round the band each sign forces the next, and the first comes back turned
@@ -219,6 +219,6 @@ band-no-signs σ w =
     (forced (σ 4) (σ 3) plus plus (w.opposed 4 0 3 0 (mates band_cells 4 0 3 0 (omega arith) (omega arith) (omega arith) (omega arith) (λ e. omega arith) refl)))
     (forced (σ 3) (σ 0) plus plus (w.opposed 3 2 0 2 (mates band_cells 3 2 0 2 (omega arith) (omega arith) (omega arith) (omega arith) (λ e. omega arith) refl))))
 
-pub band-oriented : Orientation.Ends 2 (glued_cells band) (length (glued_cells band)) (Coherence.OneSided 15) []
+pub band-oriented : Orientation.Ends 2 (glued_cells band) (length (glued_cells band)) (Ok (Coherence.OneSided 15)) []
 unfolding first_where found_at
-band-oriented = subst (λ (cs : Words). Orientation.Ends 2 cs (length cs) (Coherence.OneSided 15) []) (sym band-cells) (Orientation.one_sided band-free band-no-signs)
+band-oriented = subst (λ (cs : Words). Orientation.Ends 2 cs (length cs) (Ok (Coherence.OneSided 15)) []) (sym band-cells) (Orientation.one_sided band-free band-no-signs)

@@ -1,6 +1,8 @@
 -- The kinds of figures, and what each says in the definitions that the promises cite. Assumes nothing.
+use Rattle.refusal.specs.declared.Refusal.{Refusal}
+use Rattle.refusal.specs.Says.{Answer}
+use Rattle.std.specs.Prelude.{Result}
 use Rattle.std.specs.Prelude.{List, [], ◌∷◌, map, ◌≡◌, ℕ, suc, ℤ, length, get_or, replicate}
-use Rattle.refusal.specs.declared.Answer.{Answer}
 use Rattle.lists.specs.Rows.{flat}
 use Rattle.lists.specs.Tables.{upto}
 use Rattle.lists.specs.Words.{without}
@@ -32,9 +34,9 @@ pub data Case : Type 0 where
   has_words : Grid → List (List ℕ) → Case
   has_cells : Grid → List (List ℕ) → Case
   -- what `orientation` says of its words, looks included, and the signs that it hands out
-  oriented : Grid → Coherence → List ℤ → Case
+  oriented : Grid → Result Coherence Refusal → List ℤ → Case
   -- what `triangulate_ordered` says of it, and the words that it hands out as an order
-  ordered : Grid → Triangulated → List (List ℕ) → Case
+  ordered : Grid → Result Triangulated Refusal → List (List ℕ) → Case
   -- cell and position: the facet without that position, and the sequence in which the cell's word lists its vertices
   reads : Grid → ℕ → ℕ → List ℕ → List ℕ → Case
   -- dimension, R and word: the births, each by its weights at the vertices
@@ -45,7 +47,7 @@ pub data Case : Type 0 where
   -- a point has one child for each R from 1 to this one
   one_child : ℕ → Case
   -- what refinement says, however long the result lists are, where it hands out nothing
-  refused : ℕ → ℕ → List ℕ → Refinement → Case
+  refused : ℕ → ℕ → List ℕ → Result Refinement Refusal → Case
   -- the program's bytes, and the six things that it prints
   prints : List ℕ → Summary → Case
 

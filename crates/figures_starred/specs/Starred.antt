@@ -1,7 +1,8 @@
 -- Document 01, "Figures to check by": the starred ones, in its order; after them the two that tell the sequence of the axis orders, and the program's example. Assumes nothing.
+use Rattle.refusal.specs.declared.Refusal.TheVariants.{BadRefinement, ShortAxis}
+use Rattle.refusal.specs.Says.{fine}
+use Rattle.std.specs.Prelude.{Err, Ok}
 use Rattle.std.specs.Prelude.{true, List, [], ◌∷◌, ℕ, pos, negsuc}
-use Rattle.refusal.specs.declared.Answer.TheVariants as Answer
-use Rattle.refusal.specs.Table.{short_axis_number, bad_refinement}
 use Rattle.refusal.specs.Limits.{most_refinement}
 use Rattle.orientation.specs.declared.Coherence.TheVariants as Coherence
 use Rattle.quotient.specs.declared.Glue.{Glue}
@@ -11,7 +12,6 @@ use Rattle.quotient.specs.declared.Grid.{Grid}
 use Rattle.quotient.specs.Shape.{no_axis}
 use Rattle.bandsum_line.specs.Grammar.{line_feed, letter_o, letter_p, unit_sides}
 use Rattle.grid_order.specs.declared.Triangulated.TheVariants as Triangulated
-use Rattle.refine_results.specs.declared.Refinement.TheVariants as Refinement
 use Rattle.figures_starred.specs.Case.{Case, checked, reduced, has_words, has_cells, oriented, ordered, reads, births, child_words, child_cells, one_child, refused, prints}
 
 abbrev grid : ℕ → Axis → Axis → Grid
@@ -43,25 +43,25 @@ abbrev pub starred : List Case
 starred =
     reduced band (0 ∷ 1 ∷ 2 ∷ 3 ∷ 3 ∷ 4 ∷ 5 ∷ 0 ∷ [])
     ∷ has_words band ((0 ∷ 1 ∷ 4 ∷ []) ∷ (0 ∷ 3 ∷ 4 ∷ []) ∷ (1 ∷ 2 ∷ 5 ∷ []) ∷ (1 ∷ 4 ∷ 5 ∷ []) ∷ (2 ∷ 3 ∷ 0 ∷ []) ∷ (2 ∷ 5 ∷ 0 ∷ []) ∷ [])
-    ∷ ordered band (Triangulated.Unordered 6) []
+    ∷ ordered band (Ok (Triangulated.Unordered 6)) []
     ∷ reads band 0 1 (0 ∷ 3 ∷ []) (3 ∷ 0 ∷ [])
     ∷ reads band 2 2 (0 ∷ 3 ∷ []) (0 ∷ 3 ∷ [])
-    ∷ oriented band (Coherence.OneSided 15) []
+    ∷ oriented band (Ok (Coherence.OneSided 15)) []
     ∷ reduced ring (0 ∷ 1 ∷ 2 ∷ 0 ∷ 3 ∷ 4 ∷ 5 ∷ 3 ∷ [])
     ∷ has_words ring ((0 ∷ 1 ∷ 4 ∷ []) ∷ (0 ∷ 3 ∷ 4 ∷ []) ∷ (1 ∷ 2 ∷ 5 ∷ []) ∷ (1 ∷ 4 ∷ 5 ∷ []) ∷ (2 ∷ 0 ∷ 3 ∷ []) ∷ (2 ∷ 5 ∷ 3 ∷ []) ∷ [])
     ∷ has_cells ring ((0 ∷ 2 ∷ 3 ∷ []) ∷ (0 ∷ 1 ∷ 4 ∷ []) ∷ (0 ∷ 3 ∷ 4 ∷ []) ∷ (1 ∷ 2 ∷ 5 ∷ []) ∷ (2 ∷ 3 ∷ 5 ∷ []) ∷ (1 ∷ 4 ∷ 5 ∷ []) ∷ [])
-    ∷ oriented ring (Coherence.Signs 6 18) (pos 1 ∷ negsuc 0 ∷ pos 1 ∷ negsuc 0 ∷ negsuc 0 ∷ pos 1 ∷ [])
-    ∷ ordered ring (Triangulated.Ordered 6) ((2 ∷ 0 ∷ 3 ∷ []) ∷ (0 ∷ 1 ∷ 4 ∷ []) ∷ (0 ∷ 3 ∷ 4 ∷ []) ∷ (1 ∷ 2 ∷ 5 ∷ []) ∷ (2 ∷ 5 ∷ 3 ∷ []) ∷ (1 ∷ 4 ∷ 5 ∷ []) ∷ [])
+    ∷ oriented ring (Ok (Coherence.Signs 6 18)) (pos 1 ∷ negsuc 0 ∷ pos 1 ∷ negsuc 0 ∷ negsuc 0 ∷ pos 1 ∷ [])
+    ∷ ordered ring (Ok (Triangulated.Ordered 6)) ((2 ∷ 0 ∷ 3 ∷ []) ∷ (0 ∷ 1 ∷ 4 ∷ []) ∷ (0 ∷ 3 ∷ 4 ∷ []) ∷ (1 ∷ 2 ∷ 5 ∷ []) ∷ (2 ∷ 5 ∷ 3 ∷ []) ∷ (1 ∷ 4 ∷ 5 ∷ []) ∷ [])
     ∷ births 2 2 triangle ((1 ∷ 1 ∷ 0 ∷ []) ∷ (1 ∷ 0 ∷ 1 ∷ []) ∷ (0 ∷ 1 ∷ 1 ∷ []) ∷ [])
     ∷ child_words 2 2 triangle ((0 ∷ 3 ∷ 4 ∷ []) ∷ (3 ∷ 1 ∷ 5 ∷ []) ∷ (4 ∷ 5 ∷ 2 ∷ []) ∷ (3 ∷ 4 ∷ 5 ∷ []) ∷ [])
     ∷ child_cells 2 2 triangle ((0 ∷ 3 ∷ 4 ∷ []) ∷ (1 ∷ 3 ∷ 5 ∷ []) ∷ (2 ∷ 4 ∷ 5 ∷ []) ∷ (3 ∷ 4 ∷ 5 ∷ []) ∷ [])
     ∷ child_words 2 1 triangle (triangle ∷ [])
     ∷ one_child most_refinement
-    ∷ refused 2 0 triangle (Refinement.Refused bad_refinement 0)
-    ∷ checked (line 2 Periodic) (Answer.Refused short_axis_number 0)
-    ∷ checked (line 3 Periodic) Answer.Fine
-    ∷ checked (line 0 Open) (Answer.Refused short_axis_number 0)
-    ∷ checked (line 1 Open) Answer.Fine
+    ∷ refused 2 0 triangle (Err BadRefinement)
+    ∷ checked (line 2 Periodic) (Err (ShortAxis 0))
+    ∷ checked (line 3 Periodic) fine
+    ∷ checked (line 0 Open) (Err (ShortAxis 0))
+    ∷ checked (line 1 Open) fine
     ∷ births 2 3 triangle ((2 ∷ 1 ∷ 0 ∷ []) ∷ (2 ∷ 0 ∷ 1 ∷ []) ∷ (1 ∷ 1 ∷ 1 ∷ []) ∷ (1 ∷ 2 ∷ 0 ∷ []) ∷ (0 ∷ 2 ∷ 1 ∷ []) ∷ (1 ∷ 0 ∷ 2 ∷ []) ∷ (0 ∷ 1 ∷ 2 ∷ []) ∷ [])
     ∷ births 3 2 tetrahedron ((1 ∷ 1 ∷ 0 ∷ 0 ∷ []) ∷ (1 ∷ 0 ∷ 1 ∷ 0 ∷ []) ∷ (1 ∷ 0 ∷ 0 ∷ 1 ∷ []) ∷ (0 ∷ 1 ∷ 0 ∷ 1 ∷ []) ∷ (0 ∷ 1 ∷ 1 ∷ 0 ∷ []) ∷ (0 ∷ 0 ∷ 1 ∷ 1 ∷ []) ∷ [])
     ∷ prints ring_line (record { cells = 6; vertices = 6; edges = 12; border = 6; sides = 2; ordered = true })

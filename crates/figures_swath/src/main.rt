@@ -1,9 +1,11 @@
 // Swaths, run: the refusal's number and place, or 0 and 0, and the list of five numbers afterwards, which held 6 in every place.
 #![tactic(auto)]
 
+use arrayvec::ArrayString;
 use grid_sides::Sides;
 use quotient::{Axis, Glue, Grid};
-use refusal::Answer;
+use refusal::Refusal;
+use std::fmt::Write;
 
 fn axis(count: u32, glue: Glue) -> Axis {
     Axis { count, glue }
@@ -24,38 +26,25 @@ fn sheet(d: u32, first: Axis, second: Axis) -> Grid {
     }
 }
 
-fn more(n: u32) {
-    io::write_all(1, b" ");
-    io::print_decimal(1, n as u64);
-}
-
-fn said(a: Answer) {
-    match a {
-        Answer::Fine => {
-            more(0);
-            more(0);
-        }
-        Answer::Refused(number, place) => {
-            more(number);
-            more(place);
-        }
+// The refusal's number and place, or 0 and 0.
+fn told(said: Result<(), Refusal>) -> (u32, u32) {
+    match said {
+        Ok(()) => (0, 0),
+        Err(why) => (why.number(), why.place()),
     }
 }
 
 // One call with the first `room` of five numbers lent.
 fn line(grid: Grid, points: &[u32], room: usize) {
     let mut glued = [6u32; 5];
-    if 5 < room {
-        return;
+    let (number, place) = told(grid_swath::swath(grid, points, &mut glued[..room.min(5)]));
+    let mut line = ArrayString::<96>::new();
+    let _ = write!(line, " {number} {place} :");
+    for n in glued {
+        let _ = write!(line, " {n}");
     }
-    said(grid_swath::swath(grid, points, &mut glued[..room]));
-    io::write_all(1, b" :");
-    more(glued[0]);
-    more(glued[1]);
-    more(glued[2]);
-    more(glued[3]);
-    more(glued[4]);
-    io::write_all(1, b"\n");
+    let _ = writeln!(line);
+    io::write_all(1, line.as_bytes());
 }
 
 fn main() {

@@ -7,14 +7,6 @@ ghost use Rattle.std.specs.Prelude.{◌≡◌, ◌+◌, ◌*◌, ◌<◌, ◌≤
 ghost use Rattle.refusal.specs.Lent.{onto};
 ghost use Rattle.file_bytes.specs.Bytes.{little, said, fours, fours_of};
 
-// A byte as a number.
-fn wide(b: u8) -> u32
-    ensures same { result ≡ b }
-    ensures small { result < 256 }
-{
-    b as u32
-}
-
 // The number in the two bytes at a position.
 pub fn two(from: &[u8], at: usize) -> u32
     requires { at + 2 ≤ length from.now }
@@ -22,7 +14,7 @@ pub fn two(from: &[u8], at: usize) -> u32
     ensures small { result < 65536 }
 {
     let next = at + 1;
-    wide(from[at]) + 256 * wide(from[next])
+    from[at] as u32 + 256 * from[next] as u32
 }
 
 // The number in the four bytes at a position.
@@ -38,10 +30,8 @@ pub fn read_fours(from: &[u8], to: &mut [u32])
     requires { length to.old * 4 ≤ length from.now }
     ensures { to.new ≡ fours_of (length to.old) from.now }
 {
-    let mut i = 0;
-    while i < to.len() {
-        to[i] = four(from, i * 4);
-        i += 1;
+    for (i, n) in to.iter_mut().enumerate() {
+        *n = four(from, i * 4);
     }
 }
 
@@ -70,10 +60,8 @@ pub fn put_fours(from: &[u32], to: &mut [u8])
     requires { length from.now * 4 ≤ length to.old }
     ensures { to.new ≡ onto (fours from.now) to.old }
 {
-    let mut i = 0;
-    while i < from.len() {
+    for (i, &n) in from.iter().enumerate() {
         let at = i * 4;
-        put_four(from[i], &mut to[at..]);
-        i += 1;
+        put_four(n, &mut to[at..]);
     }
 }

@@ -1,4 +1,6 @@
 -- The promise of `file_geojson` determines what it says and every list: two calls on equal inputs end alike. Assumes nothing.
+use Rattle.refusal.specs.Says.{Counted}
+use Rattle.std.specs.Prelude.{Err}
 use mathlib.Core.List.{List, []}
 use mathlib.Core.Path.{◌≡◌, refl, sym, ap, ◌∙◌}
 use mathlib.Core.Bool.{Bool, true, false, cond}
@@ -6,8 +8,6 @@ use Prim.Native.Nat.{ℕ}
 use native.Mathlib.Omega.{arith}
 use lib.IntN.{ℤ}
 use lib.ListN.{length}
-use Rattle.refusal.specs.declared.Counted.{Counted}
-use Rattle.refusal.specs.declared.Counted.TheVariants.{Refused}
 use Rattle.refusal.specs.Lent.{onto, lengths}
 use Rattle.refusal.proofs.Determined.{comes-one, cleared-one}
 use Rattle.quotient.specs.declared.Grid.{Grid}
@@ -46,7 +46,7 @@ ends-one g south north n r r' l l' (plain f d) (plain h e) = drawn-one g south n
 pub geojson-one : (g : Grid) (south north : ℤ) (r r' : Counted) (bytes b b' keys k k' rows o o' spare p p' counts c c' : List ℕ) → GeoJson g south north r bytes b keys k rows o spare p counts c →
     GeoJson g south north r' bytes b' keys k' rows o' spare p' counts c' → (r ≡ r') × (b ≡ b') × ((k ≡ k') × (o ≡ o') × (p ≡ p') × (c ≡ c'))
 geojson-one g south north r r' bytes b b' keys k k' rows o o' spare p p' counts c c' x y =
-    let e = comes-one Refused [] (check_of g) (grid_need g) (lengths keys rows spare counts) (GeoEnd g south north (length bytes))
+    let e = comes-one Err [] (check_of g) (grid_need g) (lengths keys rows spare counts) (GeoEnd g south north (length bytes))
     (ends-one g south north (length bytes)) x.comes y.comes in (
       e.0,
       x.result ∙ ap (λ (l : List ℕ). onto l bytes) e.1 ∙ sym y.result,

@@ -1,19 +1,20 @@
 -- The ways out of the call. Assumes nothing.
+use Rattle.refusal.specs.declared.Refusal.{Refusal}
+use Rattle.refusal.specs.declared.Refusal.TheVariants.{BadLatitudes, CrowdedFacet, OtherGrid, TooShort}
+use Rattle.refusal.specs.contracts.RefusalPartialEq.TheImpl.{eq-value}
+use Rattle.refusal.specs.Says.{Answer, Counted, fine}
+use Rattle.std.specs.Result.{result_eq}
+use Rattle.std.specs.Prelude.{Err, Ok}
 use mathlib.Core.Path.{◌≡◌, refl, sym, ap, subst, ◌∙◌}
 use mathlib.Core.Bool.{Bool, true, false, cond}
 use mathlib.Core.List.{List, [], ◌∷◌, ◌++◌, map}
-use Prim.Native.Nat.{ℕ, ◌+◌, ◌-◌, ◌*◌, ◌≤◌, ◌<◌}
+use Prim.Native.Nat.{ℕ, ◌+◌, ◌*◌, ◌≤◌, ◌<◌}
 use native.Mathlib.Omega.{arith}
-use lib.Dec.{eqb}
 use lib.IntN.{ℤ}
 use lib.ListN.{length, length-append}
-use Rattle.refusal.specs.declared.Answer.{Answer}
-use Rattle.refusal.specs.declared.Answer.TheVariants as Answer
 use Rattle.refusal.specs.declared.Room.{Room}
-use Rattle.refusal.specs.declared.Counted.{Counted}
-use Rattle.refusal.specs.declared.Counted.TheVariants.{Count, Refused}
-use Rattle.refusal.specs.Table.{crowded_facet, too_short, other_grid, bad_latitudes}
 use Rattle.refusal.specs.Lent.{onto, untouched, lengths, Roomy, Cleared}
+use Rattle.refusal.proofs.Chain.{fine-refused}
 use Rattle.refusal.specs.Call.{Comes, refused, cramped, ended}
 use Rattle.complex.specs.Facets.{Crowded}
 use Rattle.quotient.specs.declared.Grid.{Grid}
@@ -34,29 +35,29 @@ use Rattle.file_geojson.proofs.Poles.{poles-apart}
 
 -- ---- 7, from what `cell_words` says to an empty word list
 
-abbrev pub tells : Counted → Bool
-tells (Refused n p) = eqb n 7
-tells (Count k) = false
+-- what `==` tells
+abbrev pub tells : (ℕ → ℕ → Bool) → Counted → Bool
+tells same r = result_eq same eq-value.it r (Err CrowdedFacet)
 
-end-tells : (g : Grid) (n : ℕ) (r : Counted) (h : List ℕ) → WordsEnd g n r h → (tells r ≡ true → Crowded g.d (glued_cells g)) × (tells r ≡ false → Crowded g.d (glued_cells g) → ⊥)
-end-tells g n r h (Words.crowded x) = (λ e. x, λ e. let z : ◌≡◌ {A = ℕ} 0 1 = ap (λ (b : Bool). cond b 0 1) e in absurd (omega arith))
-end-tells g n r h (Words.short f l) = (λ e. let z : ◌≡◌ {A = ℕ} 0 1 = ap (λ (b : Bool). cond b 1 0) e in absurd (omega arith), λ e. f)
-end-tells g n r h (Words.written f l) = (λ e. let z : ◌≡◌ {A = ℕ} 0 1 = ap (λ (b : Bool). cond b 1 0) e in absurd (omega arith), λ e. f)
+end-tells : (same : ℕ → ℕ → Bool) (g : Grid) (n : ℕ) (r : Counted) (h : List ℕ) → WordsEnd g n r h → (tells same r ≡ true → Crowded g.d (glued_cells g)) × (tells same r ≡ false → Crowded g.d (glued_cells g) → ⊥)
+end-tells same g n r h (Words.crowded x) = (λ e. x, λ e. let z : ◌≡◌ {A = ℕ} 0 1 = ap (λ (b : Bool). cond b 0 1) e in absurd (omega arith))
+end-tells same g n r h (Words.short f l) = (λ e. let z : ◌≡◌ {A = ℕ} 0 1 = ap (λ (b : Bool). cond b 1 0) e in absurd (omega arith), λ e. f)
+end-tells same g n r h (Words.written f l) = (λ e. let z : ◌≡◌ {A = ℕ} 0 1 = ap (λ (b : Bool). cond b 1 0) e in absurd (omega arith), λ e. f)
 
-never : {X : Type 0} (a : Answer) (n p : ℕ) → a ≡ Answer.Fine → a ≡ Answer.Refused n p → X
-never a n p e f = let z : ◌≡◌ {A = ℕ} 0 1 = cc in absurd (omega arith)
+never : {X : Type 0} (a : Answer) (why : Refusal) → a ≡ fine → a ≡ Err why → X
+never a why e f = absurd (fine-refused why (sym f ∙ e))
 
-comes-tells : (g : Grid) (have : Room) (n : ℕ) (r : Counted) (h : List ℕ) (u : Room) → check_of g ≡ Answer.Fine → Roomy (grid_need g) have →
-    Comes Refused [] (check_of g) (grid_need g) have (WordsEnd g n) r h u →
-    (u ≡ grid_need g) × (tells r ≡ true → Crowded g.d (glued_cells g)) × (tells r ≡ false → Crowded g.d (glued_cells g) → ⊥)
-comes-tells g have n r h u e f (refused x) = never (check_of g) _ _ e x
-comes-tells g have n r h u e f (cramped x y) = absurd (y f)
-comes-tells g have n r h u e f (ended x y w) = let t = end-tells g n r h w in (refl, t.0, t.1)
+comes-tells : (same : ℕ → ℕ → Bool) (g : Grid) (have : Room) (n : ℕ) (r : Counted) (h : List ℕ) (u : Room) → check_of g ≡ fine → Roomy (grid_need g) have →
+    Comes Err [] (check_of g) (grid_need g) have (WordsEnd g n) r h u →
+    (u ≡ grid_need g) × (tells same r ≡ true → Crowded g.d (glued_cells g)) × (tells same r ≡ false → Crowded g.d (glued_cells g) → ⊥)
+comes-tells same g have n r h u e f (refused x) = never (check_of g) _ e x
+comes-tells same g have n r h u e f (cramped x y) = absurd (y f)
+comes-tells same g have n r h u e f (ended x y w) = let t = end-tells same g n r h w in (refl, t.0, t.1)
 
-pub asked : (g : Grid) (r : Counted) (t : Bool) (out out' keys k rows o spare s counts c : List ℕ) → tells r ≡ t → check_of g ≡ Answer.Fine →
+pub asked : (same : ℕ → ℕ → Bool) (g : Grid) (r : Counted) (t : Bool) (out out' keys k rows o spare s counts c : List ℕ) → tells same r ≡ t → check_of g ≡ fine →
     Roomy (grid_need g) (lengths keys rows spare counts) → CellWords g r out out' keys k rows o spare s counts c → Asked g t keys k rows o spare s counts c
-asked g r t out out' keys k rows o spare s counts c q e f w =
-    let x = comes-tells g (lengths keys rows spare counts) (length out) r w.handed w.used e f w.comes in
+asked same g r t out out' keys k rows o spare s counts c q e f w =
+    let x = comes-tells same g (lengths keys rows spare counts) (length out) r w.handed w.used e f w.comes in
     record { yes = λ h. x.1 (q ∙ h); no = λ h. x.2 (q ∙ h); room = subst (λ (u : Room). Cleared u keys k rows o spare s counts c) x.0 w.room }
 
 -- ---- how long the whole file is at most
@@ -86,15 +87,15 @@ module _ (g : Grid) (low high : ℕ) where
 -- ---- 18, 19, 12, or the file
 
 module _ (g : Grid) (south north : ℤ) (bytes : List ℕ) where
-  pub draw-other : band_grid g ≡ false → Ended g south north (Refused other_grid 0) bytes bytes
+  pub draw-other : band_grid g ≡ false → Ended g south north (Err OtherGrid) bytes bytes
   draw-other e = record { handed = []; ends = other e; result = refl }
 
   module _ (e : band_grid g ≡ true) where
-    pub draw-beyond : latitudes_fit south north ≡ false → Ended g south north (Refused bad_latitudes 0) bytes bytes
+    pub draw-beyond : latitudes_fit south north ≡ false → Ended g south north (Err BadLatitudes) bytes bytes
     draw-beyond h = record { handed = []; ends = beyond e h; result = refl }
 
     module _ (h : latitudes_fit south north ≡ true) (low high : ℕ) (el : low ≡ from_pole south) (eh : high ≡ from_pole north) where
-      pub mapped : check_of g ≡ Answer.Fine → Mapped g low high
+      pub mapped : check_of g ≡ fine → Mapped g low high
       mapped f = let t = poles-apart south north h in record { taken = f; band = e; between = omega (arith, t.0); most = omega (arith, t.1) }
 
       module _ (len : ℕ) (part : List ℕ) (a : Wrote (collection_of g low high) 0 [] len part) where
@@ -110,27 +111,27 @@ module _ (g : Grid) (south north : ℤ) (bytes : List ℕ) where
         long : len ≡ length (band_file g south north)
         long = wrote-long a ∙ ap length file
 
-        pub draw-short : length (part ++ bytes) < len → Ended g south north (Refused too_short 0) bytes (part ++ bytes)
+        pub draw-short : length (part ++ bytes) < len → Ended g south north (Err TooShort) bytes (part ++ bytes)
         draw-short s = record { handed = []; ends = short e h (omega (arith, long, ap length same)); result = same }
 
-        pub draw-drawn : (r : ℕ) (whole : List ℕ) → len ≤ length (part ++ bytes) → Wrote (collection_of g low high) 0 (part ++ bytes) r whole → Ended g south north (Count len) bytes whole
+        pub draw-drawn : (r : ℕ) (whole : List ℕ) → len ≤ length (part ++ bytes) → Wrote (collection_of g low high) 0 (part ++ bytes) r whole → Ended g south north (Ok len) bytes whole
         draw-drawn r whole s b =
             let t : length (collection_of g low high) ≤ length bytes = omega (arith, wrote-long a, ap length same) in
             record {
               handed = band_file g south north;
-              ends = subst (λ (n : ℕ). Drawn g south north (length bytes) (Count n) (band_file g south north)) (sym long) (drawn e h (omega (arith, long, wrote-long a)));
+              ends = subst (λ (n : ℕ). Drawn g south north (length bytes) (Ok n) (band_file g south north)) (sym long) (drawn e h (omega (arith, long, wrote-long a)));
               result = wrote-whole t (subst (λ (p : List ℕ). Wrote (collection_of g low high) 0 p r whole) same b) ∙ ap (λ (f : List ℕ). onto f bytes) file;
             }
 
 -- ---- the call
 
 module _ (g : Grid) (south north : ℤ) (out keys rows spare counts : List ℕ) where
-  pub out-refused : (n p : ℕ) → check_of g ≡ Answer.Refused n p → GeoJson g south north (Refused n p) out out keys keys rows rows spare spare counts counts
-  out-refused n p e =
+  pub out-refused : (why : Refusal) → check_of g ≡ Err why → GeoJson g south north (Err why) out out keys keys rows rows spare spare counts counts
+  out-refused why e =
       record { handed = []; used = untouched; comes = refused e; result = refl; room = record { of_keys = refl; of_rows = refl; of_spare = refl; of_counts = refl } }
 
-  module _ (e : check_of g ≡ Answer.Fine) (n : Room) (q : n ≡ grid_need g) where
-    pub out-cramped : (Roomy n (lengths keys rows spare counts) → ⊥) → GeoJson g south north (Refused too_short 0) out out keys keys rows rows spare spare counts counts
+  module _ (e : check_of g ≡ fine) (n : Room) (q : n ≡ grid_need g) where
+    pub out-cramped : (Roomy n (lengths keys rows spare counts) → ⊥) → GeoJson g south north (Err TooShort) out out keys keys rows rows spare spare counts counts
     out-cramped f =
         record {
           handed = [];
@@ -145,7 +146,7 @@ module _ (g : Grid) (south north : ℤ) (out keys rows spare counts : List ℕ) 
       roomy = subst (λ (m : Room). Roomy m (lengths keys rows spare counts)) q h
 
       module _ (t : Bool) (k o s c : List ℕ) (a : Asked g t keys k rows o spare s counts c) where
-        pub out-crowded : t ≡ true → GeoJson g south north (Refused crowded_facet 0) out out keys k rows o spare s counts c
+        pub out-crowded : t ≡ true → GeoJson g south north (Err CrowdedFacet) out out keys k rows o spare s counts c
         out-crowded x = record { handed = []; used = grid_need g; comes = ended e roomy (crowded (a.yes x)); result = refl; room = a.room }
 
         pub out-drawn : t ≡ false → (r : Counted) (out' : List ℕ) → Ended g south north r out out' → GeoJson g south north r out out' keys k rows o spare s counts c

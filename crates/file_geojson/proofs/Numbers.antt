@@ -1,15 +1,15 @@
 -- The mesh's number of a band's cell. The cells of a row stand together, and inside a row the places rise with the cells (proofs/Places); so the cells by place are the
 -- cells after gluing, and a cell's place in this list is its number. Assumes nothing.
+use Rattle.refusal.specs.Says.{fine}
 use mathlib.Core.Path.{◌≡◌, refl, sym, ap, subst, ◌∙◌}
 use mathlib.Core.Bool.{true}
-use mathlib.Core.Logic.{◌⊎◌, inl, inr, ⊎_elim}
+use mathlib.Core.Logic.{inl, inr, ⊎_elim}
 use mathlib.Core.List.{List, [], ◌∷◌, map}
 use Prim.Native.Nat.{ℕ, suc, ◌+◌, ◌-◌, ◌*◌, ◌/◌, ◌%◌, ◌≤◌, ◌<◌}
 use native.Mathlib.Nat.{mul_comm, mul_left_comm, mul-suc, mul-add, mul-le-mul_left, mul-le-mul_right, suc-mul, one-mul, mul-one, div-one, div-add-mod, div-add-mod', div-lt_iff_lt-mul, mod-lt, mod-eq_of_lt}
 use native.Mathlib.Omega.{arith}
 use lib.Arith.{digits_div, digits_mod}
 use lib.ListN.{length, get_or}
-use Rattle.refusal.specs.declared.Answer.TheVariants.{Fine}
 use Rattle.lists.proofs.Words.{first-at, word-true, word-false}
 use Rattle.lists.specs.Tables.{tab}
 use Rattle.multiindex.specs.Permutation.{orders}
@@ -48,7 +48,7 @@ three-of (a ∷ b ∷ []) e = absurd (omega arith)
 three-of (a ∷ b ∷ c ∷ []) e = refl
 three-of (a ∷ b ∷ c ∷ x ∷ w) e = absurd (omega arith)
 
-module _ (g : Grid) (fine : check_of g ≡ Fine) (band : band_grid g ≡ true) where
+module _ (g : Grid) (taken : check_of g ≡ fine) (band : band_grid g ≡ true) where
   -- columns, rows, and cells in a row
   abbrev n : ℕ
   n = cells_on g 0
@@ -63,7 +63,7 @@ module _ (g : Grid) (fine : check_of g ≡ Fine) (band : band_grid g ≡ true) w
   flat = band-two g band
 
   pub three : 3 ≤ cells_on g 0
-  three = three-cells g fine 0 (omega (arith, flat)) (band-around g band)
+  three = three-cells g taken 0 (omega (arith, flat)) (band-around g band)
 
   pub cells_are : cell_count g ≡ k * in_row
   unfolding product
@@ -81,47 +81,47 @@ module _ (g : Grid) (fine : check_of g ≡ Fine) (band : band_grid g ≡ true) w
     half_lt : x / 2 < k * n
     half_lt = (div-lt_iff_lt-mul {k = 2} (omega arith)).1 (omega (arith, h, cells_are, mul_left_comm 2 k n, mul_comm (k * n) 2))
 
-    pub column-is : column g fine flat x ≡ x / 2 % n
+    pub column-is : column g taken flat x ≡ x / 2 % n
     unfolding product
     column-is = ap (λ (m : ℕ). x / m / 1 % n) each_two ∙ ap (λ (b : ℕ). b % n) (div-one (x / 2))
 
-    pub row_is : row g fine flat x ≡ x / 2 / n
+    pub row_is : row g taken flat x ≡ x / 2 / n
     unfolding product
     row_is =
         ap (λ (m : ℕ). x / m / (1 * n) % k) each_two
         ∙ ap (λ (t : ℕ). x / 2 / t % k) (one-mul n)
         ∙ mod-eq_of_lt ((div-lt_iff_lt-mul {k = n} (omega (arith, three))).1 half_lt)
 
-    place_is : x ≡ row g fine flat x * in_row + (2 * column g fine flat x + x % 2)
+    place_is : x ≡ row g taken flat x * in_row + (2 * column g taken flat x + x % 2)
     place_is =
-        let c = column g fine flat x in
-        let r = row g fine flat x in
+        let c = column g taken flat x in
+        let r = row g taken flat x in
         let a : n * (x / 2 / n) + x / 2 % n ≡ x / 2 = div-add-mod (x / 2) n in
         let b : n * r ≡ n * (x / 2 / n) = ap (λ (t : ℕ). n * t) row_is in
         let d : r * in_row ≡ 2 * (n * r) = mul_left_comm r 2 n ∙ ap (λ (t : ℕ). 2 * t) (mul_comm r n) in
         omega (arith, div-add-mod x 2, column-is, a, b, d)
 
-    place_in : 2 * column g fine flat x + x % 2 < in_row
-    place_in = omega (arith, column-in g fine flat x, mod-lt x {m = 2} (omega arith))
+    place_in : 2 * column g taken flat x + x % 2 < in_row
+    place_in = omega (arith, column-in g taken flat x, mod-lt x {m = 2} (omega arith))
 
-    row_of : x / in_row ≡ row g fine flat x
-    row_of = ap (λ (y : ℕ). y / in_row) place_is ∙ digits_div (row g fine flat x) place_in
+    row_of : x / in_row ≡ row g taken flat x
+    row_of = ap (λ (y : ℕ). y / in_row) place_is ∙ digits_div (row g taken flat x) place_in
 
-    place-of : x % in_row ≡ 2 * column g fine flat x + x % 2
-    place-of = ap (λ (y : ℕ). y % in_row) place_is ∙ digits_mod (row g fine flat x) place_in
+    place-of : x % in_row ≡ 2 * column g taken flat x + x % 2
+    place-of = ap (λ (y : ℕ). y % in_row) place_is ∙ digits_mod (row g taken flat x) place_in
 
     -- ---- its vertices
     vertex-at : (j c r : ℕ) → j ≤ 2 → coord_at g (corner_of g x j) 0 ≡ c → coord_at g (corner_of g x j) 1 ≡ r → vertex_of g (corner_of g x j) ≡ c % n + n * r
-    vertex-at j c r l p q = vertex-band g band (corner_of g x j) (corner-lt g fine x j (omega (arith, flat))) ∙ ap (λ (t : ℕ). t % n + n * coord_at g (corner_of g x j) 1) p ∙ ap (λ (t : ℕ). c % n + n * t) q
+    vertex-at j c r l p q = vertex-band g band (corner_of g x j) (corner-lt g taken x j (omega (arith, flat))) ∙ ap (λ (t : ℕ). t % n + n * coord_at g (corner_of g x j) 1) p ∙ ap (λ (t : ℕ). c % n + n * t) q
 
     word-three : word_no g x ≡ vertex_of g (corner_of g x 0) ∷ vertex_of g (corner_of g x 1) ∷ vertex_of g (corner_of g x 2) ∷ []
-    word-three = ap (map (vertex_of g)) (three-of (cell_no g x) (cell-length g fine x ∙ ap suc flat))
+    word-three = ap (map (vertex_of g)) (three-of (cell_no g x) (cell-length g taken x ∙ ap suc flat))
 
     in-row : (j : ℕ) → Turn in_row (x % in_row) j → InRow n (n * (x / in_row)) j (word_no g x)
     in-row j t =
-        let c = column g fine flat x in
-        let r = row g fine flat x in
-        let ci : c < n = column-in g fine flat x in
+        let c = column g taken flat x in
+        let r = row g taken flat x in
+        let ci : c < n = column-in g taken flat x in
         let up : n * (r + 1) ≡ n * r + n = mul-add n r 1 ∙ omega arith in
         let own : c % n ≡ c = mod-eq_of_lt ci in
         subst (λ (w : List ℕ). InRow n (n * (x / in_row)) j w) (sym word-three)
@@ -130,16 +130,16 @@ module _ (g : Grid) (fine : check_of g ≡ Fine) (band : band_grid g ≡ true) w
         (λ (e : x % 2 < 1).
         let z : x % 2 ≡ 0 = omega arith in
         in-row-lower n (n * r) c j _ _ _ three ci
-        (vertex-at 0 c r (omega arith) (omega (arith, east-at g fine flat x z 0 0 (omega arith) (omega arith))) (omega (arith, east-at g fine flat x z 0 1 (omega arith) (omega arith))) ∙ omega arith)
-        (vertex-at 2 (c + 1) (r + 1) (omega arith) (east-at g fine flat x z 2 0 (omega arith) (omega arith)) (east-at g fine flat x z 2 1 (omega arith) (omega arith)) ∙ ap (λ (t : ℕ). (c + 1) % n + t) up)
-        (vertex-at 1 (c + 1) r (omega arith) (east-at g fine flat x z 1 0 (omega arith) (omega arith)) (omega (arith, east-at g fine flat x z 1 1 (omega arith) (omega arith))))
+        (vertex-at 0 c r (omega arith) (omega (arith, east-at g taken flat x z 0 0 (omega arith) (omega arith))) (omega (arith, east-at g taken flat x z 0 1 (omega arith) (omega arith))) ∙ omega arith)
+        (vertex-at 2 (c + 1) (r + 1) (omega arith) (east-at g taken flat x z 2 0 (omega arith) (omega arith)) (east-at g taken flat x z 2 1 (omega arith) (omega arith)) ∙ ap (λ (t : ℕ). (c + 1) % n + t) up)
+        (vertex-at 1 (c + 1) r (omega arith) (east-at g taken flat x z 1 0 (omega arith) (omega arith)) (omega (arith, east-at g taken flat x z 1 1 (omega arith) (omega arith))))
         (subst (λ (i : ℕ). Turn in_row i j) (omega (arith, place-of)) t))
         (λ (e : 1 ≤ x % 2).
         let z : x % 2 ≡ 1 = omega (arith, mod-lt x {m = 2} (omega arith)) in
         in-row-upper n (n * r) c j _ _ _ three ci
-        (vertex-at 0 c r (omega arith) (omega (arith, north-at g fine flat x z 0 0 (omega arith) (omega arith))) (omega (arith, north-at g fine flat x z 0 1 (omega arith) (omega arith))) ∙ omega arith)
-        (vertex-at 2 (c + 1) (r + 1) (omega arith) (north-at g fine flat x z 2 0 (omega arith) (omega arith)) (north-at g fine flat x z 2 1 (omega arith) (omega arith)) ∙ ap (λ (t : ℕ). (c + 1) % n + t) up)
-        (vertex-at 1 c (r + 1) (omega arith) (omega (arith, north-at g fine flat x z 1 0 (omega arith) (omega arith))) (north-at g fine flat x z 1 1 (omega arith) (omega arith)) ∙ omega arith)
+        (vertex-at 0 c r (omega arith) (omega (arith, north-at g taken flat x z 0 0 (omega arith) (omega arith))) (omega (arith, north-at g taken flat x z 0 1 (omega arith) (omega arith))) ∙ omega arith)
+        (vertex-at 2 (c + 1) (r + 1) (omega arith) (north-at g taken flat x z 2 0 (omega arith) (omega arith)) (north-at g taken flat x z 2 1 (omega arith) (omega arith)) ∙ ap (λ (t : ℕ). (c + 1) % n + t) up)
+        (vertex-at 1 c (r + 1) (omega arith) (omega (arith, north-at g taken flat x z 1 0 (omega arith) (omega arith))) (north-at g taken flat x z 1 1 (omega arith) (omega arith)) ∙ omega arith)
         (subst (λ (i : ℕ). Turn in_row i j) (omega (arith, place-of)) t))
         (lt-or-ge (x % 2) 1)))
 
@@ -251,12 +251,12 @@ module _ (g : Grid) (fine : check_of g ≡ Fine) (band : band_grid g ≡ true) w
 
   cells-by-place : glued_cells g ≡ by_place
   cells-by-place =
-      glued-are g fine
+      glued-are g taken
       ∙ one_list (Colex (suc g.d)) (colex-irr (suc g.d)) (colex-trans (suc g.d)) (in_order (suc g.d) (words_of g)) by_place (order-rising (suc g.d) (words_of g))
       (subst (λ (R : Word → Word → Type 0). Rising R by_place) colex-flat place-rises)
       (λ v m.
       let u = order_from (suc g.d) (words_of g) v m in
-      let r = of-tab (word_no g) (cell_count g) u.0 (subst (λ (ws : List Word). In u.0 ws) (words-tab g fine) u.1) in
+      let r = of-tab (word_no g) (cell_count g) u.0 (subst (λ (ws : List Word). In u.0 ws) (words-tab g taken) u.1) in
       let x : ℕ = r.0 in
       let t = turn-to in_row (x % in_row) six (mod-lt x {m = in_row} some) in
       subst (λ (w : Word). In w by_place) (ap (λ (y : ℕ). sort_word (word_no g y)) (at_back x r.1 t.0 t.1) ∙ ap sort_word r.2 ∙ u.2)
@@ -264,8 +264,8 @@ module _ (g : Grid) (fine : check_of g ≡ Fine) (band : band_grid g ≡ true) w
       (λ v m.
       let r = of-tab (λ c. sort_word (word_no g (grid_cell c))) (cell_count g) v m in
       subst (λ (w : Word). In w (in_order (suc g.d) (words_of g))) r.2
-      (order-has (suc g.d) (words_of g) (word_no g (grid_cell r.0)) (words-each g fine)
-      (subst (λ (ws : List Word). In (word_no g (grid_cell r.0)) ws) (sym (words-tab g fine)) (to-tab (word_no g) (cell_count g) (grid_cell r.0) (grid-lt r.0 r.1)))))
+      (order-has (suc g.d) (words_of g) (word_no g (grid_cell r.0)) (words-each g taken)
+      (subst (λ (ws : List Word). In (word_no g (grid_cell r.0)) ws) (sym (words-tab g taken)) (to-tab (word_no g) (cell_count g) (grid_cell r.0) (grid-lt r.0 r.1)))))
 
   -- ---- the number of grid cell x
   cell-at : (c : ℕ) → c < cell_count g → cell_at by_place c ≡ sort_word (word_no g (grid_cell c))
@@ -289,49 +289,49 @@ module _ (g : Grid) (fine : check_of g ≡ Fine) (band : band_grid g ≡ true) w
           (subst (λ (w : Word). Colex 3 w (sort_word (word_no g (grid_cell c)))) (sym (cell-at b (omega arith)) ∙ q ∙ cell-at c l) (place-before b c m l))
 
 -- ---- each grid cell is one cell of the mesh, and each cell of the mesh is one grid cell
-module _ (g : Grid) (fine : check_of g ≡ Fine) (band : band_grid g ≡ true) where
-  turned : (x : ℕ) → (j : ℕ) × Turn (in_row g fine band) (x % in_row g fine band) j
-  turned x = turn-to (in_row g fine band) (x % in_row g fine band) (six g fine band) (mod-lt x {m = in_row g fine band} (some g fine band))
+module _ (g : Grid) (taken : check_of g ≡ fine) (band : band_grid g ≡ true) where
+  turned : (x : ℕ) → (j : ℕ) × Turn (in_row g taken band) (x % in_row g taken band) j
+  turned x = turn-to (in_row g taken band) (x % in_row g taken band) (six g taken band) (mod-lt x {m = in_row g taken band} (some g taken band))
 
-  numbered : (x : ℕ) → x < cell_count g → x / in_row g fine band * in_row g fine band + (turned x).0 ≡ mesh_number g (cell_no g x)
-  numbered x h = number_is g fine band x h (turned x).0 (turned x).1
+  numbered : (x : ℕ) → x < cell_count g → x / in_row g taken band * in_row g taken band + (turned x).0 ≡ mesh_number g (cell_no g x)
+  numbered x h = number_is g taken band x h (turned x).0 (turned x).1
 
   pub number_lt : (x : ℕ) → x < cell_count g → mesh_number g (cell_no g x) < cell_count g
-  number_lt x h = omega (arith, numbered x h, at_lt g fine band x h (turned x).0 (turned x).1)
+  number_lt x h = omega (arith, numbered x h, at_lt g taken band x h (turned x).0 (turned x).1)
 
   -- the cell at this number is the word's
   pub number-cell : (x : ℕ) → x < cell_count g → cell_at (glued_cells g) (mesh_number g (cell_no g x)) ≡ sort_word (word_no g x)
   number-cell x h =
       ap (λ (c : ℕ). cell_at (glued_cells g) c) (sym (numbered x h))
-      ∙ ap (λ (cs : List Word). cell_at cs (x / in_row g fine band * in_row g fine band + (turned x).0)) (cells-by-place g fine band)
-      ∙ cell-at g fine band (x / in_row g fine band * in_row g fine band + (turned x).0) (at_lt g fine band x h (turned x).0 (turned x).1)
-      ∙ ap (λ (y : ℕ). sort_word (word_no g y)) (at_back g fine band x h (turned x).0 (turned x).1)
+      ∙ ap (λ (cs : List Word). cell_at cs (x / in_row g taken band * in_row g taken band + (turned x).0)) (cells-by-place g taken band)
+      ∙ cell-at g taken band (x / in_row g taken band * in_row g taken band + (turned x).0) (at_lt g taken band x h (turned x).0 (turned x).1)
+      ∙ ap (λ (y : ℕ). sort_word (word_no g y)) (at_back g taken band x h (turned x).0 (turned x).1)
 
   pub number-one : (x y : ℕ) → x < cell_count g → y < cell_count g → mesh_number g (cell_no g x) ≡ mesh_number g (cell_no g y) → x ≡ y
   number-one x y h l e =
-      sym (at_back g fine band x h (turned x).0 (turned x).1)
-      ∙ ap (λ (c : ℕ). grid_cell g fine band c) (numbered x h ∙ e ∙ sym (numbered y l))
-      ∙ at_back g fine band y l (turned y).0 (turned y).1
+      sym (at_back g taken band x h (turned x).0 (turned x).1)
+      ∙ ap (λ (c : ℕ). grid_cell g taken band c) (numbered x h ∙ e ∙ sym (numbered y l))
+      ∙ at_back g taken band y l (turned y).0 (turned y).1
 
   pub number-onto : (c : ℕ) → c < cell_count g → (x : ℕ) × (x < cell_count g) × (mesh_number g (cell_no g x) ≡ c)
   number-onto c h =
-      let x : ℕ = grid_cell g fine band c in
-      let t : Turn (in_row g fine band) (x % in_row g fine band) (c % in_row g fine band) =
-      subst (λ (i : ℕ). Turn (in_row g fine band) i (c % in_row g fine band)) (sym (grid-place g fine band c h)) (back g fine band c).1 in (
+      let x : ℕ = grid_cell g taken band c in
+      let t : Turn (in_row g taken band) (x % in_row g taken band) (c % in_row g taken band) =
+      subst (λ (i : ℕ). Turn (in_row g taken band) i (c % in_row g taken band)) (sym (grid-place g taken band c h)) (back g taken band c).1 in (
         x,
-        grid-lt g fine band c h,
-        sym (number_is g fine band x (grid-lt g fine band c h) (c % in_row g fine band) t)
-            ∙ ap (λ (q : ℕ). q * in_row g fine band + c % in_row g fine band) (grid-row g fine band c h)
-            ∙ div-add-mod' c (in_row g fine band),
+        grid-lt g taken band c h,
+        sym (number_is g taken band x (grid-lt g taken band c h) (c % in_row g taken band) t)
+            ∙ ap (λ (q : ℕ). q * in_row g taken band + c % in_row g taken band) (grid-row g taken band c h)
+            ∙ div-add-mod' c (in_row g taken band),
       )
 
-pub number-below : (g : Grid) (fine : check_of g ≡ Fine) (band : band_grid g ≡ true) (x : ℕ) → x < cell_count g → mesh_number g (cell_no g x) < 65536
-number-below g fine band x h = omega (arith, number_lt g fine band x h, taken-cells g fine)
+pub number-below : (g : Grid) (taken : check_of g ≡ fine) (band : band_grid g ≡ true) (x : ℕ) → x < cell_count g → mesh_number g (cell_no g x) < 65536
+number-below g taken band x h = omega (arith, number_lt g taken band x h, taken-cells g taken)
 
 -- ---- what the code's tests say
-module _ (g : Grid) (fine : check_of g ≡ Fine) where
+module _ (g : Grid) (taken : check_of g ≡ fine) where
   pub cell_below : (x : ℕ) → x < cell_count g → x < 65536
-  cell_below x h = omega (arith, taken-cells g fine)
+  cell_below x h = omega (arith, taken-cells g taken)
 
   module _ (band : band_grid g ≡ true) where
     pub columns-below : (n : ℕ) → n ≡ cells_on g 0 → (3 ≤ n) × (n ≤ 32768)
@@ -339,19 +339,19 @@ module _ (g : Grid) (fine : check_of g ≡ Fine) where
     columns-below n e =
         let t : cell_count g ≡ 2 * (n * cells_on g 1) =
         ap (λ (d : ℕ). factorial d * product (cells_on g) d) (band-two g band) ∙ ap (λ (m : ℕ). 2 * (m * cells_on g 1)) (one-mul (cells_on g 0) ∙ sym e) in
-        let r : 1 ≤ cells_on g 1 = some-cell g fine 1 (omega (arith, band-two g band)) in
+        let r : 1 ≤ cells_on g 1 = some-cell g taken 1 (omega (arith, band-two g band)) in
         let p : n * 1 ≤ n * cells_on g 1 = mul-le-mul_left n r in
-        (omega (arith, three g fine band), omega (arith, taken-cells g fine, mul-one n))
+        (omega (arith, three g taken band), omega (arith, taken-cells g taken, mul-one n))
 
     module _ (x : ℕ) (h : x < cell_count g) (n : ℕ) (e : n ≡ cells_on g 0) where
       told : (j : ℕ) → Turn (2 * n) (x % (2 * n)) j → x / (2 * n) * (2 * n) + j ≡ mesh_number g (cell_no g x)
-      told j = subst (λ (m : ℕ). Turn (2 * m) (x % (2 * m)) j → x / (2 * m) * (2 * m) + j ≡ mesh_number g (cell_no g x)) (sym e) (number_is g fine band x h j)
+      told j = subst (λ (m : ℕ). Turn (2 * m) (x % (2 * m)) j → x / (2 * m) * (2 * m) + j ≡ mesh_number g (cell_no g x)) (sym e) (number_is g taken band x h j)
 
       whole : x / (2 * n) * (2 * n) + x % (2 * n) ≡ x
       whole = div-add-mod' x (2 * n)
 
       place-lt : x % (2 * n) < 2 * n
-      place-lt = mod-lt x {m = 2 * n} (omega (arith, three g fine band))
+      place-lt = mod-lt x {m = 2 * n} (omega (arith, three g taken band))
 
       pub told-on : x % (2 * n) + 3 < 2 * n → x + 1 ≡ mesh_number g (cell_no g x)
       told-on c = let q : x + 1 ≡ x / (2 * n) * (2 * n) + (x % (2 * n) + 1) = omega (arith, whole) in q ∙ told (x % (2 * n) + 1) (on c refl)
@@ -365,8 +365,8 @@ module _ (g : Grid) (fine : check_of g ≡ Fine) where
       pub told-first : 2 * n ≤ x % (2 * n) + 3 → (x % (2 * n) + 3 ≡ 2 * n → ⊥) → (x % (2 * n) + 2 ≡ 2 * n → ⊥) → x - 1 ≡ mesh_number g (cell_no g x)
       told-first a b c =
           let i : x % (2 * n) + 1 ≡ 2 * n = omega (arith, place-lt, b, c) in
-          let q : x - 1 ≡ x / (2 * n) * (2 * n) + (x % (2 * n) - 1) = omega (arith, whole, three g fine band) in
-          q ∙ told (x % (2 * n) - 1) (first i (omega (arith, three g fine band)))
+          let q : x - 1 ≡ x / (2 * n) * (2 * n) + (x % (2 * n) - 1) = omega (arith, whole, three g taken band) in
+          q ∙ told (x % (2 * n) - 1) (first i (omega (arith, three g taken band)))
 
       pub place-some : 2 * n ≤ x % (2 * n) + 3 → 1 ≤ x
-      place-some a = omega (arith, whole, three g fine band)
+      place-some a = omega (arith, whole, three g taken band)

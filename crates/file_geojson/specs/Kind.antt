@@ -1,7 +1,7 @@
 -- Which grids and latitudes are taken: refusals 18 and 19 (document 02, K1). Assumes nothing.
+use Rattle.refusal.specs.Says.{fine}
 use Rattle.std.specs.Prelude.{◌≡◌, Bool, true, not, ◌&&◌, ℕ, ◌+◌, ◌-◌, ◌<◌, ◌≤◌, eqb, ℤ, pos, negsuc}
 use Rattle.std.specs.Int.Signed.{lt_z}
-use Rattle.refusal.specs.declared.Answer.TheVariants.{Fine}
 use Rattle.quotient.specs.declared.Grid.{Grid}
 use Rattle.quotient.specs.Shape.{closed_at, mask_at, check_of}
 
@@ -20,7 +20,7 @@ from_pole (negsuc n) = 89 - n
 
 -- a grid that is taken, of this kind, and two latitudes from the South Pole
 pub record Mapped (g : Grid) (low high : ℕ) : Type 0 where
-  pub taken : check_of g ≡ Fine
+  pub taken : check_of g ≡ fine
   pub band : band_grid g ≡ true
   pub between : low < high
   pub most : high ≤ 180

@@ -1,6 +1,6 @@
 -- What the inner calls of `file_geojson` ask and give. Assumes nothing.
 use Rattle.std.specs.Prelude.{Bool, true, false, cond, List, [], ◌∷◌, ◌++◌, ◌≡◌, ℕ, eqb, ℤ, length}
-use Rattle.refusal.specs.declared.Counted.{Counted}
+use Rattle.refusal.specs.Says.{Counted}
 use Rattle.refusal.specs.Lent.{onto, Cleared}
 use Rattle.complex.specs.Facets.{Crowded}
 use Rattle.quotient.specs.declared.Grid.{Grid}

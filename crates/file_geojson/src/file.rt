@@ -143,11 +143,9 @@ pub(crate) fn collection(grid: Grid, low: u32, high: u32, to: &mut [u8]) -> usiz
     let first = file_writing::word(to, 0, b"{\"type\":\"FeatureCollection\",\"features\":[");
     let mut at = feature(grid, low, high, 0, to, first);
     let count = grid_words::cells(grid);
-    let mut x = 1;
-    while x < count {
+    for x in 1..count {
         at = file_writing::byte(to, at, b',');
         at = feature(grid, low, high, x, to, at);
-        x += 1;
     }
     file_writing::word(to, at, b"]}\n")
 }

@@ -15,7 +15,7 @@ pub mod kind;
 mod number;
 
 ghost use Rattle.std.specs.Prelude.{◌≡◌};
-ghost use Rattle.refusal.specs.declared.Answer.TheVariants.{Fine};
+ghost use Rattle.refusal.specs.Says.{fine};
 ghost use Rattle.refusal.specs.Lent.{lengths, Roomy};
 ghost use Rattle.quotient.specs.Shape.{check_of};
 ghost use Rattle.grid_mesh.specs.Words.{grid_need};
@@ -23,7 +23,7 @@ ghost use Rattle.file_geojson.specs.Promise.{GeoJson};
 ghost use Rattle.file_geojson.specs.Work.{Asked, Ended};
 
 use quotient::Grid;
-use refusal::{Answer, BAD_LATITUDES, CROWDED_FACET, Counted, OTHER_GRID, Room, TOO_SHORT};
+use refusal::{Refusal, Room};
 
 // Whether a facet of the grid's cells lies in three or more of them. What is needed of the working lists is zero afterwards.
 fn is_crowded(
@@ -33,37 +33,34 @@ fn is_crowded(
     spare: &mut [u32],
     counts: &mut [u32],
 ) -> bool
-    requires { (check_of grid ≡ Fine) × Roomy (grid_need grid) (lengths keys.old rows.old spare.old counts.old) }
+    requires { (check_of grid ≡ fine) × Roomy (grid_need grid) (lengths keys.old rows.old spare.old counts.old) }
     ensures { Asked grid result keys.old keys.new rows.old rows.new spare.old spare.new counts.old
         counts.new }
 {
     let mut none = [0u32; 0];
     let said = grid_mesh::cell_words(grid, &mut none, keys, rows, spare, counts);
-    if let Counted::Refused(number, _) = said {
-        return number == CROWDED_FACET;
-    }
-    false
+    said == Err(Refusal::CrowdedFacet)
 }
 
 // Draws the band on a grid that has no crowded facet. Refused: 18, 19, 12.
-fn draw(grid: Grid, south: i32, north: i32, bytes: &mut [u8]) -> Counted
-    requires { check_of grid ≡ Fine }
+fn draw(grid: Grid, south: i32, north: i32, bytes: &mut [u8]) -> Result<u32, Refusal>
+    requires { check_of grid ≡ fine }
     ensures { Ended grid south north result bytes.old bytes.new }
 {
     if !kind::is_band(grid) {
-        return Counted::Refused(OTHER_GRID, 0);
+        return Err(Refusal::OtherGrid);
     }
     if !kind::latitudes_fit(south, north) {
-        return Counted::Refused(BAD_LATITUDES, 0);
+        return Err(Refusal::BadLatitudes);
     }
     let low = kind::from_pole(south);
     let high = kind::from_pole(north);
     let len = file::collection(grid, low, high, &mut bytes[..0]);
     if bytes.len() < len {
-        return Counted::Refused(TOO_SHORT, 0);
+        return Err(Refusal::TooShort);
     }
     file::collection(grid, low, high, bytes);
-    Counted::Count(len as u32)
+    Ok(len as u32)
 }
 
 // Writes the band between two latitudes, in whole degrees, as a map file, and says how many bytes it has. Refused: 1, 9, 8, 3, 6, then 12 where a working list is too
@@ -78,14 +75,11 @@ pub fn geojson(
     rows: &mut [u32],
     spare: &mut [u32],
     counts: &mut [u32],
-) -> Counted
+) -> Result<u32, Refusal>
     ensures { GeoJson grid south north result bytes.old bytes.new keys.old keys.new rows.old rows.new
         spare.old spare.new counts.old counts.new }
 {
-    let checked = grid.check();
-    if let Answer::Refused(number, place) = checked {
-        return Counted::Refused(number, place);
-    }
+    grid.check()?;
     let d = grid.d as usize;
     let need = complex::need(d, grid_words::cells(grid) * (d + 1));
     let have = Room {
@@ -95,10 +89,10 @@ pub fn geojson(
         counts: counts.len(),
     };
     if !refusal::has_room(need, have) {
-        return Counted::Refused(TOO_SHORT, 0);
+        return Err(Refusal::TooShort);
     }
     if is_crowded(grid, keys, rows, spare, counts) {
-        return Counted::Refused(CROWDED_FACET, 0);
+        return Err(Refusal::CrowdedFacet);
     }
     draw(grid, south, north, bytes)
 }

@@ -3,7 +3,7 @@
 // A row of n columns has 2n cells, and its cells stand together in the mesh too, row after row. Inside a row each stands one place later than in the grid, since the
 // cell below the seam's diagonal has the lowest last vertex and comes first; and the three cells that are last in the grid come as 2n - 1, 0 and 2n - 2.
 ghost use Rattle.std.specs.Prelude.{◌≡◌, true, ◌<◌};
-ghost use Rattle.refusal.specs.declared.Answer.TheVariants.{Fine};
+ghost use Rattle.refusal.specs.Says.{fine};
 ghost use Rattle.quotient.specs.Shape.{check_of, cell_count};
 ghost use Rattle.grid_words.specs.WorkNumbered.{cell_no};
 ghost use Rattle.file_geojson.specs.File.{mesh_number};
@@ -13,7 +13,7 @@ use quotient::Grid;
 
 // The mesh's number of grid cell x.
 pub(crate) fn mesh_number(grid: Grid, x: usize) -> usize
-    requires { (check_of grid ≡ Fine) × (band_grid grid ≡ true) × (x < cell_count grid) }
+    requires { (check_of grid ≡ fine) × (band_grid grid ≡ true) × (x < cell_count grid) }
     ensures { result ≡ mesh_number grid (cell_no grid x) }
 {
     let axis = grid.axis(0);

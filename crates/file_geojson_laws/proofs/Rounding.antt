@@ -1,6 +1,6 @@
 -- Rounding to millionths: whole numbers stay, neighbours stay apart, and what is below zero is not rounded to zero. Assumes nothing.
 use mathlib.Core.Path.{◌≡◌, ap, ◌∙◌}
-use mathlib.Core.Logic.{◌⊎◌, ⊎_elim}
+use mathlib.Core.Logic.{⊎_elim}
 use Prim.Native.Nat.{ℕ, ◌+◌, ◌-◌, ◌*◌, ◌/◌, ◌%◌, ◌≤◌, ◌<◌}
 use native.Mathlib.Nat.{add-mul, mul_left_comm, mul_right_comm, mul_comm, mul-le-mul_right, mul-lt-mul_of_pos_right, add-div_right, le-div_iff_mul-le, one-mul, div-add-mod, mod-lt}
 use native.Mathlib.Omega.{arith}

@@ -1,12 +1,13 @@
 -- Over what a call hands out, and how long a file is. Assumes nothing.
+use Rattle.refusal.specs.declared.Refusal.{Refusal}
+use Rattle.refusal.specs.Says.{Counted}
+use Rattle.std.specs.Prelude.{Err, Ok}
 use mathlib.Core.List.{List, [], ◌∷◌, ◌++◌}
 use mathlib.Core.Path.{◌≡◌, refl, ap, ◌∙◌}
 use Prim.Native.Nat.{ℕ, ◌+◌, ◌*◌, ◌≤◌}
 use native.Mathlib.Omega.{arith}
 use lib.ListN.{length, take, drop, length-append}
 use lib.Seq.{take_at}
-use Rattle.refusal.specs.declared.Counted.{Counted}
-use Rattle.refusal.specs.declared.Counted.TheVariants.{Count, Refused}
 use Rattle.refusal.specs.declared.Room.{Room}
 use Rattle.refusal.specs.Call.{Comes, refused, cramped, ended}
 use Rattle.refusal.specs.Lent.{onto}
@@ -22,10 +23,10 @@ use Rattle.file_market.specs.Promise.{GivesFile, short, written, Marketed}
 use Rattle.file_market.proofs.Listing.{signed-long, line-long, sizes-long}
 
 -- ---- a call that says a count has handed out the file, and the count is its bytes
-clash : {A : Type 0} {a b n : ℕ} → Refused a b ≡ Count n → A
-clash e = let z : ◌≡◌ {A = ℕ} 0 1 = cc in absurd (omega arith)
+clash : {A : Type 0} {why : Refusal} {n : ℕ} → ◌≡◌ {A = Counted} (Err why) (Ok n) → A
+clash e = cc
 
-counted : (d : ℕ) (ws : List ℕ) (need have : Room) (There : Type 0) (file : List ℕ) (given : ℕ) (r : Counted) (h : List ℕ) (used : Room) → Comes Refused [] (answer_of d ws) need have (Ends [] d (cells_of d ws) (Within [] There (GivesFile file given))) r h used → (n : ℕ) → r ≡ Count n → (h ≡ file) × (length file ≡ n)
+counted : (d : ℕ) (ws : List ℕ) (need have : Room) (There : Type 0) (file : List ℕ) (given : ℕ) (r : Counted) (h : List ℕ) (used : Room) → Comes Err [] (answer_of d ws) need have (Ends [] d (cells_of d ws) (Within [] There (GivesFile file given))) r h used → (n : ℕ) → r ≡ Ok n → (h ≡ file) × (length file ≡ n)
 counted d ws need have There file given r h used (refused e) n q = clash q
 counted d ws need have There file given r h used (cramped e f) n q = clash q
 counted d ws need have There file given r h used (ended e f (crowded x)) n q = clash q
@@ -33,12 +34,12 @@ counted d ws need have There file given r h used (ended e f (rest x (outside y))
 counted d ws need have There file given r h used (ended e f (rest x (inside y (short z)))) n q = clash q
 counted d ws need have There file given r h used (ended e f (rest x (inside y (written z)))) n q = (refl, same q)
   where
-    same : Count (length file) ≡ Count n → length file ≡ n
+    same : ◌≡◌ {A = Counted} (Ok (length file)) (Ok n) → length file ≡ n
     same q = cc
 
-pub market-said : (d k : ℕ) (ws : List ℕ) (n : ℕ) (bytes bytes' keys keys' rows rows' spare spare' counts counts' : List ℕ) → Marketed d k ws (Count n) bytes bytes' keys keys' rows rows' spare spare' counts counts' → take n bytes' ≡ market_of d k ws
+pub market-said : (d k : ℕ) (ws : List ℕ) (n : ℕ) (bytes bytes' keys keys' rows rows' spare spare' counts counts' : List ℕ) → Marketed d k ws (Ok n) bytes bytes' keys keys' rows rows' spare spare' counts counts' → take n bytes' ≡ market_of d k ws
 market-said d k ws n bytes bytes' keys keys' rows rows' spare spare' counts counts' a =
-    let w = counted d ws _ _ ((1 ≤ k) × (k ≤ d)) (market_of d k ws) (length bytes) (Count n) a.handed a.call.used a.call.comes n refl in
+    let w = counted d ws _ _ ((1 ≤ k) × (k ≤ d)) (market_of d k ws) (length bytes) (Ok n) a.handed a.call.used a.call.comes n refl in
     ap (take n) (a.result ∙ ap (λ (l : List ℕ). onto l bytes) w.0) ∙ take_at (market_of d k ws) (drop (length (market_of d k ws)) bytes) n w.1
 
 -- ---- how many bytes are enough

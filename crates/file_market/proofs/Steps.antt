@@ -1,4 +1,7 @@
 -- The steps of the call: what each inner call asks follows from what the calls before it gave, and how each ends. Assumes nothing.
+use Rattle.refusal.specs.declared.Refusal.TheVariants.{BadFaces, CrowdedFacet, TooShort}
+use Rattle.refusal.specs.Says.{Counted}
+use Rattle.std.specs.Prelude.{Err, Ok}
 use mathlib.Core.Bool.{Bool, true, false}
 use mathlib.Core.List.{List, [], ◌++◌}
 use mathlib.Core.Path.{◌≡◌, refl, sym, ap, subst, ◌∙◌}
@@ -7,9 +10,6 @@ use native.Mathlib.Nat.{mul_assoc, mul-suc, mul-le-mul_left, mul-le-mul_right}
 use native.Mathlib.Numerals.{add-one}
 use native.Mathlib.Omega.{arith}
 use lib.ListN.{length, get_or, length-append}
-use Rattle.refusal.specs.declared.Counted.{Counted}
-use Rattle.refusal.specs.declared.Counted.TheVariants.{Count, Refused}
-use Rattle.refusal.specs.Table.{crowded_facet, too_short}
 use Rattle.lists.specs.Words.{same_word}
 use Rattle.lists.proofs.Words.{first-most}
 use Rattle.lists.specs.Rows.{cut, rows as rows_of_lem}
@@ -135,24 +135,24 @@ module _ (k f g : ℕ) (ids : List ℕ) (bytes : List ℕ) (len : ℕ) (part : L
   measured : len ≡ length (matrix_file g f es)
   measured = wrote-long w ∙ ap length (file-same k f ids es a g)
 
-  pub hand-short : length (part ++ bytes) < len → FileHanded (matrix_file g f es) (Refused too_short 0) bytes (part ++ bytes)
+  pub hand-short : length (part ++ bytes) < len → FileHanded (matrix_file g f es) (Err TooShort) bytes (part ++ bytes)
   hand-short s = record { handed = []; gives = short (omega (arith, measured, ap length same)); result = same }
 
-  pub hand-written : (r : ℕ) (whole : List ℕ) → len ≤ length (part ++ bytes) → Wrote (raw k f g ids) 0 (part ++ bytes) r whole → FileHanded (matrix_file g f es) (Count len) bytes whole
+  pub hand-written : (r : ℕ) (whole : List ℕ) → len ≤ length (part ++ bytes) → Wrote (raw k f g ids) 0 (part ++ bytes) r whole → FileHanded (matrix_file g f es) (Ok len) bytes whole
   hand-written r whole s b =
       let t : length (matrix_file g f es) ≤ length bytes = omega (arith, measured, ap length same) in
       record {
         handed = matrix_file g f es;
-        gives = subst (λ (z : ℕ). GivesFile (matrix_file g f es) (length bytes) (Count z) (matrix_file g f es)) (sym measured) (written t);
+        gives = subst (λ (z : ℕ). GivesFile (matrix_file g f es) (length bytes) (Ok z) (matrix_file g f es)) (sym measured) (written t);
         result = wrote-whole t (subst (λ (z : List ℕ). Wrote (matrix_file g f es) 0 z r whole) same (wrote-same (file-same k f ids es a g) b));
       }
 
 -- ---- after 7
 module _ (d k : ℕ) (ws : List ℕ) (ok : Bool) (s : Sound d ws ok) (bytes : List ℕ) where
-  pub file-crowded : ok ≡ false → FileWorked d k ws (Refused crowded_facet 0) bytes bytes
+  pub file-crowded : ok ≡ false → FileWorked d k ws (Err CrowdedFacet) bytes bytes
   file-crowded e = record { handed = []; ends = crowded (s.no e); result = refl }
 
-  pub file-outside : ok ≡ true → ((1 ≤ k) × (k ≤ d) → ⊥) → FileWorked d k ws (Refused 24 0) bytes bytes
+  pub file-outside : ok ≡ true → ((1 ≤ k) × (k ≤ d) → ⊥) → FileWorked d k ws (Err BadFaces) bytes bytes
   file-outside e h = record { handed = []; ends = rest (s.yes e) (outside h); result = refl }
 
   pub file-rest : (r : Counted) (bytes' : List ℕ) → ok ≡ true → 1 ≤ k → k ≤ d → FileHanded (market_of d k ws) r bytes bytes' → FileWorked d k ws r bytes bytes'

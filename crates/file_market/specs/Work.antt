@@ -1,6 +1,6 @@
 -- What the inner functions ask of their lists and give. Assumes nothing.
+use Rattle.refusal.specs.Says.{Counted}
 use Rattle.std.specs.Prelude.{List, [], ◌≡◌, ℕ, ◌+◌, ◌-◌, ◌*◌, ◌/◌, ◌%◌, ◌≤◌, ◌<◌, length, get_or}
-use Rattle.refusal.specs.declared.Counted.{Counted}
 use Rattle.refusal.specs.Lent.{onto}
 use Rattle.lists.specs.Rows.{flat}
 use Rattle.text.specs.Decimal.{decimal}

@@ -18,7 +18,7 @@ ghost use Rattle.file_market.specs.File.{head_word, followed_by, line_of_three, 
 ghost use Rattle.file_market.specs.Promise.{Marketed};
 ghost use Rattle.file_market.specs.Work.{Numbered, line_at, lines_below, FileHanded, FileWorked};
 
-use refusal::{Answer, BAD_FACES, CROWDED_FACET, Counted, Room, TOO_SHORT};
+use refusal::{Refusal, Room};
 
 // A number and the byte after it.
 fn number_then(to: &mut [u8], at: usize, n: u32, after: u8) -> usize
@@ -59,10 +59,8 @@ fn lines(k: usize, f: usize, g: usize, ids: &[u32], to: &mut [u8], start: usize)
 {
     let total = f * (k + 1);
     let mut at = start;
-    let mut x = 0;
-    while x < total {
+    for x in 0..total {
         at = line(k, f, g, x, ids, to, at);
-        x += 1;
     }
     at
 }
@@ -90,16 +88,16 @@ fn file(k: usize, f: usize, g: usize, ids: &[u32], to: &mut [u8]) -> usize
 }
 
 // Hands out the file, or 12 where the byte list is too short.
-fn hand_file(k: usize, f: usize, g: usize, ids: &[u32], bytes: &mut [u8]) -> Counted
+fn hand_file(k: usize, f: usize, g: usize, ids: &[u32], bytes: &mut [u8]) -> Result<u32, Refusal>
     requires { Numbered k f g ids.now }
     ensures { (es : List Entry) → EntryLists k f ids.now es → FileHanded (matrix_file g f es) result bytes.old bytes.new }
 {
     let long = file(k, f, g, ids, &mut bytes[..0]);
     if bytes.len() < long {
-        return Counted::Refused(TOO_SHORT, 0);
+        return Err(Refusal::TooShort);
     }
     file(k, f, g, ids, bytes);
-    Counted::Count(long as u32)
+    Ok(long as u32)
 }
 
 // Hands out the file of the operator from dimension k to k - 1.
@@ -112,7 +110,7 @@ fn list_file(
     rows: &mut [u32],
     spare: &mut [u32],
     counts: &mut [u32],
-) -> Counted
+) -> Result<u32, Refusal>
     requires { Reaching d k words.now keys.old rows.old spare.old counts.old × (1 ≤ k) }
     ensures { FileHanded (market_of d k words.now) result bytes.old bytes.new }
 {
@@ -131,18 +129,18 @@ fn work(
     rows: &mut [u32],
     spare: &mut [u32],
     counts: &mut [u32],
-) -> Counted
+) -> Result<u32, Refusal>
     requires { Working (face_need d (length words.now)) d words.now keys.old rows.old spare.old counts.old }
     ensures { FileWorked d k words.now result bytes.old bytes.new }
 {
     if !skeleton::sound(d, words, keys, rows, spare, counts) {
-        return Counted::Refused(CROWDED_FACET, 0);
+        return Err(Refusal::CrowdedFacet);
     }
     if k < 1 {
-        return Counted::Refused(BAD_FACES, 0);
+        return Err(Refusal::BadFaces);
     }
     if d < k {
-        return Counted::Refused(BAD_FACES, 0);
+        return Err(Refusal::BadFaces);
     }
     list_file(d, k, words, bytes, keys, rows, spare, counts)
 }
@@ -157,7 +155,7 @@ fn work_cleared(
     rows: &mut [u32],
     spare: &mut [u32],
     counts: &mut [u32],
-) -> Counted
+) -> Result<u32, Refusal>
     requires { Working (face_need d (length words.now)) d words.now keys.old rows.old spare.old counts.old }
     ensures work { FileWorked d k words.now result bytes.old bytes.new }
     ensures room { AllZero keys.old keys.new rows.old rows.new spare.old spare.new counts.old
@@ -180,14 +178,11 @@ pub fn matrix_market(
     rows: &mut [u32],
     spare: &mut [u32],
     counts: &mut [u32],
-) -> Counted
+) -> Result<u32, Refusal>
     ensures { Marketed d k words.now result bytes.old bytes.new keys.old keys.new rows.old rows.new
         spare.old spare.new counts.old counts.new }
 {
-    let answer = complex::check_cells(d, words);
-    if let Answer::Refused(number, place) = answer {
-        return Counted::Refused(number, place);
-    }
+    complex::check_cells(d, words)?;
     let dim = d as usize;
     let need = complex_boundary::need(dim, words.len());
     let have = Room {
@@ -197,7 +192,7 @@ pub fn matrix_market(
         counts: counts.len(),
     };
     if !refusal::has_room(need, have) {
-        return Counted::Refused(TOO_SHORT, 0);
+        return Err(Refusal::TooShort);
     }
     let a = need.keys;
     let r = need.rows;

@@ -1,4 +1,5 @@
 -- What was read was written: a file that is read is the file of its mesh, which keeps the rules. Assumes nothing.
+use Rattle.refusal.specs.declared.Refusal.TheVariants.{UnknownKind}
 use mathlib.Core.Path.{◌≡◌, refl, sym, ap, subst, ◌∙◌}
 use mathlib.Core.Bool.{Bool, true, false, cond, ◌&&◌, false≢true}
 use mathlib.Core.List.{List, [], ◌∷◌, ◌++◌, append_assoc, append-nil}
@@ -33,7 +34,7 @@ opening-came o bs r e a =
     let f = field-came 4 (λ n. leb 2 n) i.x bs i.r i.part a in
     let j = then-inv (number 2 i.r) _ o r i.next in
     let g = number-came 2 j.x i.r j.r j.part f.came.bytes in
-    let k = cond-inv (leb 1 j.x && leb j.x 4) 21 _ o r j.next in
+    let k = cond-inv (leb 1 j.x && leb j.x 4) UnknownKind _ o r j.next in
     let s = same-part k.1 in
     let w : bs ≡ little 4 i.x ++ (little 2 j.x ++ j.r) = f.came.whole ∙ ap (λ (l : List ℕ). little 4 i.x ++ l) g.whole in
     subst (λ (p : Opening). Opened p bs r) s.0

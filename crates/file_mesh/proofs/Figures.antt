@@ -1,4 +1,5 @@
 -- The figures of a mesh file, written and read, and damaged files with their refusals: 0 where a file is read. Assumes nothing.
+use Rattle.refusal.specs.Table.{number_of}
 use mathlib.Core.Path.{◌≡◌, refl}
 use mathlib.Core.List.{List, [], ◌∷◌}
 use Prim.Native.Nat.{ℕ}
@@ -57,11 +58,11 @@ triangle-read = refl
 
 -- the refusal of a file
 pub says : List ℕ → ℕ
-says bs = number_of (read_file bs)
+says bs = number_in (read_file bs)
   where
-    number_of : Part Mesh → ℕ
-    number_of (no n) = n
-    number_of (got m r) = 0
+    number_in : Part Mesh → ℕ
+    number_in (no why) = number_of why
+    number_in (got m r) = 0
 
 pub says_all : List (List ℕ) → List ℕ
 says_all [] = []

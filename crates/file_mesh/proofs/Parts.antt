@@ -1,4 +1,5 @@
 -- Reading one part: what was written is read, and what was read was written. Assumes nothing.
+use Rattle.refusal.specs.declared.Refusal.{Refusal}
 use mathlib.Core.Path.{◌≡◌, refl, sym, ap, subst, ◌∙◌}
 use mathlib.Core.Bool.{Bool, true, false, cond, ◌&&◌, false≢true}
 use mathlib.Core.List.{List, ◌++◌}
@@ -32,12 +33,12 @@ pub record Then {A B : Type 0} (p : Part A) (f : A → List ℕ → Part B) (y :
   pub part : p ≡ got x r
   pub next : f x r ≡ got y t
 
-pub refused-not : {A : Type 0} {n : ℕ} {x : A} {r : List ℕ} → ◌≡◌ {A = Part A} (no n) (got x r) → ⊥
-refused-not e = let z : ◌≡◌ {A = ℕ} 0 1 = cc in omega arith
+pub refused-not : {A : Type 0} {why : Refusal} {x : A} {r : List ℕ} → ◌≡◌ {A = Part A} (no why) (got x r) → ⊥
+refused-not e = cc
 
 pub then-inv : {A B : Type 0} (p : Part A) (f : A → List ℕ → Part B) (y : B) (t : List ℕ) → and_then p f ≡ got y t → Then p f y t
 unfolding and_then
-then-inv (no n) f y t e = absurd (refused-not e)
+then-inv (no why) f y t e = absurd (refused-not e)
 then-inv (got x r) f y t e = record { x = x; r = r; part = refl; next = e }
 
 pub then-got : {A B : Type 0} (p : Part A) (f : A → List ℕ → Part B) (x : A) (r : List ℕ) → p ≡ got x r → and_then p f ≡ f x r
@@ -53,9 +54,9 @@ pub asked-yes : {A : Type 0} (b : Bool) (p : Part A) → b ≡ true → asked b 
 unfolding asked
 asked-yes b p e = rw e
 
-pub cond-inv : {A : Type 0} (b : Bool) (n : ℕ) (p : Part A) (y : A) (t : List ℕ) → cond b p (no n) ≡ got y t → (b ≡ true) × (p ≡ got y t)
-cond-inv true n p y t e = (refl, e)
-cond-inv false n p y t e = absurd (refused-not e)
+pub cond-inv : {A : Type 0} (b : Bool) (why : Refusal) (p : Part A) (y : A) (t : List ℕ) → cond b p (no why) ≡ got y t → (b ≡ true) × (p ≡ got y t)
+cond-inv true why p y t e = (refl, e)
+cond-inv false why p y t e = absurd (refused-not e)
 
 -- what a part read and what is left
 pub same-part : {A : Type 0} {x y : A} {r t : List ℕ} → got x r ≡ got y t → (x ≡ y) × (r ≡ t)

@@ -16,7 +16,7 @@ use Rattle.file_mesh.specs.declared.Run.{Run}
 use Rattle.file_mesh.specs.Mesh.{Mesh, past}
 use Rattle.file_mesh.specs.Rules.{no_birth, more, begun, follows, rise, number_fits, refinement_fits, count_fits, vertex_fits, weight_fits, pairs_fit, weights_of, birth_fits, births_fit, rules}
 use Rattle.file_mesh.specs.File.{record_of, header_of, word_of, words_of, pairs_of, birth_of, births_of, end_of, file_of}
-use Rattle.file_mesh.specs.Read.{got, and_then, asked, number, numbers, opening_from, header_from, word_from, words_from, pairs_from, birth_from, births_read_from, nothing, read_file}
+use Rattle.file_mesh.specs.Read.{got, and_then, asked, numbers, opening_from, header_from, word_from, words_from, pairs_from, birth_from, births_read_from, nothing, read_file}
 use Rattle.file_mesh.proofs.Parts.{both, and_both, number_read, field-read, numbers-read}
 
 -- ---- records

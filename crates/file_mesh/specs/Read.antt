@@ -1,6 +1,7 @@
 -- How a mesh file is read: each `..From` takes its part off the front of the bytes, and tests each field as soon as its last byte has come. Assumes nothing.
+use Rattle.refusal.specs.declared.Refusal.{Refusal}
+use Rattle.refusal.specs.declared.Refusal.TheVariants.{BadFile, FileEnds, UnknownKind}
 use Rattle.std.specs.Prelude.{ℕ, zero, suc, ◌+◌, ◌*◌, ◌-◌, ◌%◌, Bool, true, false, cond, ◌&&◌, List, [], ◌∷◌, ◌++◌, length, take, drop, leb, ltb, eqb}
-use Rattle.refusal.specs.Table.{file_ends, unknown_kind, bad_file}
 use Rattle.file_bytes.specs.Bytes.{said, fours_of}
 use Rattle.file_mesh.specs.declared.Run.{Run}
 use Rattle.file_mesh.specs.Mesh.{Mesh, past}
@@ -9,31 +10,31 @@ use Rattle.file_mesh.specs.Rules.{no_birth, more, follows, number_fits, refineme
 
 -- ---- parts
 
--- what was read, and the bytes after it; or the number of a refusal
+-- what was read, and the bytes after it; or the refusal
 pub data Part (A : Type 0) : Type 0 where
-  no : ℕ → Part A
+  no : Refusal → Part A
   got : A → List ℕ → Part A
 
 -- the part that is read after another
 unfoldable pub and_then : {A B : Type 0} → Part A → (A → List ℕ → Part B) → Part B
-and_then (no n) f = no n
+and_then (no why) f = no why
 and_then (got x r) f = f x r
 
 -- a part, where a test holds; else 22
 unfoldable pub asked : {A : Type 0} → Bool → Part A → Part A
 asked true p = p
-asked false p = no bad_file
+asked false p = no BadFile
 
 -- a number of k bytes, and one that has to pass a test
 unfoldable pub number : ℕ → List ℕ → Part ℕ
-number k bs = cond (ltb (length bs) k) (no file_ends) (got (said (take k bs)) (drop k bs))
+number k bs = cond (ltb (length bs) k) (no FileEnds) (got (said (take k bs)) (drop k bs))
 
 unfoldable pub field : ℕ → (ℕ → Bool) → List ℕ → Part ℕ
 field k test bs = and_then (number k bs) (λ n r. asked (test n) (got n r))
 
 -- n numbers of four bytes
 unfoldable pub numbers : ℕ → List ℕ → Part (List ℕ)
-numbers n bs = cond (ltb (length bs) (n * 4)) (no file_ends) (got (fours_of n bs) (drop (n * 4) bs))
+numbers n bs = cond (ltb (length bs) (n * 4)) (no FileEnds) (got (fours_of n bs) (drop (n * 4) bs))
 
 -- ---- records
 
@@ -46,7 +47,7 @@ unfoldable pub opening_from : List ℕ → Part Opening
 opening_from bs =
     and_then (field 4 (λ n. leb 2 n) bs) (λ n r.
     and_then (number 2 r) (λ k s.
-    cond (leb head_kind k && leb k end_kind) (got (record { len = n; kind = k }) s) (no unknown_kind)))
+    cond (leb head_kind k && leb k end_kind) (got (record { len = n; kind = k }) s) (no UnknownKind)))
 
 -- the dimension and the number of cells
 pub record Header : Type 0 where
@@ -122,7 +123,7 @@ nothing (b ∷ bs) = false
 
 -- the births and the end of the file, in at most `most` records: a bound that never decides, since each record has bytes of its own and `most` is the number of all bytes
 unfoldable pub births_read_from : ℕ → ℕ → Run → List ℕ → Part Births
-births_read_from zero vertices run bs = no bad_file
+births_read_from zero vertices run bs = no BadFile
 births_read_from (suc most) vertices run bs =
     and_then (opening_from bs) (λ o r.
     cond (eqb o.kind end_kind)

@@ -91,9 +91,7 @@ fn comes_before(v: &[u32], w: &[u32]) -> bool
     requires { length v.now ≤ length w.now }
     ensures { result ≡ comes_before (length v.now) v.now w.now }
 {
-    let mut i = v.len();
-    while 0 < i {
-        i -= 1;
+    for i in (0..v.len()).rev() {
         if v[i] < w[i] {
             return true;
         }
@@ -111,7 +109,7 @@ fn sorted(w: &[u32]) -> [u32; CORNERS]
 {
     let n = w.len();
     let mut a = [0u32; CORNERS];
-    lists::copy(w, &mut a[..n]);
+    a[..n].copy_from_slice(w);
     multiindex::word::sort(&mut a[..n]);
     a
 }

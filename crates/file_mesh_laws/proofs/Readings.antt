@@ -1,4 +1,5 @@
 -- Files that tell how the request is read where it leaves a choice: the number of the refusal, 0 where the bytes are taken. Assumes nothing.
+use Rattle.refusal.specs.Table.{number_of}
 use mathlib.Core.Path.{◌≡◌, refl}
 use mathlib.Core.List.{List, [], ◌∷◌, ◌++◌}
 use Prim.Native.Nat.{ℕ}
@@ -23,7 +24,7 @@ wide = 6 ∷ 0 ∷ 0 ∷ 0 ∷ 1 ∷ 0 ∷ 4 ∷ 0 ∷ 2 ∷ 0 ∷ 22 ∷ 0 ∷ 
 
 -- the refusals of files
 pub refusal : Part Mesh → ℕ
-refusal (no n) = n
+refusal (no why) = number_of why
 refusal (got m r) = 0
 
 pub refusals : List (List ℕ) → List ℕ

@@ -1,15 +1,15 @@
 -- What a file that was read gives: its lists as they stand in its bytes, and how long they are. Assumes nothing.
+use Rattle.refusal.specs.declared.Refusal.{Refusal}
+use Rattle.refusal.specs.declared.Refusal.TheVariants.{TooShort}
+use Rattle.std.specs.Prelude.{Err, Ok}
 use mathlib.Core.Path.{◌≡◌, refl, sym, ap, subst, ◌∙◌}
 use mathlib.Core.List.{List, [], ◌++◌}
-use Prim.Native.Nat.{ℕ, ◌+◌, ◌*◌, ◌-◌, ◌/◌, ◌≤◌, ◌<◌}
+use Prim.Native.Nat.{ℕ, ◌+◌, ◌*◌, ◌/◌, ◌≤◌, ◌<◌}
 use native.Mathlib.Nat.{div-eq_of_eq-mul_left, mul_assoc, mul-le-mul}
 use native.Mathlib.Omega.{arith}
 use lib.ListN.{length, take, drop}
 use lib.Seq.{length-take-le}
 use Rattle.refusal.specs.Limits.{most_vertices, most_refinement}
-use Rattle.refusal.specs.declared.Answer.{Answer}
-use Rattle.refusal.specs.declared.Answer.TheVariants as Answer
-use Rattle.refusal.specs.Table.{too_short}
 use Rattle.complex.specs.Check.{answer_of, Passed}
 use Rattle.file_mesh.specs.Mesh.{Mesh, past}
 use Rattle.file_mesh.specs.Rules.{no_birth}
@@ -17,10 +17,8 @@ use Rattle.file_mesh.specs.Read.{Part, no, got, header_from, words_from, Births,
 use Rattle.file_mesh.proofs.Parts.{same-part, then-inv}
 use Rattle.file_mesh_write.proofs.Sizes.{past-largest}
 use Rattle.file_mesh_read.specs.declared.Scanned.{Scanned}
-use Rattle.file_mesh_read.specs.declared.Scanned.TheVariants as Scanned
 use Rattle.file_mesh_read.specs.declared.Reading.{Reading}
-use Rattle.file_mesh_read.specs.declared.Reading.TheVariants.{Read, Refused}
-use Rattle.file_mesh_read.specs.Promise.{mesh_in, refused_in, none, Gives, words_short, births_short, pairs_short, read}
+use Rattle.file_mesh_read.specs.Promise.{reading, mesh_in, refused_in, none, Gives, words_short, births_short, pairs_short, read}
 use Rattle.file_mesh_read.specs.Work.{scanned_of, words_in, births_in, end_in, Taking, Handing}
 use Rattle.file_mesh_read.proofs.Whole.{header-rest, words-rest}
 use Rattle.file_mesh_read.proofs.Listed.{words_are}
@@ -96,37 +94,36 @@ room-enough bs m r e =
 
 -- what the scan says
 module _ (bs : List ℕ) where
-  scanned-in : (p : Part Mesh) (d count many weights : ℕ) → read_file bs ≡ p → Scanned.Of d count many weights ≡ scanned_of p → FileGives bs (mesh_in p) d count many weights
-  scanned-in (no n) d count many weights e q = absurd (let z : ◌≡◌ {A = ℕ} 0 1 = cc in omega arith)
-  scanned-in (got m r) d count many weights e q =
+  scanned-in : (p : Part Mesh) (s : Scanned) → read_file bs ≡ p → Ok s ≡ scanned_of p → FileGives bs (mesh_in p) s.d s.count s.births s.pairs
+  scanned-in (no why) s e q = cc
+  scanned-in (got m r) s e q =
       let f = file-is bs m r e in
-      let a : m.d ≡ d = cc in
-      let c : f.count ≡ count = sym (div-eq_of_eq-mul_left {n = m.d + 1} {m = length m.words} {k = f.count} (omega arith) f.gives.cells) ∙ cc in
-      let b : length m.births / 3 ≡ many = cc in
-      let w : length m.pairs / 2 ≡ weights = cc in
-      let b2 : f.many ≡ many = omega (arith, f.gives.of_births) in
-      let w2 : f.weights ≡ weights = omega (arith, f.gives.of_pairs) in
-      subst (λ (x : ℕ). FileGives bs m x count many weights) a
-      (subst (λ (x : ℕ). FileGives bs m m.d x many weights) c
-      (subst (λ (x : ℕ). FileGives bs m m.d f.count x weights) b2
-      (subst (λ (x : ℕ). FileGives bs m m.d f.count f.many x) w2 f.gives)))
+      let x : record { d = m.d; count = length m.words / (m.d + 1); births = length m.births / 3; pairs = length m.pairs / 2 } ≡ s = cc in
+      let a : m.d ≡ s.d = ap (λ (y : Scanned). y.d) x in
+      let c : f.count ≡ s.count = sym (div-eq_of_eq-mul_left {n = m.d + 1} {m = length m.words} {k = f.count} (omega arith) f.gives.cells) ∙ ap (λ (y : Scanned). y.count) x in
+      let b : f.many ≡ s.births = omega (arith, f.gives.of_births, ap (λ (y : Scanned). y.births) x) in
+      let w : f.weights ≡ s.pairs = omega (arith, f.gives.of_pairs, ap (λ (y : Scanned). y.pairs) x) in
+      subst (λ (x : ℕ). FileGives bs m x s.count s.births s.pairs) a
+      (subst (λ (x : ℕ). FileGives bs m m.d x s.births s.pairs) c
+      (subst (λ (x : ℕ). FileGives bs m m.d f.count x s.pairs) b
+      (subst (λ (x : ℕ). FileGives bs m m.d f.count f.many x) w f.gives)))
 
-  pub scanned-gives : (d count many weights : ℕ) → Scanned.Of d count many weights ≡ scanned_of (read_file bs) → FileGives bs (mesh_in (read_file bs)) d count many weights
-  scanned-gives d count many weights q = scanned-in (read_file bs) d count many weights refl q
+  pub scanned-gives : (s : Scanned) → Ok s ≡ scanned_of (read_file bs) → FileGives bs (mesh_in (read_file bs)) s.d s.count s.births s.pairs
+  scanned-gives s q = scanned-in (read_file bs) s refl q
 
-  refused-in : (p : Part Mesh) (d count many weights : ℕ) → Scanned.Of d count many weights ≡ scanned_of p → refused_in p ≡ answer_of (mesh_in p).d (mesh_in p).words
-  refused-in (no n) d count many weights q = absurd (let z : ◌≡◌ {A = ℕ} 0 1 = cc in omega arith)
-  refused-in (got m r) d count many weights q = refl
+  refused-in : (p : Part Mesh) (s : Scanned) → Ok s ≡ scanned_of p → refused_in p ≡ answer_of (mesh_in p).d (mesh_in p).words
+  refused-in (no why) s q = cc
+  refused-in (got m r) s q = refl
 
-  pub scanned-answer : (d count many weights : ℕ) → Scanned.Of d count many weights ≡ scanned_of (read_file bs) → refused_in (read_file bs) ≡ answer_of (mesh_in (read_file bs)).d (mesh_in (read_file bs)).words
-  scanned-answer d count many weights q = refused-in (read_file bs) d count many weights q
+  pub scanned-answer : (s : Scanned) → Ok s ≡ scanned_of (read_file bs) → refused_in (read_file bs) ≡ answer_of (mesh_in (read_file bs)).d (mesh_in (read_file bs)).words
+  scanned-answer s q = refused-in (read_file bs) s q
 
-  none_in : (p : Part Mesh) (n : ℕ) → Scanned.No n ≡ scanned_of p → refused_in p ≡ Answer.Refused n 0
-  none_in (no m) n q = cc
-  none_in (got m r) n q = absurd (let z : ◌≡◌ {A = ℕ} 0 1 = cc in omega arith)
+  none_in : (p : Part Mesh) (why : Refusal) → Err why ≡ scanned_of p → refused_in p ≡ Err why
+  none_in (no other) why q = cc
+  none_in (got m r) why q = cc
 
-  pub scanned-refused : (n : ℕ) → Scanned.No n ≡ scanned_of (read_file bs) → refused_in (read_file bs) ≡ Answer.Refused n 0
-  scanned-refused n q = none_in (read_file bs) n q
+  pub scanned-refused : (why : Refusal) → Err why ≡ scanned_of (read_file bs) → refused_in (read_file bs) ≡ Err why
+  scanned-refused why q = none_in (read_file bs) why q
 
 -- ---- handing out
 
@@ -150,33 +147,30 @@ module _ (bs : List ℕ) (m : Mesh) (d count many weights : ℕ) (f : FileGives 
           inside = f.births-inside;
         }
 
-    pub handing-words : length words < length corners → Handing m (Refused too_short 0) words words births births pairs pairs
+    pub handing-words : length words < length corners → Handing m (Err TooShort) words words births births pairs pairs
     handing-words h = record { handed = none; ends = λ y. words_short y (omega (arith, corners_long)); of_words = refl; of_births = refl; of_pairs = refl }
 
-    pub handing-births : length births < many * 3 → Handing m (Refused too_short 0) words words births births pairs pairs
+    pub handing-births : length births < many * 3 → Handing m (Err TooShort) words words births births pairs pairs
     handing-births h = record { handed = none; ends = λ y. births_short y (omega (arith, f.of_births)); of_words = refl; of_births = refl; of_pairs = refl }
 
-    pub handing-pairs : length pairs < weights * 2 → Handing m (Refused too_short 0) words words births births pairs pairs
+    pub handing-pairs : length pairs < weights * 2 → Handing m (Err TooShort) words words births births pairs pairs
     handing-pairs h = record { handed = none; ends = λ y. pairs_short y (omega (arith, f.of_pairs)); of_words = refl; of_births = refl; of_pairs = refl }
 
     -- what the mesh has, by the numbers of the scan
-    said : Read m.d (length m.words / (m.d + 1)) (length m.births / 3) (length m.pairs / 2) ≡ Read d count many weights
+    said : reading m ≡ record { dimension = d; cells = count; births = many; pairs = weights }
     said =
-        let c : length m.words / (d + 1) ≡ count = div-eq_of_eq-mul_left {n = d + 1} {m = length m.words} {k = count} (omega arith) f.cells in
+        let c : length m.words / (m.d + 1) ≡ count = ap (λ (x : ℕ). length m.words / (x + 1)) f.dimension ∙ div-eq_of_eq-mul_left {n = d + 1} {m = length m.words} {k = count} (omega arith) f.cells in
         let b : length m.births / 3 ≡ many = omega (arith, f.of_births) in
         let w : length m.pairs / 2 ≡ weights = omega (arith, f.of_pairs) in
-        ap (λ (x : ℕ). Read x (length m.words / (x + 1)) (length m.births / 3) (length m.pairs / 2)) f.dimension
-        ∙ ap (λ (x : ℕ). Read d x (length m.births / 3) (length m.pairs / 2)) c
-        ∙ ap (λ (x : ℕ). Read d count x (length m.pairs / 2)) b
-        ∙ ap (λ (x : ℕ). Read d count many x) w
+        rw (c, b, w, f.dimension)
 
     module _ (hw : length corners ≤ length words) (hb : many * 3 ≤ length births) (hp : weights * 2 ≤ length pairs) (ws ms ps : List ℕ) (ew : ws ≡ corners)
         (em : ms ≡ (births_in many (births_at d count) bs).births) (ep : ps ≡ (births_in many (births_at d count) bs).pairs) where
-      pub handing-read : Handing m (Read d count many weights) words (ws ++ drop (length corners) words) births (ms ++ drop (many * 3) births) pairs (ps ++ drop (weights * 2) pairs)
+      pub handing-read : Handing m (Ok (record { dimension = d; cells = count; births = many; pairs = weights })) words (ws ++ drop (length corners) words) births (ms ++ drop (many * 3) births) pairs (ps ++ drop (weights * 2) pairs)
       handing-read =
           record {
             handed = record { words = m.words; births = m.births; pairs = m.pairs };
-            ends = λ y. subst (λ (x : Reading). Gives m (record { words = words; births = births; pairs = pairs }) x (record { words = m.words; births = m.births; pairs = m.pairs })) said (read y (omega (arith, corners_long)) (omega (arith, f.of_births)) (omega (arith, f.of_pairs)));
+            ends = λ y. subst (λ (x : Reading). Gives m (record { words = words; births = births; pairs = pairs }) (Ok x) (record { words = m.words; births = m.births; pairs = m.pairs })) said (read y (omega (arith, corners_long)) (omega (arith, f.of_births)) (omega (arith, f.of_pairs)));
             of_words = ap (λ (l : List ℕ). l ++ drop (length corners) words) (ew ∙ ec) ∙ ap (λ (x : ℕ). m.words ++ drop x words) corners_long;
             of_births = ap (λ (l : List ℕ). l ++ drop (many * 3) births) (em ∙ sym f.births) ∙ ap (λ (x : ℕ). m.births ++ drop x births) (sym f.of_births);
             of_pairs = ap (λ (l : List ℕ). l ++ drop (weights * 2) pairs) (ep ∙ sym f.pairs) ∙ ap (λ (x : ℕ). m.pairs ++ drop x pairs) (sym f.of_pairs);

@@ -1,4 +1,8 @@
 -- The ways out of the call. Assumes nothing.
+use Rattle.refusal.specs.declared.Refusal.{Refusal}
+use Rattle.refusal.specs.declared.Refusal.TheVariants.{BadDimension, TooManyCells, CrowdedFacet, TooShort}
+use Rattle.refusal.specs.Says.{Answer, fine}
+use Rattle.std.specs.Prelude.{Err, Result}
 use mathlib.Core.Path.{◌≡◌, refl, sym, ap, subst, ◌∙◌}
 use mathlib.Core.List.{List}
 use Prim.Native.Nat.{ℕ, ◌+◌, ◌*◌, ◌/◌, ◌%◌, ◌≤◌, ◌<◌}
@@ -7,11 +11,9 @@ use native.Mathlib.Omega.{arith}
 use lib.ListN.{length}
 use borrow.Author.Tests.{lt-ltb, le-ltb, eq-eqb, ne_eqb}
 use Rattle.refusal.specs.Limits.{most_dimension, most_cells, row_most, most_corners}
-use Rattle.refusal.specs.Table.{bad_dimension, too_many_cells}
-use Rattle.refusal.specs.declared.Answer.{Answer}
-use Rattle.refusal.specs.declared.Answer.TheVariants as Answer
 use Rattle.refusal.specs.declared.Room.{Room}
 use Rattle.refusal.specs.Lent.{untouched, lengths}
+use Rattle.refusal.proofs.Chain.{fine-refused, refused-same}
 use Rattle.refusal.specs.Call.{Comes, refused, cramped, ended}
 use Rattle.complex.specs.Check.{answer_of}
 use Rattle.complex.specs.Cells.{cells_of}
@@ -22,14 +24,13 @@ use Rattle.complex_sound.specs.Promise as Sound
 use Rattle.file_mesh.specs.Mesh.{Mesh}
 use Rattle.file_mesh.specs.Read.{read_file}
 use Rattle.file_mesh_read.specs.declared.Reading.{Reading}
-use Rattle.file_mesh_read.specs.declared.Reading.TheVariants.{Refused}
 use Rattle.file_mesh_read.specs.Promise.{mesh_in, refused_in, Lists, none, Gives, crowded, MeshRead}
 use Rattle.file_mesh_read.specs.Work.{words_in, Handing}
 use Rattle.file_mesh_read.proofs.Given.{FileGives}
 
 -- ---- the checks before the words are listed
 
-pub answer-dimension : (d : ℕ) (ws : List ℕ) → most_dimension < d → answer_of d ws ≡ Answer.Refused bad_dimension 0
+pub answer-dimension : (d : ℕ) (ws : List ℕ) → most_dimension < d → answer_of d ws ≡ Err BadDimension
 unfolding answer_of
 answer-dimension d ws h = rw (lt-ltb most_dimension d h)
 
@@ -38,7 +39,7 @@ some_words d count n e h z =
     let g = mul-le-mul {n₁ = 1} {m₁ = 1} {n₂ = count} {m₂ = d + 1} (omega arith) (omega arith) in
     omega (arith, g)
 
-pub answer-many : (d count : ℕ) (ws : List ℕ) → d ≤ most_dimension → length ws ≡ count * (d + 1) → most_cells < count → answer_of d ws ≡ Answer.Refused too_many_cells 0
+pub answer-many : (d count : ℕ) (ws : List ℕ) → d ≤ most_dimension → length ws ≡ count * (d + 1) → most_cells < count → answer_of d ws ≡ Err TooManyCells
 unfolding answer_of
 answer-many d count ws h e g =
     let m : length ws % (d + 1) ≡ 0 = ap (λ (x : ℕ). x % (d + 1)) e ∙ mul-mod_left count (d + 1) in
@@ -55,8 +56,8 @@ module _ (bs words births pairs keys rows spare counts : List ℕ) where
   given = record { words = words; births = births; pairs = pairs }
 
   -- refused by the bytes or by the checks of the cells: nothing is touched
-  pub out-early : (n p : ℕ) → refused_in (read_file bs) ≡ Answer.Refused n p → MeshRead bs (Refused n p) words words births births pairs pairs keys keys rows rows spare spare counts counts
-  out-early n p e =
+  pub out-early : (why : Refusal) → refused_in (read_file bs) ≡ Err why → MeshRead bs (Err why) words words births births pairs pairs keys keys rows rows spare spare counts counts
+  out-early why e =
       record {
         handed = none;
         used = untouched;
@@ -68,28 +69,28 @@ module _ (bs words births pairs keys rows spare counts : List ℕ) where
       }
 
   module _ (q : refused_in (read_file bs) ≡ answer_of m.d m.words) (need have : Room) where
-    lift : (r : Answer) (u : Unit {0}) (used : Room) (n p : ℕ) → Comes Answer.Refused (tt {0}) (answer_of m.d m.words) need have (Facets m.d (cells_of m.d m.words)) r u used → r ≡ Answer.Refused n p →
-        Comes Refused none (refused_in (read_file bs)) need have (Gives m given) (Refused n p) none used
-    lift r u used n p (refused e) f = refused (q ∙ e ∙ f)
-    lift r u used n p (cramped e g) f = let z : ◌≡◌ {A = ℕ} n 12 = cc in let y : ◌≡◌ {A = ℕ} p 0 = cc in rw (z, y) (cramped (q ∙ e) g)
-    lift r u used n p (ended e g (Sound.crowded x)) f = let z : ◌≡◌ {A = ℕ} n 7 = cc in let y : ◌≡◌ {A = ℕ} p 0 = cc in rw (z, y) (ended (q ∙ e) g (crowded x))
-    lift r u used n p (ended e g (free x)) f = absurd (let z : ◌≡◌ {A = ℕ} 0 1 = cc in omega arith)
+    lift : (r : Answer) (u : Unit {0}) (used : Room) (why : Refusal) → Comes Err (tt {0}) (answer_of m.d m.words) need have (Facets m.d (cells_of m.d m.words)) r u used → r ≡ Err why →
+        Comes Err none (refused_in (read_file bs)) need have (Gives m given) (Err why) none used
+    lift r u used why (refused e) f = refused (q ∙ e ∙ f)
+    lift r u used why (cramped e g) f = rw (sym (refused-same TooShort why f)) (cramped (q ∙ e) g)
+    lift r u used why (ended e g (Sound.crowded x)) f = rw (sym (refused-same CrowdedFacet why f)) (ended (q ∙ e) g (crowded x))
+    lift r u used why (ended e g (free x)) f = absurd (fine-refused why (sym f))
 
-    finish : (r : Answer) (u : Unit {0}) (used : Room) → Comes Answer.Refused (tt {0}) (answer_of m.d m.words) need have (Facets m.d (cells_of m.d m.words)) r u used → r ≡ Answer.Fine → (s : Reading) (h : Lists) →
-        ((Crowded m.d (cells_of m.d m.words) → ⊥) → Gives m given s h) → Comes Refused none (refused_in (read_file bs)) need have (Gives m given) s h used
-    finish r u used (refused e) f s h x = absurd (let z : ◌≡◌ {A = ℕ} 0 1 = cc in omega arith)
-    finish r u used (cramped e g) f s h x = absurd (let z : ◌≡◌ {A = ℕ} 0 1 = cc in omega arith)
-    finish r u used (ended e g (Sound.crowded y)) f s h x = absurd (let z : ◌≡◌ {A = ℕ} 0 1 = cc in omega arith)
+    finish : (r : Answer) (u : Unit {0}) (used : Room) → Comes Err (tt {0}) (answer_of m.d m.words) need have (Facets m.d (cells_of m.d m.words)) r u used → r ≡ fine → (s : Result Reading Refusal) (h : Lists) →
+        ((Crowded m.d (cells_of m.d m.words) → ⊥) → Gives m given s h) → Comes Err none (refused_in (read_file bs)) need have (Gives m given) s h used
+    finish r u used (refused {why = why} e) f s h x = absurd (fine-refused why f)
+    finish r u used (cramped e g) f s h x = absurd (fine-refused TooShort f)
+    finish r u used (ended e g (Sound.crowded y)) f s h x = absurd (fine-refused CrowdedFacet f)
     finish r u used (ended e g (free y)) f s h x = ended (q ∙ e) g (x y)
 
   module _ (q : refused_in (read_file bs) ≡ answer_of m.d m.words) (r : Answer) (keys' rows' spare' counts' : List ℕ) (k : Checked m.d m.words r keys keys' rows rows' spare spare' counts counts') where
     -- refused by the checks of the cells, for lack of room, or by 7
-    pub out-refused : (n p : ℕ) → r ≡ Answer.Refused n p → MeshRead bs (Refused n p) words words births births pairs pairs keys keys' rows rows' spare spare' counts counts'
-    out-refused n p e =
+    pub out-refused : (why : Refusal) → r ≡ Err why → MeshRead bs (Err why) words words births births pairs pairs keys keys' rows rows' spare spare' counts counts'
+    out-refused why e =
         record {
           handed = none;
           used = k.used;
-          comes = lift q (need_of m.d (length m.words)) (lengths keys rows spare counts) r (tt {0}) k.used n p k.comes e;
+          comes = lift q (need_of m.d (length m.words)) (lengths keys rows spare counts) r (tt {0}) k.used why k.comes e;
           room = k.room;
           of_words = refl;
           of_births = refl;
@@ -97,7 +98,7 @@ module _ (bs words births pairs keys rows spare counts : List ℕ) where
         }
 
     -- the lists are handed out, or a result list is too short
-    pub out-handed : r ≡ Answer.Fine → (s : Reading) (words' births' pairs' : List ℕ) → Handing m s words words' births births' pairs pairs' → MeshRead bs s words words' births births' pairs pairs' keys keys' rows rows' spare spare' counts counts'
+    pub out-handed : r ≡ fine → (s : Result Reading Refusal) (words' births' pairs' : List ℕ) → Handing m s words words' births births' pairs pairs' → MeshRead bs s words words' births births' pairs pairs' keys keys' rows rows' spare spare' counts counts'
     out-handed e s words' births' pairs' h =
         record {
           handed = h.handed;
@@ -117,10 +118,10 @@ module _ (bs : List ℕ) (m : Mesh) (d count many weights : ℕ) (f : FileGives 
       let e : count * (6 + (d + 1) * 4) ≡ count * (10 + 4 * d) = ap (λ (x : ℕ). count * x) {x = 6 + (d + 1) * 4} {y = 10 + 4 * d} (omega arith) in
       omega (arith, f.words_inside)
 
-  pub high : most_dimension < d → answer_of m.d m.words ≡ Answer.Refused bad_dimension 0
+  pub high : most_dimension < d → answer_of m.d m.words ≡ Err BadDimension
   high h = answer-dimension m.d m.words (omega (arith, f.dimension))
 
-  pub crowd : d ≤ most_dimension → most_cells < count → answer_of m.d m.words ≡ Answer.Refused too_many_cells 0
+  pub crowd : d ≤ most_dimension → most_cells < count → answer_of m.d m.words ≡ Err TooManyCells
   crowd h g = answer-many m.d count m.words (omega (arith, f.dimension)) (f.cells ∙ ap (λ (x : ℕ). count * (x + 1)) (sym f.dimension)) g
 
   module _ (ys : List ℕ) (e : ys ≡ words_in (d + 1) count 10 bs) where

@@ -1,74 +1,34 @@
 -- The pairs of a birth, one after the other, and a birth. Assumes nothing.
+use Rattle.refusal.specs.declared.Refusal.TheVariants.{FileEnds, BadFile}
+use Rattle.refusal.specs.Says.{fine, Answer}
+use Rattle.refusal.specs.declared.Refusal.{Refusal}
+use Rattle.std.specs.Prelude.{Ok, Err}
 use mathlib.Core.Path.{◌≡◌, refl, sym, ap, ◌∙◌}
-use mathlib.Core.Bool.{Bool, true, false, cond}
-use mathlib.Core.List.{List, [], ◌∷◌}
-use Prim.Native.Nat.{ℕ, zero, suc, ◌+◌, ◌*◌, ◌-◌, ◌≤◌, ◌<◌}
+use mathlib.Core.Bool.{Bool, true, false}
+use mathlib.Core.List.{List, ◌∷◌}
+use Prim.Native.Nat.{ℕ, suc, ◌+◌, ◌*◌, ◌-◌, ◌≤◌, ◌<◌}
 use native.Mathlib.Nat.{add_assoc, zero-add}
 use native.Mathlib.Numerals.{add-one}
 use native.Mathlib.Omega.{arith}
 use lib.ListN.{length, take, drop}
-use lib.Dec.{ltb, eqb}
+use lib.Dec.{eqb}
 use borrow.Author.Tests.{lt-ltb, le-ltb, le-leb, lt-leb, eq-eqb, ne_eqb}
 use Rattle.file_bytes.specs.Bytes.{said}
 use Rattle.file_mesh.specs.declared.Run.{Run}
-use Rattle.file_mesh.specs.Rules.{more, number_fits, refinement_fits, vertex_fits, weight_fits, weights_of}
-use Rattle.file_mesh.specs.Read.{Part, no, got, and_then, asked, number, field, pairs_from, Birth, birth_from}
-use Rattle.file_mesh_read.specs.declared.Born.{Born}
-use Rattle.file_mesh_read.specs.declared.Born.TheVariants as Born
+use Rattle.file_mesh.specs.Rules.{more, number_fits, refinement_fits, weights_of}
+use Rattle.file_mesh.specs.Read.{Part, no, got, and_then, asked, field, pairs_from, Birth, birth_from}
 use Rattle.file_mesh_read.specs.Work.{refusal_of, weighed, born_of}
 use Rattle.file_mesh_read.proofs.Parts.{number-ends, number-got}
-
--- ---- no part is refused with 0
-
-unfoldable pub Proper : {A : Type 0} → Part A → Type 0
-Proper p = (n : ℕ) → p ≡ no n → n ≡ 0 → ⊥
-
-pub proper-got : {A : Type 0} (x : A) (r : List ℕ) → Proper (got x r)
-unfolding Proper
-proper-got x r n e z = let q : ◌≡◌ {A = ℕ} 0 1 = cc in omega arith
-
-pub proper-then : {A B : Type 0} (p : Part A) (f : A → List ℕ → Part B) → Proper p → ((x : A) (r : List ℕ) → Proper (f x r)) → Proper (and_then p f)
-unfolding Proper and_then
-proper-then (no m) f a b n e z = a m refl (let q : m ≡ n = cc in q ∙ z)
-proper-then (got x r) f a b n e z = b x r n e z
-
-pub proper-asked : {A : Type 0} (t : Bool) (p : Part A) → Proper p → Proper (asked t p)
-unfolding Proper asked
-proper-asked true p a n e z = a n e z
-proper-asked false p a n e z = let q : ◌≡◌ {A = ℕ} 22 n = cc in omega arith
-
-pub proper-number : (k : ℕ) (bs : List ℕ) → Proper (number k bs)
-unfolding Proper number
-proper-number k bs n e z = go (ltb (length bs) k) e
-  where
-    go : (t : Bool) → ◌≡◌ {A = Part ℕ} (cond t (no 20) (got (said (take k bs)) (drop k bs))) (no n) → ⊥
-    go true q = let w : ◌≡◌ {A = ℕ} 20 n = cc in omega arith
-    go false q = let w : ◌≡◌ {A = ℕ} 0 1 = cc in omega arith
-
-pub proper-field : (k : ℕ) (test : ℕ → Bool) (bs : List ℕ) → Proper (field k test bs)
-unfolding field
-proper-field k test bs = proper-then (number k bs) (λ n r. asked (test n) (got n r)) (proper-number k bs) (λ n r. proper-asked (test n) (got n r) (proper-got n r))
-
-pub proper-pairs : (first low count : ℕ) (bs : List ℕ) → Proper (pairs_from first low count bs)
-unfolding pairs_from
-proper-pairs first low zero bs = proper-got [] bs
-proper-pairs first low (suc count) bs =
-    proper-then (field 4 (vertex_fits first low) bs) _ (proper-field 4 (vertex_fits first low) bs) (λ v r.
-    proper-then (field 2 weight_fits r) _ (proper-field 2 weight_fits r) (λ w s.
-    proper-then (pairs_from first (suc v) count s) _ (proper-pairs first (suc v) count s) (λ ps t. proper-got (v ∷ (w ∷ ps)) t)))
-
-pub proper-weighed : (r : ℕ) (p : Part (List ℕ)) → Proper p → Proper (weighed r p)
-proper-weighed r p a = proper-then p _ a (λ ps t. proper-asked (eqb (weights_of ps) r) (got ps t) (proper-got ps t))
 
 -- ---- the sum of the weights
 
 -- the refusal of pairs after others, whose weights sum to `sum`
-abbrev pub summed : ℕ → ℕ → Part (List ℕ) → ℕ
+abbrev pub summed : ℕ → ℕ → Part (List ℕ) → Answer
 summed r sum p = refusal_of (and_then p (λ ps t. asked (eqb (sum + weights_of ps) r) (got ps t)))
 
 pub summed-none : (r : ℕ) (p : Part (List ℕ)) → refusal_of (weighed r p) ≡ summed r 0 p
 unfolding and_then
-summed-none r (no n) = refl
+summed-none r (no why) = refl
 summed-none r (got ps t) = ap (λ (x : ℕ). refusal_of (asked (eqb x r) (got ps t))) (sym (zero-add (weights_of ps)))
 
 refusal-asked : {A B : Type 0} (t : Bool) (x : A) (y : B) (r s : List ℕ) → refusal_of (asked t (got x r)) ≡ refusal_of (asked t (got y s))
@@ -78,46 +38,46 @@ refusal-asked false x y r s = refl
 
 pub summed-more : (r sum v w : ℕ) (p : Part (List ℕ)) → summed r sum (and_then p (λ ps t. got (v ∷ (w ∷ ps)) t)) ≡ summed r (sum + w) p
 unfolding and_then weights_of
-summed-more r sum v w (no n) = refl
+summed-more r sum v w (no why) = refl
 summed-more r sum v w (got ps t) =
     ap (λ (x : ℕ). refusal_of (asked (eqb x r) (got (v ∷ (w ∷ ps)) t))) (sym (add_assoc sum w (weights_of ps))) ∙ refusal-asked (eqb (sum + w + weights_of ps) r) (v ∷ (w ∷ ps)) ps t t
 
-pub summed-no : (r sum n : ℕ) (p : Part (List ℕ)) → p ≡ no n → summed r sum p ≡ n
+pub summed-no : (r sum : ℕ) (why : Refusal) (p : Part (List ℕ)) → p ≡ no why → summed r sum p ≡ Err why
 unfolding and_then
-summed-no r sum n p e = rw e
+summed-no r sum why p e = rw e
 
-pub summed-bad : (first low r sum : ℕ) (bs : List ℕ) (n : ℕ) → n ≡ 0 → (sum ≡ r → ⊥) → summed r sum (pairs_from first low n bs) ≡ 22
+pub summed-bad : (first low r sum : ℕ) (bs : List ℕ) (n : ℕ) → n ≡ 0 → (sum ≡ r → ⊥) → summed r sum (pairs_from first low n bs) ≡ Err BadFile
 unfolding and_then pairs_from weights_of asked
 summed-bad first low r sum bs n e f = rw (e, ne_eqb (sum + 0) r (λ q. f (omega arith)))
 
-pub summed-good : (first low r sum : ℕ) (bs : List ℕ) (n : ℕ) → n ≡ 0 → sum ≡ r → summed r sum (pairs_from first low n bs) ≡ 0
+pub summed-good : (first low r sum : ℕ) (bs : List ℕ) (n : ℕ) → n ≡ 0 → sum ≡ r → summed r sum (pairs_from first low n bs) ≡ fine
 unfolding and_then pairs_from weights_of asked
 summed-good first low r sum bs n e f = rw (e, eq-eqb (sum + 0) r (omega arith))
 
 -- ---- one pair
 
 module _ (bs : List ℕ) (at first low n left : ℕ) (a : at ≤ length bs) (el : left ≡ suc n) where
-  pub pair_ends : length bs - at < 4 → pairs_from first low left (drop at bs) ≡ no 20
+  pub pair_ends : length bs - at < 4 → pairs_from first low left (drop at bs) ≡ no FileEnds
   unfolding pairs_from field and_then
   pair_ends h = rw (el, number-ends bs at 4 h)
 
   module _ (l : 4 ≤ length bs - at) (v : ℕ) (ev : v ≡ said (take 4 (drop at bs))) where
-    pub pair-low : v < low → pairs_from first low left (drop at bs) ≡ no 22
+    pub pair-low : v < low → pairs_from first low left (drop at bs) ≡ no BadFile
     unfolding pairs_from field and_then asked
     pair-low h = rw (el, number-got bs at 4 a l, sym ev, lt-leb low v h)
 
     module _ (h : low ≤ v) where
-      pub pair-high : first ≤ v → pairs_from first low left (drop at bs) ≡ no 22
+      pub pair-high : first ≤ v → pairs_from first low left (drop at bs) ≡ no BadFile
       unfolding pairs_from field and_then asked
       pair-high k = rw (el, number-got bs at 4 a l, sym ev, le-leb low v h, le-ltb v first k)
 
       module _ (k : v < first) where
-        pub pair-cut : length bs - at < 6 → pairs_from first low left (drop at bs) ≡ no 20
+        pub pair-cut : length bs - at < 6 → pairs_from first low left (drop at bs) ≡ no FileEnds
         unfolding pairs_from field and_then asked
         pair-cut s = rw (el, number-got bs at 4 a l, sym ev, le-leb low v h, lt-ltb v first k, number-ends bs (at + 4) 2 (omega arith))
 
         module _ (s : 6 ≤ length bs - at) (w : ℕ) (ew : w ≡ said (take 2 (drop (at + 4) bs))) where
-          pub pair-none : w ≡ 0 → pairs_from first low left (drop at bs) ≡ no 22
+          pub pair-none : w ≡ 0 → pairs_from first low left (drop at bs) ≡ no BadFile
           unfolding pairs_from field and_then asked
           pair-none z = rw (el, number-got bs at 4 a l, sym ev, le-leb low v h, lt-ltb v first k, number-got bs (at + 4) 2 (omega arith) (omega arith), sym ew, lt-leb 1 w (omega arith))
 
@@ -136,60 +96,60 @@ module _ (n r c : ℕ) where
   abbrev finished : Part (List ℕ) → Part Birth
   finished p = and_then p (λ ps u. asked (eqb (weights_of ps) r) (got (bare ps) u))
 
-  pub born-refused : (p : Part (List ℕ)) (x : ℕ) → x ≡ refusal_of (weighed r p) → (x ≡ 0 → ⊥) → born_of (finished p) ≡ Born.No x
+  pub born-refused : (p : Part (List ℕ)) (why : Refusal) → Err why ≡ refusal_of (weighed r p) → born_of (finished p) ≡ Err why
   unfolding and_then asked
-  born-refused (no m) x e f = ap Born.No (sym e)
-  born-refused (got ps u) x e f = go (eqb (weights_of ps) r) e
+  born-refused (no other) why e = cc
+  born-refused (got ps u) why e = go (eqb (weights_of ps) r) e
     where
-      go : (t : Bool) → x ≡ refusal_of (asked t (got ps u)) → born_of (asked t (got (bare ps) u)) ≡ Born.No x
-      go true q = absurd (f q)
-      go false q = ap Born.No (sym q)
+      go : (t : Bool) → Err why ≡ refusal_of (asked t (got ps u)) → born_of (asked t (got (bare ps) u)) ≡ Err why
+      go true q = cc
+      go false q = cc
 
-  pub born-read : (p : Part (List ℕ)) (x : ℕ) → Proper p → x ≡ refusal_of (weighed r p) → x ≡ 0 → born_of (finished p) ≡ Born.Of n r c
-  unfolding and_then asked Proper
-  born-read (no m) x a e z = absurd (a m refl (sym e ∙ z))
-  born-read (got ps u) x a e z = go (eqb (weights_of ps) r) e
+  pub born-read : (p : Part (List ℕ)) → fine ≡ refusal_of (weighed r p) → born_of (finished p) ≡ Ok (record { number = n; r = r; count = c })
+  unfolding and_then asked
+  born-read (no why) e = cc
+  born-read (got ps u) e = go (eqb (weights_of ps) r) e
     where
-      go : (t : Bool) → x ≡ refusal_of (asked t (got ps u)) → born_of (asked t (got (bare ps) u)) ≡ Born.Of n r c
+      go : (t : Bool) → fine ≡ refusal_of (asked t (got ps u)) → born_of (asked t (got (bare ps) u)) ≡ Ok (record { number = n; r = r; count = c })
       go true q = refl
-      go false q = absurd (omega arith)
+      go false q = cc
 
 module _ (vertices : ℕ) (run : Run) (len : ℕ) (bs : List ℕ) (at : ℕ) (a : at ≤ length bs) where
-  pub birth-ends : length bs - at < 4 → birth_from vertices run len (drop at bs) ≡ no 20
+  pub birth-ends : length bs - at < 4 → birth_from vertices run len (drop at bs) ≡ no FileEnds
   unfolding birth_from field and_then
   birth-ends h = rw (number-ends bs at 4 h)
 
   module _ (l : 4 ≤ length bs - at) (n : ℕ) (en : n ≡ said (take 4 (drop at bs))) where
-    pub birth-number : number_fits vertices run n ≡ false → birth_from vertices run len (drop at bs) ≡ no 22
+    pub birth-number : number_fits vertices run n ≡ false → birth_from vertices run len (drop at bs) ≡ no BadFile
     unfolding birth_from field and_then asked
     birth-number f = rw (number-got bs at 4 a l, sym en, f)
 
     module _ (f : number_fits vertices run n ≡ true) where
-      pub birth-cut : length bs - at < 6 → birth_from vertices run len (drop at bs) ≡ no 20
+      pub birth-cut : length bs - at < 6 → birth_from vertices run len (drop at bs) ≡ no FileEnds
       unfolding birth_from field and_then asked
       birth-cut h = rw (number-got bs at 4 a l, sym en, f, number-ends bs (at + 4) 2 (omega arith))
 
       module _ (s : 6 ≤ length bs - at) (r : ℕ) (er : r ≡ said (take 2 (drop (at + 4) bs))) where
-        pub birth-refinement : refinement_fits run r ≡ false → birth_from vertices run len (drop at bs) ≡ no 22
+        pub birth-refinement : refinement_fits run r ≡ false → birth_from vertices run len (drop at bs) ≡ no BadFile
         unfolding birth_from field and_then asked
         birth-refinement g = rw (number-got bs at 4 a l, sym en, f, number-got bs (at + 4) 2 (omega arith) (omega arith), sym er, g)
 
         module _ (g : refinement_fits run r ≡ true) where
-          pub birth-short : length bs - at < 8 → birth_from vertices run len (drop at bs) ≡ no 20
+          pub birth-short : length bs - at < 8 → birth_from vertices run len (drop at bs) ≡ no FileEnds
           unfolding birth_from field and_then asked
           birth-short h =
               let q : at + 4 + 2 ≡ at + 6 = omega arith in
               rw (number-got bs at 4 a l, sym en, f, number-got bs (at + 4) 2 (omega arith) (omega arith), sym er, g, q, number-ends bs (at + 6) 2 (omega arith))
 
           module _ (h : 8 ≤ length bs - at) (c : ℕ) (ec : c ≡ said (take 2 (drop (at + 6) bs))) where
-            pub birth-few : c < 2 → birth_from vertices run len (drop at bs) ≡ no 22
+            pub birth-few : c < 2 → birth_from vertices run len (drop at bs) ≡ no BadFile
             unfolding birth_from field and_then asked
             birth-few k =
                 let q : at + 4 + 2 ≡ at + 6 = omega arith in
                 rw (number-got bs at 4 a l, sym en, f, number-got bs (at + 4) 2 (omega arith) (omega arith), sym er, g, q, number-got bs (at + 6) 2 (omega arith) (omega arith), sym ec, lt-leb 2 c k)
 
             module _ (k : 2 ≤ c) where
-              pub birth-len : (len ≡ 10 + c * 6 → ⊥) → birth_from vertices run len (drop at bs) ≡ no 22
+              pub birth-len : (len ≡ 10 + c * 6 → ⊥) → birth_from vertices run len (drop at bs) ≡ no BadFile
               unfolding birth_from field and_then asked
               birth-len z =
                   let q : at + 4 + 2 ≡ at + 6 = omega arith in

@@ -1,4 +1,7 @@
 -- One part of the bytes at a place: read, or refused. Assumes nothing.
+use Rattle.refusal.specs.declared.Refusal.TheVariants.{FileEnds, UnknownKind, BadFile}
+use Rattle.refusal.specs.declared.Refusal.{Refusal}
+use Rattle.std.specs.Prelude.{Ok, Err}
 use mathlib.Core.Path.{◌≡◌, refl, sym, ap, ◌∙◌}
 use mathlib.Core.Bool.{Bool, true, false, ◌&&◌}
 use mathlib.Core.List.{List, [], ◌∷◌, ◌++◌}
@@ -19,11 +22,10 @@ use Rattle.file_mesh.specs.Rules.{follows}
 use Rattle.file_mesh.specs.Read.{Part, no, got, and_then, asked, number, field, numbers, Opening, opening_from, header_from, word_from}
 use Rattle.file_mesh.proofs.Parts.{refused-not, same-part, then-inv, cond-inv, asked-inv}
 use Rattle.file_mesh_read.specs.declared.Opened.{Opened}
-use Rattle.file_mesh_read.specs.declared.Opened.TheVariants as Opened
 use Rattle.file_mesh_read.specs.Work.{opened_of, word_before}
 
 module _ (bs : List ℕ) (at k : ℕ) where
-  pub number-ends : length bs - at < k → number k (drop at bs) ≡ no 20
+  pub number-ends : length bs - at < k → number k (drop at bs) ≡ no FileEnds
   unfolding number
   number-ends h = rw (lt-ltb (length (drop at bs)) k (omega (arith, length-drop at bs)))
 
@@ -44,27 +46,27 @@ module _ (bs : List ℕ) (at k : ℕ) where
 -- ---- the opening
 
 module _ (bs : List ℕ) (at : ℕ) (a : at ≤ length bs) where
-  pub open-ends : length bs - at < 4 → opening_from (drop at bs) ≡ no 20
+  pub open-ends : length bs - at < 4 → opening_from (drop at bs) ≡ no FileEnds
   unfolding opening_from field and_then
   open-ends h = rw (number-ends bs at 4 h)
 
   module _ (l : 4 ≤ length bs - at) (len : ℕ) (el : len ≡ said (take 4 (drop at bs))) where
-    pub open-small : len < 2 → opening_from (drop at bs) ≡ no 22
+    pub open-small : len < 2 → opening_from (drop at bs) ≡ no BadFile
     unfolding opening_from field and_then asked
     open-small h = rw (number-got bs at 4 a l, lt-leb 2 (said (take 4 (drop at bs))) (omega arith))
 
     module _ (h : 2 ≤ len) where
-      pub open-cut : length bs - at < 6 → opening_from (drop at bs) ≡ no 20
+      pub open-cut : length bs - at < 6 → opening_from (drop at bs) ≡ no FileEnds
       unfolding opening_from field and_then asked
       open-cut s = rw (number-got bs at 4 a l, le-leb 2 (said (take 4 (drop at bs))) (omega arith), number-ends bs (at + 4) 2 (omega arith))
 
       module _ (s : 6 ≤ length bs - at) (kind : ℕ) (ek : kind ≡ said (take 2 (drop (at + 4) bs))) where
-        pub open-zero : kind ≡ 0 → opening_from (drop at bs) ≡ no 21
+        pub open-zero : kind ≡ 0 → opening_from (drop at bs) ≡ no UnknownKind
         unfolding opening_from field and_then asked
         open-zero k =
             rw (number-got bs at 4 a l, le-leb 2 (said (take 4 (drop at bs))) (omega arith), number-got bs (at + 4) 2 (omega arith) (omega arith), lt-leb 1 (said (take 2 (drop (at + 4) bs))) (omega arith))
 
-        pub open-high : (kind ≡ 0 → ⊥) → 4 < kind → opening_from (drop at bs) ≡ no 21
+        pub open-high : (kind ≡ 0 → ⊥) → 4 < kind → opening_from (drop at bs) ≡ no UnknownKind
         unfolding opening_from field and_then asked
         open-high z k =
             rw (
@@ -91,16 +93,15 @@ module _ (bs : List ℕ) (at : ℕ) (a : at ≤ length bs) where
             )
 
 -- what an opening's answer tells
-pub opened-no : (p : Part Opening) (n : ℕ) → Opened.No n ≡ opened_of p → p ≡ no n
-opened-no (no m) n e = cc
-opened-no (got o r) n e = absurd (let z : ◌≡◌ {A = ℕ} 0 1 = cc in omega arith)
+pub opened-no : (p : Part Opening) (why : Refusal) → Err why ≡ opened_of p → p ≡ no why
+opened-no (no other) why e = cc
+opened-no (got o r) why e = cc
 
-opened-of : (p : Part Opening) (l k : ℕ) → Opened.Of l k ≡ opened_of p → (r : List ℕ) × (p ≡ got (record { len = l; kind = k }) r)
-opened-of (no m) l k e = absurd (let z : ◌≡◌ {A = ℕ} 0 1 = cc in omega arith)
-opened-of (got o r) l k e =
-    let a : l ≡ o.len = cc in
-    let b : k ≡ o.kind = cc in
-    (r, ap (λ (x : ℕ). got (record { len = x; kind = o.kind }) r) (sym a) ∙ ap (λ (x : ℕ). got (record { len = l; kind = x }) r) (sym b))
+opened-of : (p : Part Opening) (o : Opened) → Ok o ≡ opened_of p → (r : List ℕ) × (p ≡ got (record { len = o.len; kind = o.kind }) r)
+opened-of (no why) o e = cc
+opened-of (got x r) o e =
+    let q : record { len = x.len; kind = x.kind } ≡ o = cc in
+    (r, ap (λ (y : Opened). got (record { len = y.len; kind = y.kind }) r) q)
 
 pub opening-rest : (bs : List ℕ) (at : ℕ) (o : Opening) (r : List ℕ) → opening_from (drop at bs) ≡ got o r → (6 ≤ length bs - at) × (r ≡ drop (at + 6) bs)
 unfolding opening_from field
@@ -112,40 +113,40 @@ opening-rest bs at o r e =
     let q : i.r ≡ drop (at + 4) bs = sym g.1 ∙ f.1 in
     let k = then-inv (number 2 i.r) _ o r i.next in
     let h = number-inv bs (at + 4) 2 k.x k.r (ap (number 2) (sym q) ∙ k.part) in
-    let c = same-part (cond-inv (leb 1 k.x && leb k.x 4) 21 (got (record { len = i.x; kind = k.x }) k.r) o r k.next).1 in
+    let c = same-part (cond-inv (leb 1 k.x && leb k.x 4) UnknownKind (got (record { len = i.x; kind = k.x }) k.r) o r k.next).1 in
     (omega (arith, f.0, h.0), sym c.1 ∙ h.1 ∙ ap (λ (n : ℕ). drop n bs) {x = at + 4 + 2} {y = at + 6} (omega arith))
 
 pub record OpenedAt (bs : List ℕ) (at l k : ℕ) : Type 0 where
   pub inside : 6 ≤ length bs - at
   pub is : opening_from (drop at bs) ≡ got (record { len = l; kind = k }) (drop (at + 6) bs)
 
-pub opened-at : (bs : List ℕ) (at l k : ℕ) → Opened.Of l k ≡ opened_of (opening_from (drop at bs)) → OpenedAt bs at l k
-opened-at bs at l k e =
-    let p = opened-of (opening_from (drop at bs)) l k e in
-    let q = opening-rest bs at (record { len = l; kind = k }) p.0 p.1 in
-    record { inside = q.0; is = p.1 ∙ ap (λ (r : List ℕ). got (record { len = l; kind = k }) r) q.1 }
+pub opened-at : (bs : List ℕ) (at : ℕ) (o : Opened) → Ok o ≡ opened_of (opening_from (drop at bs)) → OpenedAt bs at o.len o.kind
+opened-at bs at o e =
+    let p = opened-of (opening_from (drop at bs)) o e in
+    let q = opening-rest bs at (record { len = o.len; kind = o.kind }) p.0 p.1 in
+    record { inside = q.0; is = p.1 ∙ ap (λ (r : List ℕ). got (record { len = o.len; kind = o.kind }) r) q.1 }
 
 -- ---- the header
 
 module _ (bs : List ℕ) where
-  pub header-no : (n : ℕ) → opening_from (drop 0 bs) ≡ no n → header_from bs ≡ no n
+  pub header-no : (why : Refusal) → opening_from (drop 0 bs) ≡ no why → header_from bs ≡ no why
   unfolding header_from and_then
-  header-no n e = rw e
+  header-no why e = rw e
 
   module _ (l k : ℕ) (o : OpenedAt bs 0 l k) where
-    pub header-kind : (k ≡ 1 → ⊥) → header_from bs ≡ no 22
+    pub header-kind : (k ≡ 1 → ⊥) → header_from bs ≡ no BadFile
     unfolding header_from and_then asked
     header-kind f = rw (o.is, ne_eqb k 1 f)
 
-    pub header-len : k ≡ 1 → (l ≡ 6 → ⊥) → header_from bs ≡ no 22
+    pub header-len : k ≡ 1 → (l ≡ 6 → ⊥) → header_from bs ≡ no BadFile
     unfolding header_from and_then asked
     header-len e f = rw (o.is, eq-eqb k 1 e, ne_eqb l 6 f)
 
-    pub header-ends : k ≡ 1 → l ≡ 6 → length bs < 10 → header_from bs ≡ no 20
+    pub header-ends : k ≡ 1 → l ≡ 6 → length bs < 10 → header_from bs ≡ no FileEnds
     unfolding header_from and_then asked
     header-ends e f h = go (ltb (length bs) 8) refl
       where
-        go : (t : Bool) → ltb (length bs) 8 ≡ t → header_from bs ≡ no 20
+        go : (t : Bool) → ltb (length bs) 8 ≡ t → header_from bs ≡ no FileEnds
         go true q = rw (o.is, eq-eqb k 1 e, eq-eqb l 6 f, number-ends bs 6 2 (omega (arith, ltb-true (length bs) 8 q)))
         go false q =
             let g : 8 ≤ length bs = ltb-false (length bs) 8 q in
@@ -158,22 +159,22 @@ module _ (bs : List ℕ) where
 -- ---- a word
 
 module _ (d : ℕ) (before bs : List ℕ) (at : ℕ) where
-  pub word-no : (n : ℕ) → opening_from (drop at bs) ≡ no n → word_from d before (drop at bs) ≡ no n
+  pub word-no : (why : Refusal) → opening_from (drop at bs) ≡ no why → word_from d before (drop at bs) ≡ no why
   unfolding word_from and_then
-  word-no n e = rw e
+  word-no why e = rw e
 
   module _ (l k : ℕ) (o : OpenedAt bs at l k) where
-    pub word-kind : (k ≡ 2 → ⊥) → word_from d before (drop at bs) ≡ no 22
+    pub word-kind : (k ≡ 2 → ⊥) → word_from d before (drop at bs) ≡ no BadFile
     unfolding word_from and_then asked
     word-kind f = rw (o.is, ne_eqb k 2 f)
 
     module _ (e : k ≡ 2) where
-      pub word_len : (l ≡ 2 + (d + 1) * 4 → ⊥) → word_from d before (drop at bs) ≡ no 22
+      pub word_len : (l ≡ 2 + (d + 1) * 4 → ⊥) → word_from d before (drop at bs) ≡ no BadFile
       unfolding word_from and_then asked
       word_len f = rw (o.is, eq-eqb k 2 e, ne_eqb l (2 + (d + 1) * 4) f)
 
       module _ (f : l ≡ 2 + (d + 1) * 4) where
-        pub word-ends : length bs - at < 6 + (d + 1) * 4 → word_from d before (drop at bs) ≡ no 20
+        pub word-ends : length bs - at < 6 + (d + 1) * 4 → word_from d before (drop at bs) ≡ no FileEnds
         unfolding word_from and_then asked numbers
         word-ends h = rw (o.is, eq-eqb k 2 e, eq-eqb l (2 + (d + 1) * 4) f, lt-ltb (length (drop (at + 6) bs)) ((d + 1) * 4) (omega (arith, length-drop (at + 6) bs, o.inside)))
 
@@ -188,7 +189,7 @@ module _ (d : ℕ) (before bs : List ℕ) (at : ℕ) where
           unfolding asked
           word_got t = word-asked ∙ rw t
 
-          pub word-bad : follows d before (fours_of (d + 1) (drop (at + 6) bs)) ≡ false → word_from d before (drop at bs) ≡ no 22
+          pub word-bad : follows d before (fours_of (d + 1) (drop (at + 6) bs)) ≡ false → word_from d before (drop at bs) ≡ no BadFile
           unfolding asked
           word-bad t = word-asked ∙ rw t
 

@@ -1,4 +1,6 @@
 -- One turn of the loop over the births. Assumes nothing.
+use Rattle.refusal.specs.declared.Refusal.{Refusal}
+use Rattle.std.specs.Prelude.{Ok, Err, Result, Some, None}
 use mathlib.Core.Path.{◌≡◌, refl, sym, ap, subst, ◌∙◌}
 use mathlib.Core.Bool.{Bool, true, false, cond, ◌&&◌}
 use mathlib.Core.List.{List}
@@ -11,9 +13,7 @@ use Rattle.file_mesh.specs.Rules.{more, number_fits, refinement_fits, count_fits
 use Rattle.file_mesh.specs.Read.{Part, no, got, and_then, asked, number, field, Opening, opening_from, pairs_from, Birth, birth_from, Births, no_births, with_birth, births_read_from, nothing}
 use Rattle.file_mesh.proofs.Parts.{same-part, then-inv, asked-inv}
 use Rattle.file_mesh_read.specs.declared.Born.{Born}
-use Rattle.file_mesh_read.specs.declared.Born.TheVariants as Born
 use Rattle.file_mesh_read.specs.declared.Counts.{Counts}
-use Rattle.file_mesh_read.specs.declared.Counts.TheVariants as Counts
 use Rattle.file_mesh_read.specs.Work.{Next, one, end, next_from, next_of, counts_of}
 use Rattle.file_mesh_read.proofs.Parts.{number-inv, opening-rest}
 
@@ -84,8 +84,8 @@ after most vertices run (one b) s = and_then (births_read_from most vertices (mo
 module _ (most vertices : ℕ) (run : Run) where
   by-birth : (p : Part Birth) (t : Bool) → asked t (and_then p (λ b s. and_then (births_read_from most vertices (more run b.number b.r) s) (λ l u. got (with_birth b l) u))) ≡ and_then (asked t (and_then p (λ b s. got (one b) s))) (after most vertices run)
   unfolding and_then asked
-  by-birth (no n) true = refl
-  by-birth (no n) false = refl
+  by-birth (no why) true = refl
+  by-birth (no why) false = refl
   by-birth (got b s) true = refl
   by-birth (got b s) false = refl
 
@@ -105,33 +105,35 @@ module _ (most vertices : ℕ) (run : Run) where
   by-record bs = go (opening_from bs) refl
     where
       go : (p : Part Opening) → opening_from bs ≡ p → births_read_from (suc most) vertices run bs ≡ and_then (next_from vertices run bs) (after most vertices run)
-      go (no n) e = rw e
+      go (no why) e = rw e
       go (got o r) e = rw e (by_kind (eqb o.kind 4) (birth_from vertices run o.len r) (eqb o.len 2 && (run_ends vertices run && nothing r)) (eqb o.kind 3 && (leb 10 o.len && eqb ((o.len - 10) % 6) 0)) r)
 
 -- ---- what the answer on a record tells
 
-next-refused : (p : Part Next) (x : ℕ) → Born.No x ≡ next_of p → p ≡ no x
-next-refused (no n) x e = cc
-next-refused (got (one b) r) x e = absurd (let z : ◌≡◌ {A = ℕ} 0 1 = cc in omega arith)
-next-refused (got end r) x e = absurd (let z : ◌≡◌ {A = ℕ} 0 1 = cc in omega arith)
+next-refused : (p : Part Next) (why : Refusal) → Err why ≡ next_of p → p ≡ no why
+next-refused (no other) why e = cc
+next-refused (got (one b) r) why e = cc
+next-refused (got end r) why e = cc
 
-next-ended : (p : Part Next) → Born.End ≡ next_of p → (r : List ℕ) × (p ≡ got end r)
-next-ended (no n) e = absurd (let z : ◌≡◌ {A = ℕ} 0 1 = cc in omega arith)
-next-ended (got (one b) r) e = absurd (let z : ◌≡◌ {A = ℕ} 0 1 = cc in omega arith)
+next-ended : (p : Part Next) → Ok None ≡ next_of p → (r : List ℕ) × (p ≡ got end r)
+next-ended (no why) e = cc
+next-ended (got (one b) r) e = cc
 next-ended (got end r) e = (r, refl)
 
-record IsOne (p : Part Next) (n r c : ℕ) : Type 0 where
+record IsOne (p : Part Next) (found : Born) : Type 0 where
   pub b : Birth
   pub s : List ℕ
   pub is : p ≡ got (one b) s
-  pub number : b.number ≡ n
-  pub refinement : b.r ≡ r
-  pub count : b.count ≡ c
+  pub number : b.number ≡ found.number
+  pub refinement : b.r ≡ found.r
+  pub count : b.count ≡ found.count
 
-next_one : (p : Part Next) (n r c : ℕ) → Born.Of n r c ≡ next_of p → IsOne p n r c
-next_one (no m) n r c e = absurd (let z : ◌≡◌ {A = ℕ} 0 1 = cc in omega arith)
-next_one (got (one b) s) n r c e = record { b = b; s = s; is = refl; number = cc; refinement = cc; count = cc }
-next_one (got end s) n r c e = absurd (let z : ◌≡◌ {A = ℕ} 0 1 = cc in omega arith)
+next_one : (p : Part Next) (found : Born) → Ok (Some found) ≡ next_of p → IsOne p found
+next_one (no why) found e = cc
+next_one (got (one b) s) found e =
+    let q : record { number = b.number; r = b.r; count = b.count } ≡ found = cc in
+    record { b = b; s = s; is = refl; number = ap (λ (x : Born). x.number) q; refinement = ap (λ (x : Born). x.r) q; count = ap (λ (x : Born). x.count) q }
+next_one (got end s) found e = cc
 
 -- a birth that was read, after the opening of its record
 pub record NextBirth (vertices : ℕ) (run : Run) (bs : List ℕ) (at : ℕ) (b : Birth) (s : List ℕ) : Type 0 where
@@ -164,20 +166,20 @@ next-rest vertices run bs at b s e =
 
 -- ---- the counts so far
 
-abbrev pub counted : ℕ → ℕ → Part Births → Counts
-counted many pairs (no n) = Counts.No n
-counted many pairs (got l r) = Counts.Of (many + length l.births / 3) (pairs + length l.pairs / 2)
+abbrev pub counted : ℕ → ℕ → Part Births → Result Counts Refusal
+counted many pairs (no why) = Err why
+counted many pairs (got l r) = Ok (record { births = many + length l.births / 3; pairs = pairs + length l.pairs / 2 })
 
-two-of : (a b c d : ℕ) → a ≡ c → b ≡ d → Counts.Of a b ≡ Counts.Of c d
-two-of a b c d e f = ap (λ (x : ℕ). Counts.Of x b) e ∙ ap (λ (x : ℕ). Counts.Of c x) f
+two-of : (a b c d : ℕ) → a ≡ c → b ≡ d → ◌≡◌ {A = Result Counts Refusal} (Ok (record { births = a; pairs = b })) (Ok (record { births = c; pairs = d }))
+two-of a b c d e f = rw (e, f)
 
 pub counted_none : (p : Part Births) → counts_of p ≡ counted 0 0 p
-counted_none (no n) = refl
+counted_none (no why) = refl
 counted_none (got l r) = two-of _ _ _ _ (omega arith) (omega arith)
 
 counted-more : (many pairs : ℕ) (b : Birth) (p : Part Births) → length b.pairs ≡ b.count + b.count → counted many pairs (and_then p (λ l t. got (with_birth b l) t)) ≡ counted (many + 1) (pairs + b.count) p
 unfolding and_then
-counted-more many pairs b (no n) e = refl
+counted-more many pairs b (no why) e = refl
 counted-more many pairs b (got l r) e = two-of _ _ _ _ (omega arith) (omega (arith, length-append b.pairs l.pairs))
 
 module _ (vertices : ℕ) (run : Run) (bs : List ℕ) (at many pairs : ℕ) (a : at ≤ length bs) (fit : 10 + many * 14 ≤ at) where
@@ -187,38 +189,38 @@ module _ (vertices : ℕ) (run : Run) (bs : List ℕ) (at many pairs : ℕ) (a :
   step : births_read_from (length bs - many) vertices run (drop at bs) ≡ and_then (next_from vertices run (drop at bs)) (after (length bs - (many + 1)) vertices run)
   step = ap (λ (n : ℕ). births_read_from n vertices run (drop at bs)) fuel ∙ by-record (length bs - (many + 1)) vertices run (drop at bs)
 
-  pub births-refused : (x : ℕ) → Born.No x ≡ next_of (next_from vertices run (drop at bs)) → counted many pairs (births_read_from (length bs - many) vertices run (drop at bs)) ≡ Counts.No x
+  pub births-refused : (why : Refusal) → Err why ≡ next_of (next_from vertices run (drop at bs)) → counted many pairs (births_read_from (length bs - many) vertices run (drop at bs)) ≡ Err why
   unfolding and_then
-  births-refused x e = ap (counted many pairs) step ∙ rw (next-refused (next_from vertices run (drop at bs)) x e)
+  births-refused why e = ap (counted many pairs) step ∙ rw (next-refused (next_from vertices run (drop at bs)) why e)
 
-  pub births-ended : Born.End ≡ next_of (next_from vertices run (drop at bs)) → counted many pairs (births_read_from (length bs - many) vertices run (drop at bs)) ≡ Counts.Of many pairs
+  pub births-ended : Ok None ≡ next_of (next_from vertices run (drop at bs)) → counted many pairs (births_read_from (length bs - many) vertices run (drop at bs)) ≡ Ok (record { births = many; pairs = pairs })
   unfolding and_then
   births-ended e =
       let n = next-ended (next_from vertices run (drop at bs)) e in
       ap (counted many pairs) step ∙ rw n.1 (two-of _ _ _ _ (omega arith) (omega arith))
 
-  module _ (n r c : ℕ) (e : Born.Of n r c ≡ next_of (next_from vertices run (drop at bs))) where
-    found : IsOne (next_from vertices run (drop at bs)) n r c
-    found = next_one (next_from vertices run (drop at bs)) n r c e
+  module _ (born : Born) (e : Ok (Some born) ≡ next_of (next_from vertices run (drop at bs))) where
+    found : IsOne (next_from vertices run (drop at bs)) born
+    found = next_one (next_from vertices run (drop at bs)) born e
 
     left : (6 ≤ length bs - at) × BirthRest bs (at + 6) found.b found.s
     left = next-rest vertices run bs at found.b found.s found.is
 
-    pub birth-inside : at + 14 + c * 6 ≤ length bs
+    pub birth-inside : at + 14 + born.count * 6 ≤ length bs
     birth-inside =
         let q = ap (λ (x : ℕ). x * 6) found.count in
         omega (arith, left.0, left.1.inside)
 
-    rest-is : found.s ≡ drop (at + 14 + c * 6) bs
+    rest-is : found.s ≡ drop (at + 14 + born.count * 6) bs
     rest-is =
         let q = ap (λ (x : ℕ). x * 6) found.count in
-        left.1.rest ∙ ap (λ (x : ℕ). drop x bs) {x = at + 6 + (8 + found.b.count * 6)} {y = at + 14 + c * 6} (omega arith)
+        left.1.rest ∙ ap (λ (x : ℕ). drop x bs) {x = at + 6 + (8 + found.b.count * 6)} {y = at + 14 + born.count * 6} (omega arith)
 
-    run_is : more run found.b.number found.b.r ≡ more run n r
-    run_is = ap (λ (x : ℕ). more run x found.b.r) found.number ∙ ap (λ (x : ℕ). more run n x) found.refinement
+    run_is : more run found.b.number found.b.r ≡ more run born.number born.r
+    run_is = ap (λ (x : ℕ). more run x found.b.r) found.number ∙ ap (λ (x : ℕ). more run born.number x) found.refinement
 
-    pub births-more : (next : Run) → next ≡ more run n r →
-        counted many pairs (births_read_from (length bs - many) vertices run (drop at bs)) ≡ counted (many + 1) (pairs + c) (births_read_from (length bs - (many + 1)) vertices next (drop (at + 14 + c * 6) bs))
+    pub births-more : (next : Run) → next ≡ more run born.number born.r →
+        counted many pairs (births_read_from (length bs - many) vertices run (drop at bs)) ≡ counted (many + 1) (pairs + born.count) (births_read_from (length bs - (many + 1)) vertices next (drop (at + 14 + born.count * 6) bs))
     unfolding and_then
     births-more next q =
         let f = length bs - (many + 1) in
@@ -226,5 +228,5 @@ module _ (vertices : ℕ) (run : Run) (bs : List ℕ) (at many pairs : ℕ) (a :
         ∙ rw found.is
         (counted-more many pairs found.b (births_read_from f vertices (more run found.b.number found.b.r) found.s) left.1.long
         ∙ ap (λ (x : ℕ). counted (many + 1) (pairs + x) (births_read_from f vertices (more run found.b.number found.b.r) found.s)) found.count
-        ∙ ap (λ (x : Run). counted (many + 1) (pairs + c) (births_read_from f vertices x found.s)) (run_is ∙ sym q)
-        ∙ ap (λ (x : List ℕ). counted (many + 1) (pairs + c) (births_read_from f vertices next x)) rest-is)
+        ∙ ap (λ (x : Run). counted (many + 1) (pairs + born.count) (births_read_from f vertices x found.s)) (run_is ∙ sym q)
+        ∙ ap (λ (x : List ℕ). counted (many + 1) (pairs + born.count) (births_read_from f vertices next x)) rest-is)

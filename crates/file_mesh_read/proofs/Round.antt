@@ -1,15 +1,15 @@
 -- Writing and reading, over the promises of the two calls. Assumes nothing.
+use Rattle.refusal.proofs.Chain.{fine-refused}
+use Rattle.refusal.specs.declared.Refusal.{Refusal}
+use Rattle.refusal.specs.Says.{Counted, fine}
+use Rattle.std.specs.Prelude.{Err, Ok, Result}
 use mathlib.Core.Path.{◌≡◌, refl, sym, ap, subst, ◌∙◌}
 use mathlib.Core.Bool.{true}
 use mathlib.Core.List.{List, []}
-use Prim.Native.Nat.{ℕ, ◌+◌, ◌/◌, ◌≤◌}
+use Prim.Native.Nat.{ℕ, ◌≤◌}
 use native.Mathlib.Omega.{arith}
 use lib.ListN.{length, take, drop}
 use lib.Seq.{take_at}
-use Rattle.refusal.specs.declared.Answer.{Answer}
-use Rattle.refusal.specs.declared.Answer.TheVariants as Answer
-use Rattle.refusal.specs.declared.Counted.{Counted}
-use Rattle.refusal.specs.declared.Counted.TheVariants as Counted
 use Rattle.refusal.specs.declared.Room.{Room}
 use Rattle.refusal.specs.Lent.{onto, lengths, Roomy}
 use Rattle.refusal.specs.Call.{Comes, refused, cramped, ended}
@@ -31,24 +31,23 @@ use Rattle.file_mesh.proofs.Written.{Held, written_read}
 use Rattle.file_mesh.proofs.Accepted.{read-written}
 use Rattle.file_mesh_write.specs.Promise.{Writes, broken, short, written, MeshWritten}
 use Rattle.file_mesh_read.specs.declared.Reading.{Reading}
-use Rattle.file_mesh_read.specs.declared.Reading.TheVariants.{Read, Refused}
-use Rattle.file_mesh_read.specs.Promise.{mesh_in, refused_in, Lists, none, Gives, crowded, words_short, births_short, pairs_short, read, MeshRead}
+use Rattle.file_mesh_read.specs.Promise.{reading, mesh_in, refused_in, Lists, none, Gives, crowded, words_short, births_short, pairs_short, read, MeshRead}
 
 -- what a mesh that was written has
 pub record Sent (m : Mesh) (n : ℕ) (h : List ℕ) : Type 0 where
-  pub fine : answer_of m.d m.words ≡ Answer.Fine
+  pub fine : answer_of m.d m.words ≡ fine
   pub sound : Crowded m.d (cells_of m.d m.words) → ⊥
   pub kept : rules m ≡ true
   pub bytes : h ≡ file_of m
   pub size : n ≡ length (file_of m)
 
 sent : (m : Mesh) (given n : ℕ) (need have : Room) (r : Counted) (h : List ℕ) (used : Room) →
-    Comes Counted.Refused [] (answer_of m.d m.words) need have (Ends [] m.d (cells_of m.d m.words) (Writes m given)) r h used → r ≡ Counted.Count n → Sent m n h
-sent m given n need have r h used (refused e) q = absurd (let z : ◌≡◌ {A = ℕ} 0 1 = cc in omega arith)
-sent m given n need have r h used (cramped e g) q = absurd (let z : ◌≡◌ {A = ℕ} 0 1 = cc in omega arith)
-sent m given n need have r h used (ended e g (Skeleton.crowded x)) q = absurd (let z : ◌≡◌ {A = ℕ} 0 1 = cc in omega arith)
-sent m given n need have r h used (ended e g (Skeleton.rest y (broken k))) q = absurd (let z : ◌≡◌ {A = ℕ} 0 1 = cc in omega arith)
-sent m given n need have r h used (ended e g (Skeleton.rest y (short k l))) q = absurd (let z : ◌≡◌ {A = ℕ} 0 1 = cc in omega arith)
+    Comes Err [] (answer_of m.d m.words) need have (Ends [] m.d (cells_of m.d m.words) (Writes m given)) r h used → r ≡ Ok n → Sent m n h
+sent m given n need have r h used (refused e) q = cc
+sent m given n need have r h used (cramped e g) q = cc
+sent m given n need have r h used (ended e g (Skeleton.crowded x)) q = cc
+sent m given n need have r h used (ended e g (Skeleton.rest y (broken k))) q = cc
+sent m given n need have r h used (ended e g (Skeleton.rest y (short k l))) q = cc
 sent m given n need have r h used (ended e g (Skeleton.rest y (written k l))) q = record { fine = e; sound = y; kept = k; bytes = refl; size = cc }
 
 -- a file has room for the lists of a mesh whose cells are checked
@@ -61,9 +60,9 @@ passed-held m p =
       small = All-of Four m.words (λ i h. omega (arith, below-largest m.words i, p.low));
     }
 
-module _ (m : Mesh) (n : ℕ) (bytes bytes' keys keys' rows rows' spare spare' counts counts' : List ℕ) (w : MeshWritten m (Counted.Count n) bytes bytes' keys keys' rows rows' spare spare' counts counts') where
+module _ (m : Mesh) (n : ℕ) (bytes bytes' keys keys' rows rows' spare spare' counts counts' : List ℕ) (w : MeshWritten m (Ok n) bytes bytes' keys keys' rows rows' spare spare' counts counts') where
   pub was-sent : Sent m n w.handed
-  was-sent = sent m (length bytes) n _ _ (Counted.Count n) w.handed w.call.used w.call.comes refl
+  was-sent = sent m (length bytes) n _ _ (Ok n) w.handed w.call.used w.call.comes refl
 
   -- the bytes that were written are the file of the mesh
   pub file-written : take n bytes' ≡ file_of m
@@ -77,8 +76,8 @@ module _ (m : Mesh) (n : ℕ) (bytes bytes' keys keys' rows rows' spare spare' c
 
 -- ---- the call that reads
 
-gives-read : (m : Mesh) (given : Lists) (r : Reading) (h : Lists) → Gives m given r h → (Crowded m.d (cells_of m.d m.words) → ⊥) → length m.words ≤ length given.words → length m.births ≤ length given.births → length m.pairs ≤ length given.pairs →
-    (r ≡ Read m.d (length m.words / (m.d + 1)) (length m.births / 3) (length m.pairs / 2)) × (h ≡ record { words = m.words; births = m.births; pairs = m.pairs })
+gives-read : (m : Mesh) (given : Lists) (r : Result Reading Refusal) (h : Lists) → Gives m given r h → (Crowded m.d (cells_of m.d m.words) → ⊥) → length m.words ≤ length given.words → length m.births ≤ length given.births → length m.pairs ≤ length given.pairs →
+    (r ≡ Ok (reading m)) × (h ≡ record { words = m.words; births = m.births; pairs = m.pairs })
 gives-read m given r h (crowded x) f a b c = absurd (f x)
 gives-read m given r h (words_short f x) _ a b c = absurd (omega arith)
 gives-read m given r h (births_short f x) _ a b c = absurd (omega arith)
@@ -86,23 +85,23 @@ gives-read m given r h (pairs_short f x) _ a b c = absurd (omega arith)
 gives-read m given r h (read f x y z) _ a b c = (refl, refl)
 
 -- with room and long enough lists a file that is read as m, whose cells are fine, hands out m's lists
-module _ (m : Mesh) (rest bytes : List ℕ) (r : Reading) (words words' births births' pairs pairs' keys keys' rows rows' spare spare' counts counts' : List ℕ)
+module _ (m : Mesh) (rest bytes : List ℕ) (r : Result Reading Refusal) (words words' births births' pairs pairs' keys keys' rows rows' spare spare' counts counts' : List ℕ)
     (k : MeshRead bytes r words words' births births' pairs pairs' keys keys' rows rows' spare spare' counts counts') (e : read_file bytes ≡ got m rest)
-    (fine : answer_of m.d m.words ≡ Answer.Fine) (sound : Crowded m.d (cells_of m.d m.words) → ⊥)
+    (fine : answer_of m.d m.words ≡ fine) (sound : Crowded m.d (cells_of m.d m.words) → ⊥)
     (room : Roomy (need_of m.d (length m.words)) (lengths keys rows spare counts))
     (a : length m.words ≤ length words) (b : length m.births ≤ length births) (c : length m.pairs ≤ length pairs) where
-  go : (r' : Reading) (h : Lists) (used : Room) → Comes Refused none (answer_of m.d m.words) (need_of m.d (length m.words)) (lengths keys rows spare counts) (Gives m (record { words = words; births = births; pairs = pairs })) r' h used →
-      (r' ≡ Read m.d (length m.words / (m.d + 1)) (length m.births / 3) (length m.pairs / 2)) × (h ≡ record { words = m.words; births = m.births; pairs = m.pairs })
-  go r' h used (refused q) = absurd (let z : ◌≡◌ {A = ℕ} 0 1 = cc in omega arith)
+  go : (r' : Result Reading Refusal) (h : Lists) (used : Room) → Comes Err none (answer_of m.d m.words) (need_of m.d (length m.words)) (lengths keys rows spare counts) (Gives m (record { words = words; births = births; pairs = pairs })) r' h used →
+      (r' ≡ Ok (reading m)) × (h ≡ record { words = m.words; births = m.births; pairs = m.pairs })
+  go r' h used (refused {why = why} q) = absurd (fine-refused why (sym q ∙ fine))
   go r' h used (cramped q g) = absurd (g room)
   go r' h used (ended q g x) = gives-read m (record { words = words; births = births; pairs = pairs }) r' h x sound a b c
 
-  same : (r ≡ Read m.d (length m.words / (m.d + 1)) (length m.births / 3) (length m.pairs / 2)) × (k.handed ≡ record { words = m.words; births = m.births; pairs = m.pairs })
+  same : (r ≡ Ok (reading m)) × (k.handed ≡ record { words = m.words; births = m.births; pairs = m.pairs })
   same =
       go r k.handed k.used
-      (subst (λ (p : Part Mesh). Comes Refused none (refused_in p) (need_of (mesh_in p).d (length (mesh_in p).words)) (lengths keys rows spare counts) (Gives (mesh_in p) (record { words = words; births = births; pairs = pairs })) r k.handed k.used) e k.comes)
+      (subst (λ (p : Part Mesh). Comes Err none (refused_in p) (need_of (mesh_in p).d (length (mesh_in p).words)) (lengths keys rows spare counts) (Gives (mesh_in p) (record { words = words; births = births; pairs = pairs })) r k.handed k.used) e k.comes)
 
-  pub read-says : r ≡ Read m.d (length m.words / (m.d + 1)) (length m.births / 3) (length m.pairs / 2)
+  pub read-says : r ≡ Ok (reading m)
   read-says = same.0
 
   pub read-words : words' ≡ onto m.words words

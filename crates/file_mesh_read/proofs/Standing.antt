@@ -1,8 +1,9 @@
 -- The births of a file that was read are those that stand in its bytes, and how many they are. Assumes nothing.
+use Rattle.refusal.specs.declared.Refusal.TheVariants.{FileEnds}
 use mathlib.Core.Path.{◌≡◌, refl, sym, ap, subst, ◌∙◌}
 use mathlib.Core.Bool.{Bool, true, false, cond, ◌&&◌, ◌||◌}
 use mathlib.Core.List.{List, ◌∷◌}
-use Prim.Native.Nat.{ℕ, zero, suc, ◌+◌, ◌*◌, ◌-◌, ◌≤◌, ◌<◌}
+use Prim.Native.Nat.{ℕ, zero, suc, ◌+◌, ◌*◌, ◌≤◌, ◌<◌}
 use native.Mathlib.Omega.{arith}
 use lib.ListN.{length, take, drop, length-append}
 use lib.Dec.{leb, ltb, eqb}
@@ -23,7 +24,7 @@ number-told : (k : ℕ) (xs : List ℕ) (n : ℕ) (r : List ℕ) → number k xs
 unfolding number
 number-told k xs n r e = go (ltb (length xs) k) e
   where
-    go : (t : Bool) → cond t (no 20) (got (said (take k xs)) (drop k xs)) ≡ got n r → n ≡ said (take k xs)
+    go : (t : Bool) → cond t (no FileEnds) (got (said (take k xs)) (drop k xs)) ≡ got n r → n ≡ said (take k xs)
     go true q = absurd (refused-not q)
     go false q = sym (same-part q).0
 

@@ -1,6 +1,9 @@
 -- One turn of the loop over the words. Assumes nothing.
+use Rattle.refusal.specs.Says.{fine}
+use Rattle.refusal.specs.declared.Refusal.{Refusal}
+use Rattle.std.specs.Prelude.{Ok, Err, Result}
 use mathlib.Core.Path.{◌≡◌, refl, sym, ap, ◌∙◌}
-use mathlib.Core.Bool.{Bool, true, false, cond, ◌&&◌}
+use mathlib.Core.Bool.{Bool, true, false, ◌&&◌}
 use mathlib.Core.List.{List, [], ◌∷◌, ◌++◌}
 use Prim.Native.Nat.{ℕ, suc, ◌+◌, ◌*◌, ◌-◌, ◌≤◌, ◌<◌, max}
 use native.Mathlib.Nat.{suc-mul}
@@ -8,60 +11,31 @@ use native.Mathlib.Numerals.{add-one}
 use native.Mathlib.Omega.{arith}
 use lib.ListN.{length, drop, length-drop}
 use lib.Seq.{drop-drop}
-use lib.Dec.{leb, ltb, eqb}
+use lib.Dec.{ltb, eqb}
 use borrow.Author.Tests.{ltb-false}
 use Rattle.file_bytes.specs.Bytes.{fours_of}
 use Rattle.file_mesh.specs.Mesh.{past}
 use Rattle.file_mesh.specs.Rules.{follows}
-use Rattle.file_mesh.specs.Read.{Part, no, got, and_then, number, field, numbers, Opening, opening_from, word_from, words_from}
+use Rattle.file_mesh.specs.Read.{Part, no, got, and_then, numbers, opening_from, word_from, words_from}
 use Rattle.file_mesh.proofs.Parts.{refused-not, same-part, then-inv, asked-inv}
-use Rattle.file_mesh_read.specs.declared.Worded.{Worded}
-use Rattle.file_mesh_read.specs.declared.Worded.TheVariants as Worded
 use Rattle.file_mesh_read.specs.Work.{refusal_of, worded_of, word_before}
 use Rattle.file_mesh_read.proofs.Parts.{opening-rest, before-some}
-use Rattle.file_mesh_read.proofs.Pairs.{Proper, proper-got, proper-then, proper-asked, proper-number, proper-field}
+use Rattle.refusal.proofs.Chain.{fine-refused}
 
--- ---- what a refusal's number tells
+-- ---- what the answer on a part tells
 
-pub refused-is : {A : Type 0} (p : Part A) (x : ℕ) → x ≡ refusal_of p → (x ≡ 0 → ⊥) → p ≡ no x
-refused-is (no n) x e f = ap no (sym e)
-refused-is (got y r) x e f = absurd (f e)
+pub refused-is : {A : Type 0} (p : Part A) (why : Refusal) → Err why ≡ refusal_of p → p ≡ no why
+refused-is (no other) why e = cc
+refused-is (got y r) why e = cc
 
 pub record Gotten {A : Type 0} (p : Part A) : Type 0 where
   pub x : A
   pub r : List ℕ
   pub is : p ≡ got x r
 
-pub read_is : {A : Type 0} (p : Part A) (x : ℕ) → Proper p → x ≡ refusal_of p → x ≡ 0 → Gotten p
-unfolding Proper
-read_is (no n) x a e z = absurd (a n refl (sym e ∙ z))
-read_is (got y r) x a e z = record { x = y; r = r; is = refl }
-
-proper-kind : (t : Bool) (o : Opening) (r : List ℕ) → Proper (cond t (got o r) (no 21))
-unfolding Proper
-proper-kind true o r n e z = let q : ◌≡◌ {A = ℕ} 0 1 = cc in omega arith
-proper-kind false o r n e z = let q : ◌≡◌ {A = ℕ} 21 n = cc in omega arith
-
-pub proper-opening : (bs : List ℕ) → Proper (opening_from bs)
-unfolding opening_from
-proper-opening bs =
-    proper-then (field 4 (λ n. leb 2 n) bs) _ (proper-field 4 (λ n. leb 2 n) bs) (λ n r.
-    proper-then (number 2 r) _ (proper-number 2 r) (λ k s. proper-kind (leb 1 k && leb k 4) (record { len = n; kind = k }) s))
-
-proper-numbers : (n : ℕ) (bs : List ℕ) → Proper (numbers n bs)
-unfolding Proper numbers
-proper-numbers n bs m e z = go (ltb (length bs) (n * 4)) e
-  where
-    go : (t : Bool) → ◌≡◌ {A = Part (List ℕ)} (cond t (no 20) (got (fours_of n bs) (drop (n * 4) bs))) (no m) → ⊥
-    go true q = let w : ◌≡◌ {A = ℕ} 20 m = cc in omega arith
-    go false q = let w : ◌≡◌ {A = ℕ} 0 1 = cc in omega arith
-
-proper-word : (d : ℕ) (before bs : List ℕ) → Proper (word_from d before bs)
-unfolding word_from
-proper-word d before bs =
-    proper-then (opening_from bs) _ (proper-opening bs) (λ o r.
-    proper-asked (eqb o.kind 2 && eqb o.len (2 + (d + 1) * 4)) _
-    (proper-then (numbers (d + 1) r) _ (proper-numbers (d + 1) r) (λ w s. proper-asked (follows d before w) (got w s) (proper-got w s))))
+pub read_is : {A : Type 0} (p : Part A) → fine ≡ refusal_of p → Gotten p
+read_is (no why) e = absurd (fine-refused why (sym e))
+read_is (got y r) e = record { x = y; r = r; is = refl }
 
 -- ---- a word that was read
 
@@ -90,13 +64,13 @@ word-rest d before bs at w r e =
 
 -- ---- the vertices so far
 
-abbrev pub topped : ℕ → Part (List ℕ) → Worded
-topped top (no n) = Worded.No n
-topped top (got ws r) = Worded.Past (max top (past ws))
+abbrev pub topped : ℕ → Part (List ℕ) → Result ℕ Refusal
+topped top (no why) = Err why
+topped top (got ws r) = Ok (max top (past ws))
 
 pub topped-none : (p : Part (List ℕ)) → worded_of p ≡ topped 0 p
-topped-none (no n) = refl
-topped-none (got ws r) = ap Worded.Past {x = past ws} {y = max 0 (past ws)} (omega arith)
+topped-none (no why) = refl
+topped-none (got ws r) = ap Ok {x = past ws} {y = max 0 (past ws)} (omega arith)
 
 past-append : (v w : List ℕ) → past (v ++ w) ≡ max (past v) (past w)
 unfolding past
@@ -105,8 +79,8 @@ past-append (x ∷ v) w = omega (arith, past-append v w)
 
 topped-more : (top : ℕ) (w : List ℕ) (p : Part (List ℕ)) → topped top (and_then p (λ ws s. got (w ++ ws) s)) ≡ topped (max top (past w)) p
 unfolding and_then
-topped-more top w (no n) = refl
-topped-more top w (got ws r) = ap Worded.Past {x = max top (past (w ++ ws))} {y = max (max top (past w)) (past ws)} (omega (arith, past-append w ws))
+topped-more top w (no why) = refl
+topped-more top w (got ws r) = ap Ok {x = max top (past (w ++ ws))} {y = max (max top (past w)) (past ws)} (omega (arith, past-append w ws))
 
 -- where word k begins
 abbrev pub place : ℕ → ℕ → ℕ
@@ -119,13 +93,13 @@ module _ (d count k : ℕ) (bs : List ℕ) (h : k < count) where
   one_more : count - k ≡ suc (count - (k + 1))
   one_more = omega arith
 
-  pub words-refused : (top x : ℕ) → x ≡ refusal_of (word_from d before (drop (place d k) bs)) → (x ≡ 0 → ⊥) → topped top (words_from d (count - k) before (drop (place d k) bs)) ≡ Worded.No x
+  pub words-refused : (top : ℕ) (why : Refusal) → Err why ≡ refusal_of (word_from d before (drop (place d k) bs)) → topped top (words_from d (count - k) before (drop (place d k) bs)) ≡ Err why
   unfolding words_from and_then
-  words-refused top x e f = rw (one_more, refused-is (word_from d before (drop (place d k) bs)) x e f)
+  words-refused top why e = rw (one_more, refused-is (word_from d before (drop (place d k) bs)) why e)
 
-  module _ (x : ℕ) (e : x ≡ refusal_of (word_from d before (drop (place d k) bs))) (z : x ≡ 0) where
+  module _ (e : fine ≡ refusal_of (word_from d before (drop (place d k) bs))) where
     found : Gotten (word_from d before (drop (place d k) bs))
-    found = read_is (word_from d before (drop (place d k) bs)) x (proper-word d before (drop (place d k) bs)) e z
+    found = read_is (word_from d before (drop (place d k) bs)) e
 
     pub word-inside : 6 + (d + 1) * 4 ≤ length bs - place d k
     word-inside = (word-rest d before bs (place d k) found.x found.r found.is).0
@@ -157,8 +131,8 @@ module _ (d count k : ℕ) (bs : List ℕ) (h : k < count) where
         ∙ ap (λ (n : ℕ). topped n (words_from d (count - (k + 1)) w (drop (place d (k + 1)) bs))) (sym t)
         ∙ ap (λ (l : List ℕ). topped top' (words_from d (count - (k + 1)) l (drop (place d (k + 1)) bs))) w-before)
 
-pub words-done : (d count k top : ℕ) (before bs : List ℕ) → count ≤ k → topped top (words_from d (count - k) before bs) ≡ Worded.Past top
+pub words-done : (d count k top : ℕ) (before bs : List ℕ) → count ≤ k → topped top (words_from d (count - k) before bs) ≡ Ok top
 unfolding words_from past
 words-done d count k top before bs h =
     let e : count - k ≡ 0 = omega arith in
-    rw e (ap Worded.Past {x = max top 0} {y = top} (omega arith))
+    rw e (ap Ok {x = max top 0} {y = top} (omega arith))

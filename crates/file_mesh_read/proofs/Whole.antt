@@ -1,8 +1,10 @@
 -- The whole file: its header, its words, and its births. Assumes nothing.
+use Rattle.refusal.specs.declared.Refusal.{Refusal}
+use Rattle.std.specs.Prelude.{Ok, Err}
 use mathlib.Core.Path.{◌≡◌, refl, sym, ap, ◌∙◌}
 use mathlib.Core.Bool.{◌&&◌}
 use mathlib.Core.List.{List, []}
-use Prim.Native.Nat.{ℕ, zero, suc, ◌+◌, ◌*◌, ◌-◌, ◌/◌, ◌≤◌}
+use Prim.Native.Nat.{ℕ, zero, suc, ◌+◌, ◌*◌, ◌/◌, ◌≤◌}
 use native.Mathlib.Nat.{suc-mul, div-eq_of_eq-mul_left}
 use native.Mathlib.Omega.{arith}
 use lib.ListN.{length, drop, length-append}
@@ -13,29 +15,22 @@ use Rattle.file_mesh.specs.Rules.{no_birth}
 use Rattle.file_mesh.specs.Read.{Part, no, got, and_then, number, opening_from, Header, header_from, word_from, words_from, Births, births_read_from, read_file}
 use Rattle.file_mesh.proofs.Parts.{same-part, then-inv, asked-inv}
 use Rattle.file_mesh_read.specs.declared.Headed.{Headed}
-use Rattle.file_mesh_read.specs.declared.Headed.TheVariants as Headed
-use Rattle.file_mesh_read.specs.declared.Worded.{Worded}
-use Rattle.file_mesh_read.specs.declared.Worded.TheVariants as Worded
 use Rattle.file_mesh_read.specs.declared.Counts.{Counts}
-use Rattle.file_mesh_read.specs.declared.Counts.TheVariants as Counts
-use Rattle.file_mesh_read.specs.declared.Scanned.{Scanned}
-use Rattle.file_mesh_read.specs.declared.Scanned.TheVariants as Scanned
 use Rattle.file_mesh_read.specs.Work.{headed_of, worded_of, counts_of, scanned_of}
 use Rattle.file_mesh_read.proofs.Parts.{number-inv, opening-rest}
 use Rattle.file_mesh_read.proofs.Turns.{word-rest}
 
 -- ---- the header
 
-pub headed-no : (p : Part Header) (n : ℕ) → Headed.No n ≡ headed_of p → p ≡ no n
-headed-no (no m) n e = cc
-headed-no (got h r) n e = absurd (let z : ◌≡◌ {A = ℕ} 0 1 = cc in omega arith)
+pub headed-no : (p : Part Header) (why : Refusal) → Err why ≡ headed_of p → p ≡ no why
+headed-no (no other) why e = cc
+headed-no (got h r) why e = cc
 
-headed-of : (p : Part Header) (d c : ℕ) → Headed.Of d c ≡ headed_of p → (r : List ℕ) × (p ≡ got (record { d = d; count = c }) r)
-headed-of (no m) d c e = absurd (let z : ◌≡◌ {A = ℕ} 0 1 = cc in omega arith)
-headed-of (got h r) d c e =
-    let a : d ≡ h.d = cc in
-    let b : c ≡ h.count = cc in
-    (r, ap (λ (x : ℕ). got (record { d = x; count = h.count }) r) (sym a) ∙ ap (λ (x : ℕ). got (record { d = d; count = x }) r) (sym b))
+headed-of : (p : Part Header) (h : Headed) → Ok h ≡ headed_of p → (r : List ℕ) × (p ≡ got (record { d = h.d; count = h.count }) r)
+headed-of (no why) h e = cc
+headed-of (got x r) h e =
+    let q : record { d = x.d; count = x.count } ≡ h = cc in
+    (r, ap (λ (y : Headed). got (record { d = y.d; count = y.count }) r) q)
 
 pub header-rest : (bs : List ℕ) (h : Header) (r : List ℕ) → header_from bs ≡ got h r → (10 ≤ length bs) × (r ≡ drop 10 bs)
 unfolding header_from
@@ -54,11 +49,11 @@ pub record HeadedAt (bs : List ℕ) (d c : ℕ) : Type 0 where
   pub inside : 10 ≤ length bs
   pub is : header_from bs ≡ got (record { d = d; count = c }) (drop 10 bs)
 
-pub headed-at : (bs : List ℕ) (d c : ℕ) → Headed.Of d c ≡ headed_of (header_from bs) → HeadedAt bs d c
-headed-at bs d c e =
-    let p = headed-of (header_from bs) d c e in
-    let q = header-rest bs (record { d = d; count = c }) p.0 p.1 in
-    record { inside = q.0; is = p.1 ∙ ap (λ (r : List ℕ). got (record { d = d; count = c }) r) q.1 }
+pub headed-at : (bs : List ℕ) (h : Headed) → Ok h ≡ headed_of (header_from bs) → HeadedAt bs h.d h.count
+headed-at bs h e =
+    let p = headed-of (header_from bs) h e in
+    let q = header-rest bs (record { d = h.d; count = h.count }) p.0 p.1 in
+    record { inside = q.0; is = p.1 ∙ ap (λ (r : List ℕ). got (record { d = h.d; count = h.count }) r) q.1 }
 
 -- ---- the words
 
@@ -86,9 +81,9 @@ words-rest d (suc count) at before bs ws r a e =
       long = ap length (sym s.0) ∙ length-append i.x j.x ∙ omega (arith, ap length f.1, fours_of-length (d + 1) (drop (at + 6) bs), g.long);
     }
 
-pub worded-no : (p : Part (List ℕ)) (n : ℕ) → Worded.No n ≡ worded_of p → p ≡ no n
-worded-no (no m) n e = cc
-worded-no (got ws r) n e = absurd (let z : ◌≡◌ {A = ℕ} 0 1 = cc in omega arith)
+pub worded-no : (p : Part (List ℕ)) (why : Refusal) → Err why ≡ worded_of p → p ≡ no why
+worded-no (no other) why e = cc
+worded-no (got ws r) why e = cc
 
 pub record WordedAt (d count : ℕ) (bs : List ℕ) (v : ℕ) : Type 0 where
   pub ws : List ℕ
@@ -97,11 +92,11 @@ pub record WordedAt (d count : ℕ) (bs : List ℕ) (v : ℕ) : Type 0 where
   pub inside : 10 + count * (10 + 4 * d) ≤ length bs
   pub long : length ws ≡ count * (d + 1)
 
-worded-of : (p : Part (List ℕ)) (v : ℕ) → Worded.Past v ≡ worded_of p → (ws : List ℕ) × (r : List ℕ) × (p ≡ got ws r) × (past ws ≡ v)
-worded-of (no m) v e = absurd (let z : ◌≡◌ {A = ℕ} 0 1 = cc in omega arith)
+worded-of : (p : Part (List ℕ)) (v : ℕ) → Ok v ≡ worded_of p → (ws : List ℕ) × (r : List ℕ) × (p ≡ got ws r) × (past ws ≡ v)
+worded-of (no why) v e = cc
 worded-of (got ws r) v e = (ws, r, refl, cc)
 
-pub worded-at : (d count : ℕ) (bs : List ℕ) (v : ℕ) → 10 ≤ length bs → Worded.Past v ≡ worded_of (words_from d count [] (drop 10 bs)) → WordedAt d count bs v
+pub worded-at : (d count : ℕ) (bs : List ℕ) (v : ℕ) → 10 ≤ length bs → Ok v ≡ worded_of (words_from d count [] (drop 10 bs)) → WordedAt d count bs v
 worded-at d count bs v h e =
     let p = worded-of (words_from d count [] (drop 10 bs)) v e in
     let w = words-rest d count 10 [] bs p.0 p.1 h p.2 in
@@ -109,14 +104,14 @@ worded-at d count bs v h e =
 
 -- ---- the file
 
-pub scan-header : (bs : List ℕ) (n : ℕ) → header_from bs ≡ no n → scanned_of (read_file bs) ≡ Scanned.No n
+pub scan-header : (bs : List ℕ) (why : Refusal) → header_from bs ≡ no why → scanned_of (read_file bs) ≡ Err why
 unfolding read_file and_then
-scan-header bs n e = rw e
+scan-header bs why e = rw e
 
 module _ (bs : List ℕ) (d count : ℕ) (h : HeadedAt bs d count) where
-  pub scan-words : (n : ℕ) → words_from d count [] (drop 10 bs) ≡ no n → scanned_of (read_file bs) ≡ Scanned.No n
+  pub scan-words : (why : Refusal) → words_from d count [] (drop 10 bs) ≡ no why → scanned_of (read_file bs) ≡ Err why
   unfolding read_file and_then
-  scan-words n e = rw (h.is, e)
+  scan-words why e = rw (h.is, e)
 
   module _ (v : ℕ) (w : WordedAt d count bs v) where
     abbrev births : Part Births
@@ -132,22 +127,21 @@ module _ (bs : List ℕ) (d count : ℕ) (h : HeadedAt bs d count) where
     unfolding read_file and_then finished
     file-is = rw (h.is, w.is, w.top)
 
-    pub scan-no : (n : ℕ) → Counts.No n ≡ counts_of births → scanned_of (read_file bs) ≡ Scanned.No n
+    pub scan-no : (why : Refusal) → Err why ≡ counts_of births → scanned_of (read_file bs) ≡ Err why
     unfolding finished and_then
-    scan-no n e = ap scanned_of file-is ∙ go births e
+    scan-no why e = ap scanned_of file-is ∙ go births e
       where
-        go : (p : Part Births) → Counts.No n ≡ counts_of p → scanned_of (finished p) ≡ Scanned.No n
-        go (no m) q = cc
-        go (got l t) q = absurd (let z : ◌≡◌ {A = ℕ} 0 1 = cc in omega arith)
+        go : (p : Part Births) → Err why ≡ counts_of p → scanned_of (finished p) ≡ Err why
+        go (no other) q = cc
+        go (got l t) q = cc
 
-    pub scan-of : (a b : ℕ) → Counts.Of a b ≡ counts_of births → scanned_of (read_file bs) ≡ Scanned.Of d count a b
+    pub scan-of : (c : Counts) → Ok c ≡ counts_of births → scanned_of (read_file bs) ≡ Ok (record { d = d; count = count; births = c.births; pairs = c.pairs })
     unfolding finished and_then
-    scan-of a b e = ap scanned_of file-is ∙ go births e
+    scan-of c e = ap scanned_of file-is ∙ go births e
       where
-        go : (p : Part Births) → Counts.Of a b ≡ counts_of p → scanned_of (finished p) ≡ Scanned.Of d count a b
-        go (no m) q = absurd (let z : ◌≡◌ {A = ℕ} 0 1 = cc in omega arith)
+        go : (p : Part Births) → Ok c ≡ counts_of p → scanned_of (finished p) ≡ Ok (record { d = d; count = count; births = c.births; pairs = c.pairs })
+        go (no why) q = cc
         go (got l t) q =
-            let x : a ≡ length l.births / 3 = cc in
-            let y : b ≡ length l.pairs / 2 = cc in
-            ap (λ (n : ℕ). Scanned.Of d n (length l.births / 3) (length l.pairs / 2)) cells
-            ∙ ap (λ (n : ℕ). Scanned.Of d count n (length l.pairs / 2)) (sym x) ∙ ap (λ (n : ℕ). Scanned.Of d count a n) (sym y)
+            let x : record { births = length l.births / 3; pairs = length l.pairs / 2 } ≡ c = cc in
+            ap (λ (n : ℕ). Ok (record { d = d; count = n; births = length l.births / 3; pairs = length l.pairs / 2 })) cells
+            ∙ ap (λ (y : Counts). Ok (record { d = d; count = count; births = y.births; pairs = y.pairs })) x

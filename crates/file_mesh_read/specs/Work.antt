@@ -1,5 +1,7 @@
 -- What the inner functions answer, as the definitions of reading have it. Assumes nothing.
-use Rattle.std.specs.Prelude.{cond, ◌&&◌, List, [], ◌∷◌, ◌++◌, ◌≡◌, ℕ, zero, suc, ◌+◌, ◌*◌, ◌-◌, ◌/◌, ◌%◌, ◌<◌, ◌≤◌, length, take, drop, leb, eqb}
+use Rattle.std.specs.Prelude.{cond, ◌&&◌, List, [], ◌∷◌, ◌++◌, ◌≡◌, ℕ, zero, suc, ◌+◌, ◌*◌, ◌-◌, ◌/◌, ◌%◌, ◌<◌, ◌≤◌, length, take, drop, leb, eqb, Option, Some, None, Result, Ok, Err}
+use Rattle.refusal.specs.declared.Refusal.{Refusal}
+use Rattle.refusal.specs.Says.{Answer, fine}
 use Rattle.file_bytes.specs.Bytes.{said, fours_of}
 use Rattle.file_mesh.specs.declared.Run.{Run}
 use Rattle.file_mesh.specs.Mesh.{Mesh, past}
@@ -11,52 +13,45 @@ use Rattle.complex.specs.Facets.{Crowded}
 use Rattle.file_mesh_read.specs.Promise.{Lists, Gives}
 use Rattle.file_mesh_read.specs.declared.Reading.{Reading}
 use Rattle.file_mesh_read.specs.declared.Opened.{Opened}
-use Rattle.file_mesh_read.specs.declared.Opened.TheVariants as Opened
 use Rattle.file_mesh_read.specs.declared.Headed.{Headed}
-use Rattle.file_mesh_read.specs.declared.Headed.TheVariants as Headed
-use Rattle.file_mesh_read.specs.declared.Worded.{Worded}
-use Rattle.file_mesh_read.specs.declared.Worded.TheVariants as Worded
 use Rattle.file_mesh_read.specs.declared.Born.{Born}
-use Rattle.file_mesh_read.specs.declared.Born.TheVariants as Born
 use Rattle.file_mesh_read.specs.declared.Counts.{Counts}
-use Rattle.file_mesh_read.specs.declared.Counts.TheVariants as Counts
 use Rattle.file_mesh_read.specs.declared.Scanned.{Scanned}
-use Rattle.file_mesh_read.specs.declared.Scanned.TheVariants as Scanned
 
--- the number of a refusal, 0 where a part is read
-abbrev pub refusal_of : {A : Type 0} → Part A → ℕ
-refusal_of (no n) = n
-refusal_of (got x r) = 0
+-- the refusal of a part, or that it is read
+abbrev pub refusal_of : {A : Type 0} → Part A → Answer
+refusal_of (no why) = Err why
+refusal_of (got x r) = fine
 
-abbrev pub opened_of : Part Opening → Opened
-opened_of (no n) = Opened.No n
-opened_of (got o r) = Opened.Of o.len o.kind
+abbrev pub opened_of : Part Opening → Result Opened Refusal
+opened_of (no why) = Err why
+opened_of (got o r) = Ok (record { len = o.len; kind = o.kind })
 
-abbrev pub headed_of : Part Header → Headed
-headed_of (no n) = Headed.No n
-headed_of (got h r) = Headed.Of h.d h.count
+abbrev pub headed_of : Part Header → Result Headed Refusal
+headed_of (no why) = Err why
+headed_of (got h r) = Ok (record { d = h.d; count = h.count })
 
 -- two bytes hold each number of a header
-abbrev pub Low : Headed → Type 0
-Low (Headed.No n) = Unit
-Low (Headed.Of d c) = (d < 65536) × (c < 65536)
+abbrev pub Low : Result Headed Refusal → Type 0
+Low (Ok h) = (h.d < 65536) × (h.count < 65536)
+Low (Err why) = Unit
 
 -- the word before word k, whose record begins at `at`
 abbrev pub word_before : ℕ → ℕ → ℕ → List ℕ → List ℕ
 word_before d zero at bs = []
 word_before d (suc k) at bs = fours_of (d + 1) (drop (at - (d + 1) * 4) bs)
 
-abbrev pub worded_of : Part (List ℕ) → Worded
-worded_of (no n) = Worded.No n
-worded_of (got ws r) = Worded.Past (past ws)
+abbrev pub worded_of : Part (List ℕ) → Result ℕ Refusal
+worded_of (no why) = Err why
+worded_of (got ws r) = Ok (past ws)
 
 -- pairs whose weights sum to r
 abbrev pub weighed : ℕ → Part (List ℕ) → Part (List ℕ)
 weighed r p = and_then p (λ ps t. asked (eqb (weights_of ps) r) (got ps t))
 
-abbrev pub born_of : Part Birth → Born
-born_of (no n) = Born.No n
-born_of (got b r) = Born.Of b.number b.r b.count
+abbrev pub born_of : Part Birth → Result Born Refusal
+born_of (no why) = Err why
+born_of (got b r) = Ok (record { number = b.number; r = b.r; count = b.count })
 
 -- the record after the words: a birth, or the end of the file
 pub data Next : Type 0 where
@@ -71,18 +66,18 @@ next_from vertices run bs =
     (asked (eqb o.kind 3 && (leb 10 o.len && eqb ((o.len - 10) % 6) 0))
     (and_then (birth_from vertices run o.len r) (λ b s. got (one b) s))))
 
-abbrev pub next_of : Part Next → Born
-next_of (no n) = Born.No n
-next_of (got (one b) r) = Born.Of b.number b.r b.count
-next_of (got end r) = Born.End
+abbrev pub next_of : Part Next → Result (Option Born) Refusal
+next_of (no why) = Err why
+next_of (got (one b) r) = Ok (Some (record { number = b.number; r = b.r; count = b.count }))
+next_of (got end r) = Ok None
 
-abbrev pub counts_of : Part Births → Counts
-counts_of (no n) = Counts.No n
-counts_of (got l r) = Counts.Of (length l.births / 3) (length l.pairs / 2)
+abbrev pub counts_of : Part Births → Result Counts Refusal
+counts_of (no why) = Err why
+counts_of (got l r) = Ok (record { births = length l.births / 3; pairs = length l.pairs / 2 })
 
-abbrev pub scanned_of : Part Mesh → Scanned
-scanned_of (no n) = Scanned.No n
-scanned_of (got m r) = Scanned.Of m.d (length m.words / (m.d + 1)) (length m.births / 3) (length m.pairs / 2)
+abbrev pub scanned_of : Part Mesh → Result Scanned Refusal
+scanned_of (no why) = Err why
+scanned_of (got m r) = Ok (record { d = m.d; count = length m.words / (m.d + 1); births = length m.births / 3; pairs = length m.pairs / 2 })
 
 -- count words of n vertices, in records from `at` on
 unfoldable pub words_in : ℕ → ℕ → ℕ → List ℕ → List ℕ
@@ -118,7 +113,7 @@ pub record Taking (many from : ℕ) (bs births pairs : List ℕ) : Type 0 where
   pub inside : end_in many from bs ≤ length bs
 
 -- the lists of a file are handed out, or 12, where no facet is crowded
-pub record Handing (m : Mesh) (r : Reading) (words words' births births' pairs pairs' : List ℕ) : Type 0 where
+pub record Handing (m : Mesh) (r : Result Reading Refusal) (words words' births births' pairs pairs' : List ℕ) : Type 0 where
   pub handed : Lists
   pub ends : (Crowded m.d (cells_of m.d m.words) → ⊥) → Gives m (record { words = words; births = births; pairs = pairs }) r handed
   pub of_words : words' ≡ onto handed.words words

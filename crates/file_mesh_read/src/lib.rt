@@ -1,9 +1,9 @@
 // Reads a mesh file: its bytes as they come (20, 21, 22), the checks of its cell list, its working room, 7, and then its lists. The port added it.
 //
-// Every function over the bytes takes them whole, and the place where its part begins. A part that is refused answers the refusal's number.
+// Every function over the bytes takes them whole, and the place where its part begins. A part that is refused answers its refusal.
 #![tactic(auto)]
 
-ghost use Rattle.std.specs.Prelude.{◌≡◌, [], ℕ, ◌+◌, ◌*◌, ◌-◌, ◌<◌, ◌≤◌, max, length, drop, eqb};
+ghost use Rattle.std.specs.Prelude.{◌≡◌, [], ℕ, ◌+◌, ◌*◌, ◌-◌, ◌<◌, ◌≤◌, Ok, max, length, drop, eqb};
 ghost use Rattle.refusal.specs.Limits.{most_dimension, row_most};
 ghost use Rattle.multiindex.specs.Sort.{sort_word};
 ghost use Rattle.complex.specs.Cells.{comes_before};
@@ -13,116 +13,107 @@ ghost use Rattle.file_mesh.specs.Mesh.{past};
 ghost use Rattle.file_mesh.specs.Rules.{no_birth};
 ghost use Rattle.file_mesh.specs.Read.{opening_from, header_from, word_from, words_from, pairs_from, birth_from, births_read_from, read_file};
 ghost use Rattle.file_mesh_read.specs.Promise.{mesh_in, MeshRead};
-ghost use Rattle.file_mesh_read.specs.declared.Scanned.TheVariants as Scanned;
 ghost use Rattle.file_mesh_read.specs.Work.{opened_of, headed_of, Low, refusal_of, weighed, word_before, worded_of, born_of, next_from, next_of, counts_of, scanned_of, words_in, pairs_in, births_in, Taking, Handing};
 
 use file_mesh::{BIRTH_KIND, END_KIND, HEAD_KIND, Run, WORD_KIND};
-use refusal::{
-    Answer, BAD_DIMENSION, BAD_FILE, FILE_ENDS, MOST_CELLS, MOST_CORNERS, MOST_DIMENSION, ROW_MOST,
-    TOO_MANY_CELLS, TOO_SHORT, UNKNOWN_KIND,
-};
+use refusal::{MOST_CELLS, MOST_CORNERS, MOST_DIMENSION, ROW_MOST, Refusal};
 
 const DIMENSIONS: usize = MOST_DIMENSION as usize;
 
 // What reading a mesh file says: the mesh's dimension and how many cells, births and pairs it has.
-#[derive(Clone, Copy)]
-pub enum Reading {
-    Read(u32, u32, u32, u32),
-    Refused(u32, u32),
+#[derive(Clone, Copy, Debug, PartialEq, Eq)]
+pub struct Reading {
+    pub dimension: u32,
+    pub cells: u32,
+    pub births: u32,
+    pub pairs: u32,
 }
 
 // A record's length and kind.
 #[derive(Clone, Copy)]
-enum Opened {
-    No(u32),
-    Of(u32, u32),
+struct Opened {
+    len: u32,
+    kind: u32,
 }
 
 // The dimension and the number of cells.
 #[derive(Clone, Copy)]
-enum Headed {
-    No(u32),
-    Of(u32, u32),
+struct Headed {
+    d: u32,
+    count: u32,
 }
 
-// One past the last vertex of the words.
+// A birth's number, R and count of pairs.
 #[derive(Clone, Copy)]
-enum Worded {
-    No(u32),
-    Past(usize),
-}
-
-// A birth's number, R and count of pairs, or the end of the file.
-#[derive(Clone, Copy)]
-enum Born {
-    No(u32),
-    Of(u32, u32, u32),
-    End,
+struct Born {
+    number: u32,
+    r: u32,
+    count: u32,
 }
 
 // How many births and pairs a file has.
 #[derive(Clone, Copy)]
-enum Counts {
-    No(u32),
-    Of(usize, usize),
+struct Counts {
+    births: usize,
+    pairs: usize,
 }
 
 // The dimension, and how many cells, births and pairs a file has.
 #[derive(Clone, Copy)]
-enum Scanned {
-    No(u32),
-    Of(u32, u32, usize, usize),
+struct Scanned {
+    d: u32,
+    count: u32,
+    births: usize,
+    pairs: usize,
 }
 
 // ---- the bytes as they come
 
 // The opening of a record.
-fn opening(bytes: &[u8], at: usize) -> Opened
+fn opening(bytes: &[u8], at: usize) -> Result<Opened, Refusal>
     requires { at ≤ length bytes.now }
     ensures { result ≡ opened_of (opening_from (drop at bytes.now)) }
 {
     let left = bytes.len() - at;
     if left < 4 {
-        return Opened::No(FILE_ENDS);
+        return Err(Refusal::FileEnds);
     }
     let len = file_bytes::four(bytes, at);
     if len < 2 {
-        return Opened::No(BAD_FILE);
+        return Err(Refusal::BadFile);
     }
     if left < 6 {
-        return Opened::No(FILE_ENDS);
+        return Err(Refusal::FileEnds);
     }
     let kind = file_bytes::two(bytes, at + 4);
     if kind == 0 {
-        return Opened::No(UNKNOWN_KIND);
+        return Err(Refusal::UnknownKind);
     }
     if END_KIND < kind {
-        return Opened::No(UNKNOWN_KIND);
+        return Err(Refusal::UnknownKind);
     }
-    Opened::Of(len, kind)
+    Ok(Opened { len, kind })
 }
 
 // The first record.
-fn header(bytes: &[u8]) -> Headed
+fn header(bytes: &[u8]) -> Result<Headed, Refusal>
     ensures read { result ≡ headed_of (header_from bytes.now) }
     ensures small { Low result }
 {
-    let opened = opening(bytes, 0);
-    match opened {
-        Opened::No(number) => Headed::No(number),
-        Opened::Of(len, kind) => {
-            if kind != HEAD_KIND {
-                return Headed::No(BAD_FILE);
-            }
-            if len != 6 {
-                return Headed::No(BAD_FILE);
-            }
-            if bytes.len() < 10 {
-                return Headed::No(FILE_ENDS);
-            }
-            Headed::Of(file_bytes::two(bytes, 6), file_bytes::two(bytes, 8))
-        }
+    let Opened { len, kind } = opening(bytes, 0)?;
+    if kind != HEAD_KIND {
+        return Err(Refusal::BadFile);
     }
+    if len != 6 {
+        return Err(Refusal::BadFile);
+    }
+    if bytes.len() < 10 {
+        return Err(Refusal::FileEnds);
+    }
+    Ok(Headed {
+        d: file_bytes::two(bytes, 6),
+        count: file_bytes::two(bytes, 8),
+    })
 }
 
 // Whether the cell of the word whose bytes begin at v comes before that of the word at w, n vertices each.
@@ -137,38 +128,33 @@ fn in_order(n: usize, bytes: &[u8], v: usize, w: usize) -> bool
     file_mesh::cell_before(&a[..n], &b[..n])
 }
 
-// The refusal of word number k, whose record begins at `at`; 0 where it is read. The word before it ends where it begins.
-fn word_refusal(d: usize, k: usize, bytes: &[u8], at: usize) -> u32
+// Whether word number k, whose record begins at `at`, is read. The word before it ends where it begins.
+fn word_refusal(d: usize, k: usize, bytes: &[u8], at: usize) -> Result<(), Refusal>
     requires { (d < 65536) × (at ≤ length bytes.now) × (k * ((d + 1) * 4) ≤ at) }
     ensures { result ≡ refusal_of (word_from d (word_before d k at bytes.now) (drop at bytes.now)) }
 {
-    let opened = opening(bytes, at);
-    match opened {
-        Opened::No(number) => number,
-        Opened::Of(len, kind) => {
-            let n = d + 1;
-            let size = n * 4;
-            if kind != WORD_KIND {
-                return BAD_FILE;
-            }
-            if len as usize != 2 + size {
-                return BAD_FILE;
-            }
-            if bytes.len() - at < 6 + size {
-                return FILE_ENDS;
-            }
-            if k == 0 {
-                return 0;
-            }
-            if DIMENSIONS < d {
-                return 0;
-            }
-            if in_order(n, bytes, at - size, at + 6) {
-                return 0;
-            }
-            BAD_FILE
-        }
+    let Opened { len, kind } = opening(bytes, at)?;
+    let n = d + 1;
+    let size = n * 4;
+    if kind != WORD_KIND {
+        return Err(Refusal::BadFile);
     }
+    if len as usize != 2 + size {
+        return Err(Refusal::BadFile);
+    }
+    if bytes.len() - at < 6 + size {
+        return Err(Refusal::FileEnds);
+    }
+    if k == 0 {
+        return Ok(());
+    }
+    if DIMENSIONS < d {
+        return Ok(());
+    }
+    if in_order(n, bytes, at - size, at + 6) {
+        return Ok(());
+    }
+    Err(Refusal::BadFile)
 }
 
 // One past the largest of n numbers of four bytes, at least `top`.
@@ -177,152 +163,137 @@ fn vertices(n: usize, bytes: &[u8], top: usize) -> usize
     ensures { result ≡ max top (past (fours_of n bytes.now)) }
 {
     let mut most = top;
-    let mut i = 0;
-    while i < n {
+    for i in 0..n {
         let v = file_bytes::four(bytes, i * 4) as usize;
-        if most <= v {
-            most = v + 1;
-        }
-        i += 1;
+        most = most.max(v + 1);
     }
     most
 }
 
-// The words.
-fn words(d: usize, count: usize, bytes: &[u8]) -> Worded
+// One past the last vertex of the words.
+fn words(d: usize, count: usize, bytes: &[u8]) -> Result<usize, Refusal>
     requires { (d < 65536) × (count < 65536) × (10 ≤ length bytes.now) }
     ensures { result ≡ worded_of (words_from d count [] (drop 10 bytes.now)) }
 {
     let n = d + 1;
     let size = 6 + n * 4;
     let mut top = 0;
-    let mut k = 0;
-    while k < count {
+    for k in 0..count {
         let at = 10 + k * size;
-        let number = word_refusal(d, k, bytes, at);
-        if number != 0 {
-            return Worded::No(number);
-        }
+        word_refusal(d, k, bytes, at)?;
         let from = at + 6;
         top = vertices(n, &bytes[from..], top);
-        k += 1;
     }
-    Worded::Past(top)
+    Ok(top)
 }
 
-// The refusal of the pairs of a birth, which begin at `from`; 0 where they are read.
-fn pairs_refusal(first: u32, r: u32, count: usize, bytes: &[u8], from: usize) -> u32
+// Whether the pairs of a birth, which begin at `from`, are read.
+fn pairs_refusal(first: u32, r: u32, count: usize, bytes: &[u8], from: usize) -> Result<(), Refusal>
     requires { (count < 65536) × (from ≤ length bytes.now) }
     ensures { result ≡ refusal_of (weighed r (pairs_from first 0 count (drop from bytes.now))) }
 {
     let mut low: u32 = 0;
     let mut sum: usize = 0;
     let mut at = from;
-    let mut k = 0;
-    while k < count {
+    for k in 0..count {
         if bytes.len() - at < 4 {
-            return FILE_ENDS;
+            return Err(Refusal::FileEnds);
         }
         let v = file_bytes::four(bytes, at);
         if v < low {
-            return BAD_FILE;
+            return Err(Refusal::BadFile);
         }
         if first <= v {
-            return BAD_FILE;
+            return Err(Refusal::BadFile);
         }
         if bytes.len() - at < 6 {
-            return FILE_ENDS;
+            return Err(Refusal::FileEnds);
         }
         let w = file_bytes::two(bytes, at + 4);
         if w == 0 {
-            return BAD_FILE;
+            return Err(Refusal::BadFile);
         }
         low = v + 1;
         sum += w as usize;
         at += 6;
-        k += 1;
     }
     if sum != r as usize {
-        return BAD_FILE;
+        return Err(Refusal::BadFile);
     }
-    0
+    Ok(())
 }
 
 // A birth, after the opening of its record, whose length is len.
-fn birth(vertices: usize, run: Run, len: u32, bytes: &[u8], at: usize) -> Born
+fn birth(vertices: usize, run: Run, len: u32, bytes: &[u8], at: usize) -> Result<Born, Refusal>
     requires { at ≤ length bytes.now }
     ensures { result ≡ born_of (birth_from vertices run len (drop at bytes.now)) }
 {
     let left = bytes.len() - at;
     if left < 4 {
-        return Born::No(FILE_ENDS);
+        return Err(Refusal::FileEnds);
     }
     let n = file_bytes::four(bytes, at);
     if !file_mesh::number_fits(vertices, run, n) {
-        return Born::No(BAD_FILE);
+        return Err(Refusal::BadFile);
     }
     if left < 6 {
-        return Born::No(FILE_ENDS);
+        return Err(Refusal::FileEnds);
     }
     let r = file_bytes::two(bytes, at + 4);
     if !file_mesh::refinement_fits(run, r) {
-        return Born::No(BAD_FILE);
+        return Err(Refusal::BadFile);
     }
     if left < 8 {
-        return Born::No(FILE_ENDS);
+        return Err(Refusal::FileEnds);
     }
     let count = file_bytes::two(bytes, at + 6);
     if count < 2 {
-        return Born::No(BAD_FILE);
+        return Err(Refusal::BadFile);
     }
     if len != 10 + count * 6 {
-        return Born::No(BAD_FILE);
+        return Err(Refusal::BadFile);
     }
     let next = file_mesh::run_on(run, n, r);
-    let number = pairs_refusal(next.first, r, count as usize, bytes, at + 8);
-    if number != 0 {
-        return Born::No(number);
-    }
-    Born::Of(n, r, count)
+    pairs_refusal(next.first, r, count as usize, bytes, at + 8)?;
+    Ok(Born {
+        number: n,
+        r,
+        count,
+    })
 }
 
-// The next record after the words.
-fn birth_or_end(vertices: usize, run: Run, bytes: &[u8], at: usize) -> Born
+// The next record after the words: a birth, or the end of the file.
+fn birth_or_end(vertices: usize, run: Run, bytes: &[u8], at: usize) -> Result<Option<Born>, Refusal>
     requires { at ≤ length bytes.now }
     ensures { result ≡ next_of (next_from vertices run (drop at bytes.now)) }
 {
-    let opened = opening(bytes, at);
-    match opened {
-        Opened::No(number) => Born::No(number),
-        Opened::Of(len, kind) => {
-            if kind == BIRTH_KIND {
-                if len < 10 {
-                    return Born::No(BAD_FILE);
-                }
-                if (len - 10) % 6 != 0 {
-                    return Born::No(BAD_FILE);
-                }
-                return birth(vertices, run, len, bytes, at + 6);
-            }
-            if kind != END_KIND {
-                return Born::No(BAD_FILE);
-            }
-            if len != 2 {
-                return Born::No(BAD_FILE);
-            }
-            if !file_mesh::run_ends(vertices, run) {
-                return Born::No(BAD_FILE);
-            }
-            if bytes.len() != at + 6 {
-                return Born::No(BAD_FILE);
-            }
-            Born::End
+    let Opened { len, kind } = opening(bytes, at)?;
+    if kind == BIRTH_KIND {
+        if len < 10 {
+            return Err(Refusal::BadFile);
         }
+        if (len - 10) % 6 != 0 {
+            return Err(Refusal::BadFile);
+        }
+        return Ok(Some(birth(vertices, run, len, bytes, at + 6)?));
     }
+    if kind != END_KIND {
+        return Err(Refusal::BadFile);
+    }
+    if len != 2 {
+        return Err(Refusal::BadFile);
+    }
+    if !file_mesh::run_ends(vertices, run) {
+        return Err(Refusal::BadFile);
+    }
+    if bytes.len() != at + 6 {
+        return Err(Refusal::BadFile);
+    }
+    Ok(None)
 }
 
 // The births and the end of the file, which begin at `from`.
-fn births(vertices: usize, bytes: &[u8], from: usize) -> Counts
+fn births(vertices: usize, bytes: &[u8], from: usize) -> Result<Counts, Refusal>
     requires { (10 ≤ from) × (from ≤ length bytes.now) }
     ensures { result ≡ counts_of (births_read_from (length bytes.now) vertices no_birth (drop from bytes.now)) }
 {
@@ -334,49 +305,35 @@ fn births(vertices: usize, bytes: &[u8], from: usize) -> Counts
     let mut at = from;
     let mut many = 0;
     let mut pairs = 0;
-    loop {
-        let born = birth_or_end(vertices, run, bytes, at);
-        match born {
-            Born::No(number) => {
-                return Counts::No(number);
-            }
-            Born::End => {
-                return Counts::Of(many, pairs);
-            }
-            Born::Of(n, r, count) => {
-                run = file_mesh::run_on(run, n, r);
-                at = at + 14 + count as usize * 6;
-                many += 1;
-                pairs += count as usize;
-            }
-        }
+    // Kept: the records are walked up to the one that ends the file; each says where the next begins, so there is no count to go over.
+    while let Some(born) = birth_or_end(vertices, run, bytes, at)? {
+        run = file_mesh::run_on(run, born.number, born.r);
+        at = at + 14 + born.count as usize * 6;
+        many += 1;
+        pairs += born.count as usize;
     }
+    Ok(Counts {
+        births: many,
+        pairs,
+    })
 }
 
 // What the bytes say before any check of the cells.
-fn scan(bytes: &[u8]) -> Scanned
+fn scan(bytes: &[u8]) -> Result<Scanned, Refusal>
     ensures { result ≡ scanned_of (read_file bytes.now) }
 {
-    let headed = header(bytes);
-    match headed {
-        Headed::No(number) => Scanned::No(number),
-        Headed::Of(d, count) => {
-            let dim = d as usize;
-            let cells = count as usize;
-            let worded = words(dim, cells, bytes);
-            match worded {
-                Worded::No(number) => Scanned::No(number),
-                Worded::Past(vertices) => {
-                    let from = 10 + cells * (10 + 4 * dim);
-                    let counts = births(vertices, bytes, from);
-                    match counts {
-                        Counts::No(number) => Scanned::No(number),
-                        Counts::Of(many, pairs) => Scanned::Of(d, count, many, pairs),
-                    }
-                }
-            }
-        }
-    }
+    let Headed { d, count } = header(bytes)?;
+    let dim = d as usize;
+    let cells = count as usize;
+    let vertices = words(dim, cells, bytes)?;
+    let from = 10 + cells * (10 + 4 * dim);
+    let counts = births(vertices, bytes, from)?;
+    Ok(Scanned {
+        d,
+        count,
+        births: counts.births,
+        pairs: counts.pairs,
+    })
 }
 
 // ---- the lists
@@ -387,13 +344,11 @@ fn list_words(n: usize, count: usize, bytes: &[u8], to: &mut [u32])
     ensures { to.new ≡ words_in n count 10 bytes.now }
 {
     let size = 6 + n * 4;
-    let mut k = 0;
-    while k < count {
+    for k in 0..count {
         let from = 16 + k * size;
         let at = k * n;
         let end = at + n;
         file_bytes::read_fours(&bytes[from..], &mut to[at..end]);
-        k += 1;
     }
 }
 
@@ -402,13 +357,11 @@ fn list_pairs(count: usize, bytes: &[u8], from: usize, to: &mut [u32])
     requires { (length to.old ≡ count * 2) × (from + count * 6 ≤ length bytes.now) }
     ensures { to.new ≡ pairs_in count from bytes.now }
 {
-    let mut k = 0;
-    while k < count {
+    for k in 0..count {
         let i = k * 2;
         let at = from + k * 6;
         to[i] = file_bytes::four(bytes, at);
         to[i + 1] = file_bytes::two(bytes, at + 4);
-        k += 1;
     }
 }
 
@@ -420,8 +373,7 @@ fn list_births(many: usize, bytes: &[u8], from: usize, births: &mut [u32], pairs
 {
     let mut at = from;
     let mut p = 0;
-    let mut k = 0;
-    while k < many {
+    for k in 0..many {
         let b = k * 3;
         let count = file_bytes::two(bytes, at + 12);
         births[b] = file_bytes::four(bytes, at + 6);
@@ -432,7 +384,6 @@ fn list_births(many: usize, bytes: &[u8], from: usize, births: &mut [u32], pairs
         list_pairs(own, bytes, at + 14, &mut pairs[p..end]);
         at = at + 14 + own * 6;
         p = end;
-        k += 1;
     }
 }
 
@@ -440,44 +391,49 @@ fn list_births(many: usize, bytes: &[u8], from: usize, births: &mut [u32], pairs
 
 // Hands out the lists of an accepted file, whose words are `corners`, or 12.
 fn hand_out(
-    d: u32,
-    count: u32,
-    many: usize,
-    weights: usize,
+    scanned: Scanned,
     bytes: &[u8],
     corners: &[u32],
     words: &mut [u32],
     births: &mut [u32],
     pairs: &mut [u32],
-) -> Reading
-    requires { (Scanned.Of d count many weights ≡ scanned_of (read_file bytes.now)) × (corners.now ≡ (mesh_in (read_file bytes.now)).words) × Passed d corners.now }
+) -> Result<Reading, Refusal>
+    requires { (Ok scanned ≡ scanned_of (read_file bytes.now)) × (corners.now ≡ (mesh_in (read_file bytes.now)).words) × Passed scanned.d corners.now }
     ensures { Handing (mesh_in (read_file bytes.now)) result words.old words.new births.old births.new pairs.old
         pairs.new }
 {
     let len = corners.len();
-    let b = many * 3;
-    let p = weights * 2;
+    let b = scanned.births * 3;
+    let p = scanned.pairs * 2;
     if words.len() < len {
-        return Reading::Refused(TOO_SHORT, 0);
+        return Err(Refusal::TooShort);
     }
     if births.len() < b {
-        return Reading::Refused(TOO_SHORT, 0);
+        return Err(Refusal::TooShort);
     }
     if pairs.len() < p {
-        return Reading::Refused(TOO_SHORT, 0);
+        return Err(Refusal::TooShort);
     }
-    lists::copy(corners, &mut words[..len]);
-    let from = 10 + count as usize * (10 + 4 * d as usize);
-    list_births(many, bytes, from, &mut births[..b], &mut pairs[..p]);
-    Reading::Read(d, count, many as u32, weights as u32)
+    words[..len].copy_from_slice(corners);
+    let from = 10 + scanned.count as usize * (10 + 4 * scanned.d as usize);
+    list_births(
+        scanned.births,
+        bytes,
+        from,
+        &mut births[..b],
+        &mut pairs[..p],
+    );
+    Ok(Reading {
+        dimension: scanned.d,
+        cells: scanned.count,
+        births: scanned.births as u32,
+        pairs: scanned.pairs as u32,
+    })
 }
 
 // Hands out the lists of a file that was scanned, after the checks of its cells, whose words are read to `corners`.
 fn read_lists(
-    d: u32,
-    count: u32,
-    many: usize,
-    weights: usize,
+    scanned: Scanned,
     bytes: &[u8],
     corners: &mut [u32],
     words: &mut [u32],
@@ -487,29 +443,21 @@ fn read_lists(
     rows: &mut [u32],
     spare: &mut [u32],
     counts: &mut [u32],
-) -> Reading
-    requires { (Scanned.Of d count many weights ≡ scanned_of (read_file bytes.now)) × (d ≤ most_dimension) × (length corners.old ≡ count * (d + 1)) }
+) -> Result<Reading, Refusal>
+    requires { (Ok scanned ≡ scanned_of (read_file bytes.now)) × (scanned.d ≤ most_dimension) × (length corners.old ≡ scanned.count * (scanned.d + 1)) }
     ensures { MeshRead bytes.now result words.old words.new births.old births.new pairs.old pairs.new
         keys.old keys.new rows.old rows.new spare.old spare.new counts.old
         counts.new }
 {
-    let n = d as usize + 1;
-    list_words(n, count as usize, bytes, corners);
-    let answer = complex_sound::check(d, corners, keys, rows, spare, counts);
-    if let Answer::Refused(number, place) = answer {
-        return Reading::Refused(number, place);
-    }
-    hand_out(
-        d, count, many, weights, bytes, corners, words, births, pairs,
-    )
+    let n = scanned.d as usize + 1;
+    list_words(n, scanned.count as usize, bytes, corners);
+    complex_sound::check(scanned.d, corners, keys, rows, spare, counts)?;
+    hand_out(scanned, bytes, corners, words, births, pairs)
 }
 
 // Hands out the lists of a file that was scanned, after the checks of its cells: those that need no words come first.
 fn checked(
-    d: u32,
-    count: u32,
-    many: usize,
-    weights: usize,
+    scanned: Scanned,
     bytes: &[u8],
     words: &mut [u32],
     births: &mut [u32],
@@ -518,26 +466,23 @@ fn checked(
     rows: &mut [u32],
     spare: &mut [u32],
     counts: &mut [u32],
-) -> Reading
-    requires { Scanned.Of d count many weights ≡ scanned_of (read_file bytes.now) }
+) -> Result<Reading, Refusal>
+    requires { Ok scanned ≡ scanned_of (read_file bytes.now) }
     ensures { MeshRead bytes.now result words.old words.new births.old births.new pairs.old pairs.new
         keys.old keys.new rows.old rows.new spare.old spare.new counts.old
         counts.new }
 {
-    if MOST_DIMENSION < d {
-        return Reading::Refused(BAD_DIMENSION, 0);
+    if MOST_DIMENSION < scanned.d {
+        return Err(Refusal::BadDimension);
     }
-    let cells = count as usize;
+    let cells = scanned.count as usize;
     if MOST_CELLS < cells {
-        return Reading::Refused(TOO_MANY_CELLS, 0);
+        return Err(Refusal::TooManyCells);
     }
-    let len = cells * (d as usize + 1);
+    let len = cells * (scanned.d as usize + 1);
     let mut corners = [0u32; MOST_CORNERS];
     read_lists(
-        d,
-        count,
-        many,
-        weights,
+        scanned,
         bytes,
         &mut corners[..len],
         words,
@@ -562,16 +507,13 @@ pub fn read_mesh(
     rows: &mut [u32],
     spare: &mut [u32],
     counts: &mut [u32],
-) -> Reading
+) -> Result<Reading, Refusal>
     ensures { MeshRead bytes.now result words.old words.new births.old births.new pairs.old pairs.new
         keys.old keys.new rows.old rows.new spare.old spare.new counts.old
         counts.new }
 {
-    let scanned = scan(bytes);
-    match scanned {
-        Scanned::No(number) => Reading::Refused(number, 0),
-        Scanned::Of(d, count, many, weights) => checked(
-            d, count, many, weights, bytes, words, births, pairs, keys, rows, spare, counts,
-        ),
-    }
+    let scanned = scan(bytes)?;
+    checked(
+        scanned, bytes, words, births, pairs, keys, rows, spare, counts,
+    )
 }

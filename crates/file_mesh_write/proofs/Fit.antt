@@ -92,6 +92,8 @@ module _ (ws : List ℕ) (i : ℕ) where
   unfolding past
   past_end h = ap past (drop_of_length-le ws {i = i} h)
 
+pub ruleset past_rules = (past_more, past_end)
+
 -- ---- the births
 
 module _ (vertices : ℕ) (run : Run) (n r c : ℕ) (ps : List ℕ) where

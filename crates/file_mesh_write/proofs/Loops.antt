@@ -29,6 +29,11 @@ pub record PairsAt (pairs to₀ to : List ℕ) (at i : ℕ) : Type 0 where
 pub pairs-begin : (pairs to₀ : List ℕ) → PairsAt pairs to₀ to₀ 0 0
 pairs-begin pairs to₀ = record { half = 0; even = refl; most = omega arith; written = written_none (pairs_of pairs) to₀ }
 
+pub pair-next : (pairs to₀ to : List ℕ) (at k : ℕ) → PairsAt pairs to₀ to at (k + k + 2) → PairsAt pairs to₀ to at (k + 1 + (k + 1))
+pair-next pairs to₀ to at k p =
+    let e : k + k + 2 ≡ k + 1 + (k + 1) = omega arith in
+    subst (λ (i : ℕ). PairsAt pairs to₀ to at i) e p
+
 module _ (count : ℕ) (pairs to₀ to : List ℕ) (at i : ℕ) (long : length pairs ≡ count + count) (room : count * 6 ≤ length to₀) (p : PairsAt pairs to₀ to at i) where
   fits : length (pairs_of pairs) ≤ length to₀
   fits = omega (arith, pairs-long count pairs long)

@@ -1,4 +1,8 @@
 -- The file written part by part, and the ways out of the call. Assumes nothing.
+use Rattle.refusal.specs.declared.Refusal.{Refusal}
+use Rattle.refusal.specs.declared.Refusal.TheVariants.{BadFile, TooShort}
+use Rattle.refusal.specs.Says.{Answer, Counted, fine}
+use Rattle.std.specs.Prelude.{Err, Ok}
 use mathlib.Core.Path.{◌≡◌, refl, sym, ap, subst, ◌∙◌}
 use mathlib.Core.Bool.{true, false}
 use mathlib.Core.List.{List, [], ◌++◌}
@@ -6,12 +10,7 @@ use Prim.Native.Nat.{ℕ, ◌+◌, ◌*◌, ◌-◌, ◌/◌, ◌≤◌, ◌<◌
 use native.Mathlib.Omega.{arith}
 use lib.ListN.{length, take, drop, length-append, length-drop}
 use lib.Seq.{length-take-le}
-use Rattle.refusal.specs.declared.Answer.{Answer}
-use Rattle.refusal.specs.declared.Answer.TheVariants as Answer
-use Rattle.refusal.specs.declared.Counted.{Counted}
-use Rattle.refusal.specs.declared.Counted.TheVariants.{Count, Refused}
 use Rattle.refusal.specs.declared.Room.{Room}
-use Rattle.refusal.specs.Table.{too_short}
 use Rattle.refusal.specs.Lent.{onto, lengths}
 use Rattle.refusal.specs.Call.{Comes, refused, cramped, ended}
 use Rattle.complex.specs.Check.{answer_of, Passed}
@@ -115,7 +114,7 @@ module _ (m : Mesh) (to t : List ℕ) (room : length (file_of m) ≤ length to) 
 
 -- ---- handing out
 
-pub handed-broken : (m : Mesh) (bytes : List ℕ) → rules m ≡ false → Handed m (Refused 22 0) bytes bytes
+pub handed-broken : (m : Mesh) (bytes : List ℕ) → rules m ≡ false → Handed m (Err BadFile) bytes bytes
 handed-broken m bytes e = record { handed = []; ends = broken e; result = refl }
 
 module _ (m : Mesh) (bytes : List ℕ) (p : Passed m.d m.words) (e : rules m ≡ true) (size : ℕ)
@@ -123,59 +122,59 @@ module _ (m : Mesh) (bytes : List ℕ) (p : Passed m.d m.words) (e : rules m ≡
   pub size_is : size ≡ length (file_of m)
   size_is = q ∙ sym (file-size m p e)
 
-  pub handed-short : length bytes < size → Handed m (Refused too_short 0) bytes bytes
+  pub handed-short : length bytes < size → Handed m (Err TooShort) bytes bytes
   handed-short h = record { handed = []; ends = short e (omega (arith, size_is)); result = refl }
 
-  pub handed-all : (bytes' : List ℕ) → size ≤ length bytes → bytes' ≡ onto (file_of m) bytes → Handed m (Count size) bytes bytes'
+  pub handed-all : (bytes' : List ℕ) → size ≤ length bytes → bytes' ≡ onto (file_of m) bytes → Handed m (Ok size) bytes bytes'
   handed-all bytes' h k =
-      record { handed = file_of m; ends = subst (λ (n : ℕ). Writes m (length bytes) (Count n) (file_of m)) (sym size_is) (written e (omega (arith, size_is))); result = k }
+      record { handed = file_of m; ends = subst (λ (n : ℕ). Writes m (length bytes) (Ok n) (file_of m)) (sym size_is) (written e (omega (arith, size_is))); result = k }
 
 -- ---- the call
 
 lifted : Answer → Counted
-lifted Answer.Fine = Count 0
-lifted (Answer.Refused n p) = Refused n p
+lifted (Ok _) = Ok 0
+lifted (Err why) = Err why
 
 module _ (d : ℕ) (ws : List ℕ) (need have : Room) (Rest : Counted → List ℕ → Type 0) where
-  lift : (r : Answer) (u : Unit {0}) (used : Room) → Comes Answer.Refused (tt {0}) (answer_of d ws) need have (Facets d (cells_of d ws)) r u used → (r ≡ Answer.Fine → ⊥) →
-      Comes Refused [] (answer_of d ws) need have (Ends [] d (cells_of d ws) Rest) (lifted r) [] used
+  lift : (r : Answer) (u : Unit {0}) (used : Room) → Comes Err (tt {0}) (answer_of d ws) need have (Facets d (cells_of d ws)) r u used → (r ≡ fine → ⊥) →
+      Comes Err [] (answer_of d ws) need have (Ends [] d (cells_of d ws) Rest) (lifted r) [] used
   unfolding lifted
   lift r u used (refused e) f = refused e
   lift r u used (cramped e g) f = cramped e g
   lift r u used (ended e g (crowded x)) f = ended e g (Skeleton.crowded x)
   lift r u used (ended e g (free x)) f = absurd (f refl)
 
-  finish : (r : Answer) (u : Unit {0}) (used : Room) → Comes Answer.Refused (tt {0}) (answer_of d ws) need have (Facets d (cells_of d ws)) r u used → r ≡ Answer.Fine → (s : Counted) (h : List ℕ) → Rest s h →
-      Comes Refused [] (answer_of d ws) need have (Ends [] d (cells_of d ws) Rest) s h used
+  finish : (r : Answer) (u : Unit {0}) (used : Room) → Comes Err (tt {0}) (answer_of d ws) need have (Facets d (cells_of d ws)) r u used → r ≡ fine → (s : Counted) (h : List ℕ) → Rest s h →
+      Comes Err [] (answer_of d ws) need have (Ends [] d (cells_of d ws) Rest) s h used
   finish r u used (refused e) f s h x = absurd (let z : ◌≡◌ {A = ℕ} 0 1 = cc in omega arith)
   finish r u used (cramped e g) f s h x = absurd (let z : ◌≡◌ {A = ℕ} 0 1 = cc in omega arith)
   finish r u used (ended e g (crowded y)) f s h x = absurd (let z : ◌≡◌ {A = ℕ} 0 1 = cc in omega arith)
   finish r u used (ended e g (free y)) f s h x = ended e g (Skeleton.rest y x)
 
 -- the checks were passed
-fine-from : (d : ℕ) (ws : List ℕ) (need have : Room) (r : Answer) (u : Unit {0}) (used : Room) → Comes Answer.Refused (tt {0}) (answer_of d ws) need have (Facets d (cells_of d ws)) r u used → r ≡ Answer.Fine → answer_of d ws ≡ Answer.Fine
+fine-from : (d : ℕ) (ws : List ℕ) (need have : Room) (r : Answer) (u : Unit {0}) (used : Room) → Comes Err (tt {0}) (answer_of d ws) need have (Facets d (cells_of d ws)) r u used → r ≡ fine → answer_of d ws ≡ fine
 fine-from d ws need have r u used (refused e) f = absurd (let z : ◌≡◌ {A = ℕ} 0 1 = cc in omega arith)
 fine-from d ws need have r u used (cramped e g) f = e
 fine-from d ws need have r u used (ended e g x) f = e
 
 module _ (m : Mesh) (r : Answer) (bytes keys keys' rows rows' spare spare' counts counts' : List ℕ) (k : Checked m.d m.words r keys keys' rows rows' spare spare' counts counts') where
-  pub out-refused : (n p : ℕ) → r ≡ Answer.Refused n p → MeshWritten m (Refused n p) bytes bytes keys keys' rows rows' spare spare' counts counts'
+  pub out-refused : (why : Refusal) → r ≡ Err why → MeshWritten m (Err why) bytes bytes keys keys' rows rows' spare spare' counts counts'
   unfolding lifted
-  out-refused n p e =
+  out-refused why e =
       record {
         handed = [];
         call =
             record {
               used = k.used;
               comes =
-                  subst (λ (x : Answer). Comes Refused [] (answer_of m.d m.words) (need_of m.d (length m.words)) (lengths keys rows spare counts) (Ends [] m.d (cells_of m.d m.words) (Writes m (length bytes))) (lifted x) [] k.used) e
+                  subst (λ (x : Answer). Comes Err [] (answer_of m.d m.words) (need_of m.d (length m.words)) (lengths keys rows spare counts) (Ends [] m.d (cells_of m.d m.words) (Writes m (length bytes))) (lifted x) [] k.used) e
                   (lift m.d m.words (need_of m.d (length m.words)) (lengths keys rows spare counts) (Writes m (length bytes)) r (tt {0}) k.used k.comes (λ f. let z : ◌≡◌ {A = ℕ} 0 1 = cc in omega arith));
               room = k.room;
             };
         result = refl;
       }
 
-  module _ (f : r ≡ Answer.Fine) where
+  module _ (f : r ≡ fine) where
     pub checks-passed : Passed m.d m.words
     checks-passed = fine-passed m.d m.words (fine-from m.d m.words (need_of m.d (length m.words)) (lengths keys rows spare counts) r (tt {0}) k.used k.comes f)
 

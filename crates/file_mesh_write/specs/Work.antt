@@ -1,6 +1,6 @@
 -- What the inner functions ask and give. Assumes nothing.
+use Rattle.refusal.specs.Says.{Counted}
 use Rattle.std.specs.Prelude.{List, [], ◌∷◌, ◌≡◌, ℕ, ◌+◌, ◌≤◌, length, drop}
-use Rattle.refusal.specs.declared.Counted.{Counted}
 use Rattle.refusal.specs.Limits.{most_refinement}
 use Rattle.refusal.specs.Lent.{onto}
 use Rattle.file_mesh.specs.Mesh.{Mesh}

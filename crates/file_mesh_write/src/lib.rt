@@ -15,7 +15,7 @@ ghost use Rattle.file_mesh_write.specs.Promise.{MeshWritten, mesh_of};
 ghost use Rattle.file_mesh_write.specs.Work.{Whole, Handed};
 
 use file_mesh::{BIRTH_KIND, END_KIND, HEAD_KIND, Run, WORD_KIND};
-use refusal::{Answer, BAD_FILE, Counted, TOO_SHORT};
+use refusal::Refusal;
 
 // ---- the rules
 
@@ -26,31 +26,25 @@ fn words_rise(d: usize, words: &[u32]) -> bool
 {
     let n = d + 1;
     let count = words.len() / n;
-    let mut k = 1;
-    while k < count {
+    for k in 1..count {
         let at = k * n;
         let before = at - n;
         let end = at + n;
         if !file_mesh::cell_before(&words[before..at], &words[at..end]) {
             return false;
         }
-        k += 1;
     }
     true
 }
 
 // One past the largest of the numbers, 0 where there is none.
+#[tactic(auto, using(crate::proofs::Fit::past_rules))]
 fn vertices(words: &[u32]) -> usize
     ensures { result ≡ past words.now }
 {
     let mut top = 0;
-    let mut i = 0;
-    while i < words.len() {
-        let v = words[i] as usize;
-        if top <= v {
-            top = v + 1;
-        }
-        i += 1;
+    for &v in words {
+        top = top.max(v as usize + 1);
     }
     top
 }
@@ -61,14 +55,9 @@ fn pairs_fit(first: u32, r: u32, pairs: &[u32]) -> bool
 {
     let mut low: u32 = 0;
     let mut left = r;
-    let mut i = 0;
-    while i < pairs.len() {
-        let next = i + 1;
-        if next == pairs.len() {
-            return false;
-        }
-        let v = pairs[i];
-        let w = pairs[next];
+    for k in 0..pairs.len() / 2 {
+        let v = pairs[k + k];
+        let w = pairs[k + k + 1];
         if v < low {
             return false;
         }
@@ -83,7 +72,9 @@ fn pairs_fit(first: u32, r: u32, pairs: &[u32]) -> bool
         }
         low = v + 1;
         left -= w;
-        i += 2;
+    }
+    if pairs.len() % 2 != 0 {
+        return false;
     }
     left == 0
 }
@@ -116,11 +107,8 @@ fn births_fit(vertices: usize, births: &[u32], pairs: &[u32]) -> bool
         next: 0,
     };
     let mut at = 0;
-    let mut b = 0;
-    while b < births.len() {
-        if births.len() - b < 3 {
-            return false;
-        }
+    for k in 0..births.len() / 3 {
+        let b = k * 3;
         let n = births[b];
         let r = births[b + 1];
         let count = births[b + 2] as usize;
@@ -133,7 +121,9 @@ fn births_fit(vertices: usize, births: &[u32], pairs: &[u32]) -> bool
         }
         run = file_mesh::run_on(run, n, r);
         at = end;
-        b += 3;
+    }
+    if births.len() % 3 != 0 {
+        return false;
     }
     if at < pairs.len() {
         return false;
@@ -192,13 +182,11 @@ fn put_words(d: usize, words: &[u32], to: &mut [u8])
     let count = words.len() / n;
     let size = 6 + n * 4;
     let mut at = 0;
-    let mut k = 0;
-    while k < count {
+    for k in 0..count {
         let from = k * n;
         let end = from + n;
         put_word(&words[from..end], &mut to[at..]);
         at += size;
-        k += 1;
     }
 }
 
@@ -217,12 +205,9 @@ fn put_pairs(count: usize, pairs: &[u32], to: &mut [u8])
     ensures { to.new ≡ onto (pairs_of pairs.now) to.old }
 {
     let mut at = 0;
-    let mut i = 0;
-    while i < pairs.len() {
-        let next = i + 1;
-        put_pair(pairs[i], pairs[next], &mut to[at..]);
+    for k in 0..count {
+        put_pair(pairs[k + k], pairs[k + k + 1], &mut to[at..]);
         at += 6;
-        i += 2;
     }
 }
 
@@ -247,8 +232,8 @@ fn put_births(births: &[u32], pairs: &[u32], to: &mut [u8]) -> usize
 {
     let mut at = 0;
     let mut p = 0;
-    let mut b = 0;
-    while b < births.len() {
+    for k in 0..births.len() / 3 {
+        let b = k * 3;
         let n = births[b];
         let r = births[b + 1];
         let count = births[b + 2] as usize;
@@ -256,7 +241,6 @@ fn put_births(births: &[u32], pairs: &[u32], to: &mut [u8]) -> usize
         put_birth(n, r, count, &pairs[p..end], &mut to[at..]);
         at = at + 14 + count * 6;
         p = end;
-        b += 3;
     }
     at
 }
@@ -288,20 +272,26 @@ fn put_file(d: u32, words: &[u32], births: &[u32], pairs: &[u32], to: &mut [u8])
 // ---- the call
 
 // The file, or 22, or 12.
-fn hand_out(d: u32, words: &[u32], births: &[u32], pairs: &[u32], bytes: &mut [u8]) -> Counted
+fn hand_out(
+    d: u32,
+    words: &[u32],
+    births: &[u32],
+    pairs: &[u32],
+    bytes: &mut [u8],
+) -> Result<u32, Refusal>
     requires { Passed d words.now }
     ensures { Handed (mesh_of d words.now births.now pairs.now) result bytes.old bytes.new }
 {
     let dim = d as usize;
     if !keeps_rules(dim, words, births, pairs) {
-        return Counted::Refused(BAD_FILE, 0);
+        return Err(Refusal::BadFile);
     }
     let size = size(dim, words.len(), births.len(), pairs.len());
     if bytes.len() < size {
-        return Counted::Refused(TOO_SHORT, 0);
+        return Err(Refusal::TooShort);
     }
     put_file(d, words, births, pairs, bytes);
-    Counted::Count(size as u32)
+    Ok(size as u32)
 }
 
 // Writes the file of a mesh; says how many bytes it has. `births` has a number, an R and a count of pairs for each birth, `pairs` a vertex and a weight for each pair.
@@ -317,13 +307,10 @@ pub fn write_mesh(
     rows: &mut [u32],
     spare: &mut [u32],
     counts: &mut [u32],
-) -> Counted
+) -> Result<u32, Refusal>
     ensures { MeshWritten (mesh_of d words.now births.now pairs.now) result bytes.old bytes.new keys.old
         keys.new rows.old rows.new spare.old spare.new counts.old counts.new }
 {
-    let answer = complex_sound::check(d, words, keys, rows, spare, counts);
-    if let Answer::Refused(number, place) = answer {
-        return Counted::Refused(number, place);
-    }
+    complex_sound::check(d, words, keys, rows, spare, counts)?;
     hand_out(d, words, births, pairs, bytes)
 }

@@ -28,10 +28,8 @@ pub fn word(to: &mut [u8], at: usize, w: &[u8]) -> usize
     ensures { Wrote w.now at to.old result to.new }
 {
     let mut next = at;
-    let mut i = 0;
-    while i < w.len() {
-        next = byte(to, next, w[i]);
-        i += 1;
+    for &b in w {
+        next = byte(to, next, b);
     }
     next
 }
@@ -42,11 +40,9 @@ pub fn digits(to: &mut [u8], at: usize, n: u32, k: u32) -> usize
     ensures { Wrote (digits_down k n) at to.old result to.new }
 {
     let mut next = at;
-    let mut j = k;
-    while j > 0 {
+    for j in (1..=k).rev() {
         let digit = 48 + (n / text::power(j) % 10) as u8;
         next = byte(to, next, digit);
-        j -= 1;
     }
     byte(to, next, 48 + (n % 10) as u8)
 }

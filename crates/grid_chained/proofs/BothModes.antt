@@ -1,13 +1,13 @@
 -- Where no axis with a non-empty set is itself reflected, both modes make the same classes: a renaming leads from each vertex of the first mode to a class, and back. Assumes nothing.
+use Rattle.refusal.specs.Says.{fine}
 use mathlib.Core.Path.{◌≡◌, refl, sym, ap, subst, ◌∙◌}
 use mathlib.Core.Bool.{Bool, true, false, cond, false≢true}
-use mathlib.Core.Logic.{◌⊎◌, ⊎_elim}
+use mathlib.Core.Logic.{⊎_elim}
 use Prim.Native.Nat.{ℕ, zero, suc, ◌≤◌, ◌<◌}
 use native.Mathlib.Nat.{not-suc-le-zero}
 use native.Mathlib.Omega.{arith}
 use lib.Dec.{eqb}
 use borrow.Author.Tests.{eqb-true, eqb-false, eq-eqb}
-use Rattle.refusal.specs.declared.Answer.TheVariants.{Fine}
 use Rattle.quotient.specs.declared.Grid.{Grid}
 use Rattle.lists.specs.Words.{first_where}
 use Rattle.lists.proofs.Words.{first-full, first_found}
@@ -72,30 +72,30 @@ class_of_vertex g c x = c (first_where (λ p. eqb (vertex_of g p) x) (points_of 
 abbrev pub vertex_of_class : Grid → (ℕ → ℕ) → ℕ → ℕ
 vertex_of_class g c y = vertex_of g (first_where (λ p. eqb (c p) y) (points_of g))
 
-module _ (g : Grid) (fine : check_of g ≡ Fine) (untangled : Untangled g) (c : ℕ → ℕ) (m : ℕ) (k : Classing g c m) where
+module _ (g : Grid) (taken : check_of g ≡ fine) (untangled : Untangled g) (c : ℕ → ℕ) (m : ℕ) (k : Classing g c m) where
   pub class-is : (p : ℕ) → p < points_of g → class_of_vertex g c (vertex_of g p) ≡ c p
   class-is p h =
       let w = found (λ q. eqb (vertex_of g q) (vertex_of g p)) (points_of g) p h (eq-eqb (vertex_of g p) (vertex_of g p) refl) in
       let q : ℕ = first_where (λ q. eqb (vertex_of g q) (vertex_of g p)) (points_of g) in
       let e : vertex_of g q ≡ vertex_of g p = eqb-true (vertex_of g q) (vertex_of g p) w.1 in
-      (k.classes q p w.0 h).1 ((chain-law g fine untangled q p w.0 h).0 e)
+      (k.classes q p w.0 h).1 ((chain-law g taken untangled q p w.0 h).0 e)
 
   pub vertex-is : (p : ℕ) → p < points_of g → vertex_of_class g c (c p) ≡ vertex_of g p
   vertex-is p h =
       let w = found (λ q. eqb (c q) (c p)) (points_of g) p h (eq-eqb (c p) (c p) refl) in
       let q : ℕ = first_where (λ q. eqb (c q) (c p)) (points_of g) in
       let e : c q ≡ c p = eqb-true (c q) (c p) w.1 in
-      (chain-law g fine untangled q p w.0 h).1 ((k.classes q p w.0 h).0 e)
+      (chain-law g taken untangled q p w.0 h).1 ((k.classes q p w.0 h).0 e)
 
   to-lt : (x : ℕ) → x < vertices_of g → class_of_vertex g c x < m
-  to-lt x h = let f = onto g fine x h in subst (λ (y : ℕ). class_of_vertex g c y < m) f.vertex (subst (λ (y : ℕ). y < m) (sym (class-is f.point f.within)) (k.below f.point f.within))
+  to-lt x h = let f = onto g taken x h in subst (λ (y : ℕ). class_of_vertex g c y < m) f.vertex (subst (λ (y : ℕ). y < m) (sym (class-is f.point f.within)) (k.below f.point f.within))
 
   from-lt : (y : ℕ) → y < m → vertex_of_class g c y < vertices_of g
-  from-lt y h = let w = k.each y h in subst (λ (z : ℕ). vertex_of_class g c z < vertices_of g) w.2 (subst (λ (z : ℕ). z < vertices_of g) (sym (vertex-is w.0 w.1)) (vertex-lt g fine w.0 w.1))
+  from-lt y h = let w = k.each y h in subst (λ (z : ℕ). vertex_of_class g c z < vertices_of g) w.2 (subst (λ (z : ℕ). z < vertices_of g) (sym (vertex-is w.0 w.1)) (vertex-lt g taken w.0 w.1))
 
   there-is : (x : ℕ) → x < vertices_of g → vertex_of_class g c (class_of_vertex g c x) ≡ x
   there-is x h =
-      let f = onto g fine x h in
+      let f = onto g taken x h in
       subst (λ (y : ℕ). vertex_of_class g c (class_of_vertex g c y) ≡ y) f.vertex (ap (vertex_of_class g c) (class-is f.point f.within) ∙ vertex-is f.point f.within)
 
   back_is : (y : ℕ) → y < m → class_of_vertex g c (vertex_of_class g c y) ≡ y

@@ -1,5 +1,7 @@
 -- Refusal 6 in both modes. A grid with a closed axis has no more vertices than cells, so 6 is met in the first mode only where no axis is closed; then nothing is
 -- glued in either mode. So a grid whose classes are few enough is taken by the first mode too, and on untangled grids both counts are equal. Assumes nothing.
+use Rattle.refusal.specs.declared.Refusal.TheVariants.{BadDimension, BadReflection, ShortAxis, TooManyCells, TooManyVertices}
+use Rattle.refusal.specs.Says.{fine}
 use mathlib.Core.Path.{◌≡◌, refl, sym, ap, subst, ◌∙◌}
 use mathlib.Core.Bool.{Bool, true, false, cond, false≢true}
 use mathlib.Core.Logic.{◌⊎◌, inl, inr, ⊎_elim}
@@ -8,9 +10,7 @@ use native.Mathlib.Nat.{mul_comm, mul_assoc, mul-suc, mul-le-mul_left, mul-le-mu
 use native.Mathlib.Omega.{arith}
 use lib.Dec.{ltb}
 use borrow.Author.Tests.{eq-eqb, le-ltb}
-use Rattle.refusal.specs.declared.Answer.TheVariants.{Fine}
 use Rattle.refusal.specs.Refuse.{refuse}
-use Rattle.refusal.specs.Table.{bad_dimension, too_many_cells, too_many_vertices, short_axis_number, bad_reflection_number}
 use Rattle.refusal.specs.Limits.{most_dimension, most_cells, most_vertices}
 use Rattle.quotient.specs.declared.Grid.{Grid}
 use Rattle.quotient.specs.Fold.{product, count}
@@ -101,7 +101,7 @@ module _ (g : Grid) where
         ∙ all-lead (points_of g) ∙ product-same (points_on g) (glued_on g) g.d (λ i l. sym (glued-open i (loose i l)))
 
   -- ---- a closed axis: no more vertices than cells
-  module _ (fine : shape_of g ≡ Fine) where
+  module _ (taken : shape_of g ≡ fine) where
     glued-part : (k : ℕ) → k ≤ g.d → (a : ℕ) → a < k → closed_at g a ≡ true → product (glued_on g) k ≤ product suc k * product (cells_on g) k
     unfolding product
     glued-part zero u a l e = absurd (not-suc-le-zero l)
@@ -110,25 +110,25 @@ module _ (g : Grid) where
         let w : k < g.d = omega arith in
         ⊎_elim
         (λ (m : a < k).
-        widened (product (glued_on g) k) (product suc k) (product (cells_on g) k) (cells_on g k) (glued_on g k) k (glued-part k v a m e) (some-cell g fine k w) (glued-le k) (omega arith))
+        widened (product (glued_on g) k) (product suc k) (product (cells_on g) k) (cells_on g k) (glued_on g k) k (glued-part k v a m e) (some-cell g taken k w) (glued-le k) (omega arith))
         (λ (m : a ≡ k).
-        let x : product (glued_on g) k ≤ product suc (suc k) * product (cells_on g) k = le_trans (product_le (glued_on g) (points_on g) k (λ i n. glued-le i)) (points-part g fine k v) in
+        let x : product (glued_on g) k ≤ product suc (suc k) * product (cells_on g) k = le_trans (product_le (glued_on g) (points_on g) k (λ i n. glued-le i)) (points-part g taken k v) in
         let y : glued_on g k ≡ cells_on g k = glued-shut k (subst (λ (z : ℕ). closed_at g z ≡ true) m e) in
         let s : product (glued_on g) k * glued_on g k ≤ product suc (suc k) * product (cells_on g) k * glued_on g k = mul-le-mul_right (glued_on g k) x in
         subst (λ (z : ℕ). product (glued_on g) k * glued_on g k ≤ z) (ap (λ (z : ℕ). product suc (suc k) * product (cells_on g) k * z) y ∙ mul_assoc (product suc (suc k)) (product (cells_on g) k) (cells_on g k)) s)
         (lt-or-eq a k l)
 
     pub shut-few : (a : ℕ) → a < g.d → closed_at g a ≡ true → vertices_of g ≤ most_vertices
-    shut-few a l e = le_trans (glued-part g.d (le_refl g.d) a l e) (few_cells g fine)
+    shut-few a l e = le_trans (glued-part g.d (le_refl g.d) a l e) (few_cells g taken)
 
     -- ---- the first mode's check
-    pub taken-too : vertices_of g ≤ most_vertices → check_of g ≡ Fine
+    pub taken-too : vertices_of g ≤ most_vertices → check_of g ≡ fine
     unfolding check_of shape_of
     taken-too l =
-        last-test (ltb g.d 1) (ltb most_dimension g.d) (ltb (bad_reflection g) g.d) (ltb (short_axis g) g.d) (ltb most_cells (cell_count g)) (ltb most_vertices (vertices_of g)) (bad_reflection g) (short_axis g) (le-ltb _ _ l) fine
+        last-test (ltb g.d 1) (ltb most_dimension g.d) (ltb (bad_reflection g) g.d) (ltb (short_axis g) g.d) (ltb most_cells (cell_count g)) (ltb most_vertices (vertices_of g)) (bad_reflection g) (short_axis g) (le-ltb _ _ l) taken
       where
-        last-test : (a b c d e f : Bool) (m n : ℕ) → f ≡ false → refuse a bad_dimension 0 (refuse b bad_dimension 0 (refuse c bad_reflection_number m (refuse d short_axis_number n (refuse e too_many_cells 0 Fine)))) ≡ Fine →
-            refuse a bad_dimension 0 (refuse b bad_dimension 0 (refuse c bad_reflection_number m (refuse d short_axis_number n (refuse e too_many_cells 0 (refuse f too_many_vertices 0 Fine))))) ≡ Fine
+        last-test : (a b c d e f : Bool) (m n : ℕ) → f ≡ false → refuse a BadDimension (refuse b BadDimension (refuse c (BadReflection m) (refuse d (ShortAxis n) (refuse e TooManyCells fine)))) ≡ fine →
+            refuse a BadDimension (refuse b BadDimension (refuse c (BadReflection m) (refuse d (ShortAxis n) (refuse e TooManyCells (refuse f TooManyVertices fine))))) ≡ fine
         last-test true b c d e f m n h q = q
         last-test false true c d e f m n h q = q
         last-test false false true d e f m n h q = q
@@ -138,7 +138,7 @@ module _ (g : Grid) where
 
     module _ (c : ℕ → ℕ) (m : ℕ) (k : Classing g c m) where
       -- a grid whose classes are few enough is taken by the first mode too
-      pub few-taken : m ≤ most_vertices → check_of g ≡ Fine
+      pub few-taken : m ≤ most_vertices → check_of g ≡ fine
       few-taken l =
           ⊎_elim
           (λ (w : (a : ℕ) × (a < g.d) × (closed_at g a ≡ true)). taken-too (shut-few w.0 w.1 w.2))

@@ -1,19 +1,18 @@
 -- The promises determine what is said and every list: two calls on equal inputs end alike. So the plain engine and the quick one give the same. Assumes nothing.
+use Rattle.grid_chained.specs.Says.{Classed}
+use Rattle.refusal.specs.Says.{Counted}
+use Rattle.std.specs.Prelude.{Err}
 use mathlib.Core.List.{List, []}
 use mathlib.Core.Path.{◌≡◌, refl, sym, ap, subst, ◌∙◌}
 use Prim.Native.Nat.{ℕ, ◌≤◌, ◌<◌}
 use native.Mathlib.Omega.{arith}
 use lib.ListN.{length}
 use lib.Seq.{ext_get_or}
-use Rattle.refusal.specs.declared.Counted.{Counted}
-use Rattle.refusal.specs.declared.Counted.TheVariants as Counted
 use Rattle.refusal.specs.Lent.{onto, zeroed}
 use Rattle.refusal.specs.Call.{Call}
 use Rattle.refusal.proofs.Determined.{call-one}
 use Rattle.quotient.specs.declared.Grid.{Grid}
 use Rattle.quotient.specs.Points.{points_of}
-use Rattle.grid_chained.specs.declared.Classed.{Classed}
-use Rattle.grid_chained.specs.declared.Classed.TheVariants as Classed
 use Rattle.grid_chained.specs.Shape.{shape_of, need_of}
 use Rattle.quotient.specs.Chain.{same}
 use Rattle.grid_chained.specs.Classing.{at, Classes}
@@ -57,9 +56,9 @@ module _ (g : Grid) where
   -- two exits of a list call, by whichever engine: what is said, the result lists and the rooms are equal
   pub listed-one : (r r' : Counted) (to t t' room o o' : List ℕ) → ClassesListed g r to t room o → ClassesListed g r' to t' room o' → (r ≡ r') × (t ≡ t') × (o ≡ o')
   listed-one r r' to t t' room o o' a b =
-      let Comes : List ℕ → ℕ → Counted → List ℕ → ℕ → Type 0 = λ xs m. Call Counted.Refused [] 0 (shape_of g) (need_of g) (need_of g ≤ length room) (ClassesEnd g xs m (length to)) in
+      let Comes : List ℕ → ℕ → Counted → List ℕ → ℕ → Type 0 = λ xs m. Call Err [] 0 (shape_of g) (need_of g) (need_of g ≤ length room) (ClassesEnd g xs m (length to)) in
       let e =
-      call-one Counted.Refused [] 0 (shape_of g) (need_of g) (need_of g ≤ length room) (ClassesEnd g b.numbers b.count (length to)) (ends-one b.numbers b.count (length to))
+      call-one Err [] 0 (shape_of g) (need_of g) (need_of g ≤ length room) (ClassesEnd g b.numbers b.count (length to)) (ends-one b.numbers b.count (length to))
       (along (λ xs m. Comes xs m r a.handed a.used) a.numbers b.numbers a.count b.count a.classes b.classes a.comes) b.comes in
       (e.0, a.result ∙ ap (λ (l : List ℕ). onto l to) e.1 ∙ sym b.result, a.cleared ∙ ap (λ (n : ℕ). zeroed n room) e.2 ∙ sym b.cleared)
 
@@ -76,9 +75,9 @@ module _ (g : Grid) where
 
   pub reduce-one : (v : ℕ) (r r' : Classed) (room o o' : List ℕ) → ReducedTo g v r room o → ReducedTo g v r' room o' → (r ≡ r') × (o ≡ o')
   reduce-one v r r' room o o' a b =
-      let Comes : List ℕ → ℕ → Classed → List ℕ → ℕ → Type 0 = λ xs m. Call Classed.Refused [] 0 (shape_of g) (need_of g) (need_of g ≤ length room) (ReduceEnd g xs m v) in
+      let Comes : List ℕ → ℕ → Classed → List ℕ → ℕ → Type 0 = λ xs m. Call Err [] 0 (shape_of g) (need_of g) (need_of g ≤ length room) (ReduceEnd g xs m v) in
       let e =
-      call-one Classed.Refused [] 0 (shape_of g) (need_of g) (need_of g ≤ length room) (ReduceEnd g b.numbers b.count v) (reduce-ends b.numbers b.count v)
+      call-one Err [] 0 (shape_of g) (need_of g) (need_of g ≤ length room) (ReduceEnd g b.numbers b.count v) (reduce-ends b.numbers b.count v)
       (along (λ xs m. Comes xs m r [] a.used) a.numbers b.numbers a.count b.count a.classes b.classes a.comes) b.comes in
       (e.0, a.cleared ∙ ap (λ (n : ℕ). zeroed n room) e.2 ∙ sym b.cleared)
 
@@ -90,8 +89,8 @@ module _ (g : Grid) where
 
   pub nvertices-one : (r r' : Counted) (room o o' : List ℕ) → CountedTo g r room o → CountedTo g r' room o' → (r ≡ r') × (o ≡ o')
   nvertices-one r r' room o o' a b =
-      let Comes : List ℕ → ℕ → Counted → List ℕ → ℕ → Type 0 = λ xs m. Call Counted.Refused [] 0 (shape_of g) (need_of g) (need_of g ≤ length room) (CountEnd m) in
+      let Comes : List ℕ → ℕ → Counted → List ℕ → ℕ → Type 0 = λ xs m. Call Err [] 0 (shape_of g) (need_of g) (need_of g ≤ length room) (CountEnd m) in
       let e =
-      call-one Counted.Refused [] 0 (shape_of g) (need_of g) (need_of g ≤ length room) (CountEnd b.count) (count-ends b.count)
+      call-one Err [] 0 (shape_of g) (need_of g) (need_of g ≤ length room) (CountEnd b.count) (count-ends b.count)
       (along (λ xs m. Comes xs m r [] a.used) a.numbers b.numbers a.count b.count a.classes b.classes a.comes) b.comes in
       (e.0, a.cleared ∙ ap (λ (n : ℕ). zeroed n room) e.2 ∙ sym b.cleared)

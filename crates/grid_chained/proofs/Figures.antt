@@ -1,9 +1,11 @@
 -- Figures of honest gluing, computed from the definitions that the contracts cite. Assumes nothing.
+use Rattle.refusal.specs.declared.Refusal.TheVariants.{TooManyVertices}
+use Rattle.refusal.specs.Says.{fine}
+use Rattle.std.specs.Prelude.{Err}
 use mathlib.Core.Path.{◌≡◌, refl}
 use mathlib.Core.List.{List, [], ◌∷◌, map}
 use Prim.Native.Nat.{ℕ}
 use Rattle.grid_sides.specs.declared.Sides.{Sides}
-use Rattle.refusal.specs.declared.Answer.TheVariants.{Fine, Refused}
 use Rattle.quotient.specs.declared.Glue.{Glue}
 use Rattle.quotient.specs.declared.Glue.TheVariants.{Open, Twisted}
 use Rattle.quotient.specs.declared.Axis.{Axis}
@@ -47,6 +49,6 @@ module _ (s : Sides) where
   solid-count = refl
 
   -- 6 is not among the checks before the room
-  pub line-shape : (shape_of (record { d = 1; first = axis 4096 Open; second = axis 0 Open; third = axis 0 Open; sides = s }) ∷ check_of (record { d = 1; first = axis 4096 Open; second = axis 0 Open; third = axis 0 Open; sides = s }) ∷ []) ≡ Fine ∷ Refused 6 0 ∷ []
+  pub line-shape : (shape_of (record { d = 1; first = axis 4096 Open; second = axis 0 Open; third = axis 0 Open; sides = s }) ∷ check_of (record { d = 1; first = axis 4096 Open; second = axis 0 Open; third = axis 0 Open; sides = s }) ∷ []) ≡ fine ∷ Err TooManyVertices ∷ []
   unfolding shape_of check_of first_where found_at some bad_set axis_of product
   line-shape = refl

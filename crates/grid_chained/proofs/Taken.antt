@@ -1,18 +1,22 @@
--- What is known of a grid that is taken in this mode: `shape_of g ≡ Fine`. It has at most as many points as its words have corners, so all its numbers are small. Assumes nothing.
+-- What is known of a grid that is taken in this mode: `shape_of g ≡ fine`. It has at most as many points as its words have corners, so all its numbers are small. Assumes nothing.
+use Rattle.refusal.specs.declared.Refusal.{Refusal}
+use Rattle.refusal.specs.declared.Refusal.TheVariants.{BadDimension, BadReflection, ShortAxis, TooManyCells, TooManyVertices}
+use Rattle.refusal.specs.contracts.RefusalPartialEq.TheImpl.{eq-value}
+use Rattle.refusal.specs.Says.{Answer, fine}
+use Rattle.std.specs.Result.{result_eq}
+use mathlib.Core.Logic.{◌⊎◌, inl, inr, ⊎_elim}
+use Rattle.std.specs.Prelude.{Err}
 use mathlib.Core.Path.{◌≡◌, refl, sym, ap, subst, ◌∙◌}
 use mathlib.Core.Bool.{Bool, true, false, cond}
-use Prim.Native.Nat.{ℕ, zero, suc, ◌+◌, ◌-◌, ◌*◌, ◌≤◌, ◌<◌}
+use Prim.Native.Nat.{ℕ, zero, suc, ◌+◌, ◌*◌, ◌≤◌, ◌<◌}
 use native.Mathlib.Nat.{mul_comm, mul_assoc, mul-one, mul-suc, mul-le-mul_left, mul-le-mul_right, le_trans, le_refl}
 use native.Mathlib.Numerals.{add-one}
 use native.Mathlib.Omega.{arith}
-use lib.Dec.{ltb, eqb}
-use borrow.Author.Tests.{ltb-false, eq-eqb, ne_eqb}
-use Rattle.refusal.specs.declared.Answer.{Answer}
-use Rattle.refusal.specs.declared.Answer.TheVariants.{Fine, Refused}
+use lib.Dec.{ltb}
+use borrow.Author.Tests.{ltb-false}
 use Rattle.refusal.specs.Refuse.{refuse}
-use Rattle.refusal.specs.Table.{bad_dimension, too_many_cells, too_many_vertices, short_axis_number, bad_reflection_number}
 use Rattle.refusal.specs.Limits.{most_dimension, most_cells, most_vertices, most_corners}
-use Rattle.refusal.proofs.Chain.{refuse-fine}
+use Rattle.refusal.proofs.Chain.{fine-refused, refused-same, refuse-fine}
 use Rattle.quotient.specs.declared.Grid.{Grid}
 use Rattle.quotient.specs.Fold.{product}
 use Rattle.quotient.specs.Shape.{cells_on, closed_at, closed_floor, open_floor, points_on, falls_short, bad_reflection, short_axis, cell_count, vertices_of, check_of}
@@ -23,36 +27,60 @@ use Rattle.grid_chained.specs.Shape.{shape_of, need_of}
 
 -- ---- the first mode's check without its last test
 
--- the answer without 6
-abbrev pub without_six : Answer → Answer
-without_six Fine = Fine
-without_six (Refused n p) = cond (eqb n too_many_vertices) Fine (Refused n p)
+-- the answer without 6, as `==` tells it
+abbrev pub without_six : (Unit {0} → Unit {0} → Bool) → Answer → Answer
+without_six same a = cond (result_eq same eq-value.it a (Err TooManyVertices)) fine a
 
-without-chain : (a b c d e f : Bool) (m n : ℕ) →
-    without_six (refuse a bad_dimension 0 (refuse b bad_dimension 0 (refuse c bad_reflection_number m (refuse d short_axis_number n (refuse e too_many_cells 0 (refuse f too_many_vertices 0 Fine))))))
-    ≡ refuse a bad_dimension 0 (refuse b bad_dimension 0 (refuse c bad_reflection_number m (refuse d short_axis_number n (refuse e too_many_cells 0 Fine))))
-without-chain true b c d e f m n = refl
-without-chain false true c d e f m n = refl
-without-chain false false true d e f m n = refl
-without-chain false false false true e f m n = refl
-without-chain false false false false true f m n = refl
-without-chain false false false false false true m n = refl
-without-chain false false false false false false m n = refl
+without-chain : (same : Unit {0} → Unit {0} → Bool) (a b c d e f : Bool) (m n : ℕ) →
+    without_six same (refuse a BadDimension (refuse b BadDimension (refuse c (BadReflection m) (refuse d (ShortAxis n) (refuse e TooManyCells (refuse f TooManyVertices fine))))))
+    ≡ refuse a BadDimension (refuse b BadDimension (refuse c (BadReflection m) (refuse d (ShortAxis n) (refuse e TooManyCells fine))))
+without-chain same true b c d e f m n = refl
+without-chain same false true c d e f m n = refl
+without-chain same false false true d e f m n = refl
+without-chain same false false false true e f m n = refl
+without-chain same false false false false true f m n = refl
+without-chain same false false false false false true m n = refl
+without-chain same false false false false false false m n = refl
 
-pub without-six : (g : Grid) → without_six (check_of g) ≡ shape_of g
+pub without-six : (same : Unit {0} → Unit {0} → Bool) (g : Grid) → without_six same (check_of g) ≡ shape_of g
 unfolding check_of shape_of
-without-six g =
-    without-chain (ltb g.d 1) (ltb most_dimension g.d) (ltb (bad_reflection g) g.d) (ltb (short_axis g) g.d) (ltb most_cells (cell_count g)) (ltb most_vertices (vertices_of g)) (bad_reflection g) (short_axis g)
+without-six same g =
+    without-chain same (ltb g.d 1) (ltb most_dimension g.d) (ltb (bad_reflection g) g.d) (ltb (short_axis g) g.d) (ltb most_cells (cell_count g)) (ltb most_vertices (vertices_of g)) (bad_reflection g) (short_axis g)
+
+-- every refusal but 6 stands
+six_or-chain : (a b c d e f : Bool) (m n : ℕ) (why : Refusal) →
+    refuse a BadDimension (refuse b BadDimension (refuse c (BadReflection m) (refuse d (ShortAxis n) (refuse e TooManyCells (refuse f TooManyVertices fine))))) ≡ Err why →
+    (why ≡ TooManyVertices) ⊎ (Err why ≡ refuse a BadDimension (refuse b BadDimension (refuse c (BadReflection m) (refuse d (ShortAxis n) (refuse e TooManyCells fine)))))
+six_or-chain true b c d e f m n why q = inr (sym q)
+six_or-chain false true c d e f m n why q = inr (sym q)
+six_or-chain false false true d e f m n why q = inr (sym q)
+six_or-chain false false false true e f m n why q = inr (sym q)
+six_or-chain false false false false true f m n why q = inr (sym q)
+six_or-chain false false false false false true m n why q = inl (sym (refused-same TooManyVertices why q))
+six_or-chain false false false false false false m n why q = absurd (fine-refused why (sym q))
 
 module _ (g : Grid) where
-  pub shape-fine : check_of g ≡ Fine → Fine ≡ shape_of g
-  shape-fine e = sym (ap without_six e) ∙ without-six g
+  pub shape-fine : check_of g ≡ fine → fine ≡ shape_of g
+  shape-fine e = sym (ap (without_six (λ x y. true)) e) ∙ without-six (λ x y. true) g
 
-  pub shape-six : (n p : ℕ) → check_of g ≡ Refused n p → n ≡ too_many_vertices → Fine ≡ shape_of g
-  shape-six n p e h = sym (ap without_six e ∙ rw (eq-eqb n too_many_vertices h)) ∙ without-six g
+  pub shape-six : (why : Refusal) → check_of g ≡ Err why → why ≡ TooManyVertices → fine ≡ shape_of g
+  shape-six why e h = sym (ap (without_six (λ x y. true)) (e ∙ ap Err h)) ∙ without-six (λ x y. true) g
 
-  pub shape-other : (n p : ℕ) → check_of g ≡ Refused n p → (n ≡ too_many_vertices → ⊥) → Refused n p ≡ shape_of g
-  shape-other n p e h = sym (ap without_six e ∙ rw (ne_eqb n too_many_vertices h)) ∙ without-six g
+  pub six_or-shape : (why : Refusal) → check_of g ≡ Err why → (why ≡ TooManyVertices) ⊎ (Err why ≡ shape_of g)
+  unfolding check_of shape_of
+  six_or-shape why e =
+      six_or-chain (ltb g.d 1) (ltb most_dimension g.d) (ltb (bad_reflection g) g.d) (ltb (short_axis g) g.d) (ltb most_cells (cell_count g)) (ltb most_vertices (vertices_of g)) (bad_reflection g) (short_axis g) why e
+
+  pub shape-other : (why : Refusal) → check_of g ≡ Err why → (why ≡ TooManyVertices → ⊥) → Err why ≡ shape_of g
+  shape-other why e n = ⊎_elim (λ h. absurd (n h)) (λ x. x) (six_or-shape why e)
+
+  -- what `==` tells of the check decides what is said
+  module _ (same : Unit {0} → Unit {0} → Bool) (a : Answer) (q : a ≡ check_of g) where
+    pub said-six : true ≡ result_eq same eq-value.it a (Err TooManyVertices) → fine ≡ shape_of g
+    said-six h = ap (λ (b : Bool). cond b fine a) h ∙ ap (without_six same) q ∙ without-six same g
+
+    pub said-other : false ≡ result_eq same eq-value.it a (Err TooManyVertices) → a ≡ shape_of g
+    said-other h = ap (λ (b : Bool). cond b fine a) h ∙ ap (without_six same) q ∙ without-six same g
 
 -- ---- numbers
 
@@ -68,19 +96,19 @@ grows P F C n k h l =
     let e : F * C * (n * suc (suc k)) ≡ F * suc (suc k) * (C * n) = regroup F C n (suc (suc k)) in
     omega arith
 
-module _ (g : Grid) (fine : shape_of g ≡ Fine) where
+module _ (g : Grid) (taken : shape_of g ≡ fine) where
   tests : (ltb g.d 1 ≡ false) × (ltb most_dimension g.d ≡ false) × (ltb (bad_reflection g) g.d ≡ false) × (ltb (short_axis g) g.d ≡ false) × (ltb most_cells (cell_count g) ≡ false)
   unfolding shape_of
   tests =
-      let p5 : Answer = refuse (ltb most_cells (cell_count g)) too_many_cells 0 Fine in
-      let p4 : Answer = refuse (ltb (short_axis g) g.d) short_axis_number (short_axis g) p5 in
-      let p3 : Answer = refuse (ltb (bad_reflection g) g.d) bad_reflection_number (bad_reflection g) p4 in
-      let p2 : Answer = refuse (ltb most_dimension g.d) bad_dimension 0 p3 in
-      let e1 = refuse-fine (ltb g.d 1) bad_dimension 0 p2 fine in
-      let e2 = refuse-fine (ltb most_dimension g.d) bad_dimension 0 p3 e1.1 in
-      let e3 = refuse-fine (ltb (bad_reflection g) g.d) bad_reflection_number (bad_reflection g) p4 e2.1 in
-      let e4 = refuse-fine (ltb (short_axis g) g.d) short_axis_number (short_axis g) p5 e3.1 in
-      let e5 = refuse-fine (ltb most_cells (cell_count g)) too_many_cells 0 Fine e4.1 in
+      let p5 : Answer = refuse (ltb most_cells (cell_count g)) TooManyCells fine in
+      let p4 : Answer = refuse (ltb (short_axis g) g.d) (ShortAxis (short_axis g)) p5 in
+      let p3 : Answer = refuse (ltb (bad_reflection g) g.d) (BadReflection (bad_reflection g)) p4 in
+      let p2 : Answer = refuse (ltb most_dimension g.d) BadDimension p3 in
+      let e1 = refuse-fine (ltb g.d 1) _ p2 taken in
+      let e2 = refuse-fine (ltb most_dimension g.d) _ p3 e1.1 in
+      let e3 = refuse-fine (ltb (bad_reflection g) g.d) _ p4 e2.1 in
+      let e4 = refuse-fine (ltb (short_axis g) g.d) _ p5 e3.1 in
+      let e5 = refuse-fine (ltb most_cells (cell_count g)) _ fine e4.1 in
       (e1.0, e2.0, e3.0, e4.0, e5.0)
 
   pub high : g.d ≤ most_dimension

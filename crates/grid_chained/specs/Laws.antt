@@ -1,19 +1,15 @@
 -- What is proved of this mode beside the promises: on grids with no reflected twisted axis it makes the same classes as the first mode, and a square whose two axes are
 -- twisted over each other has n·n + 1 classes. Assumes nothing.
-use Rattle.std.specs.Prelude.{List, ◌≡◌, ℕ, ◌+◌, ◌*◌, ◌<◌, ◌≤◌, length}
-use Rattle.refusal.specs.declared.Answer.TheVariants.{Fine}
-use Rattle.refusal.specs.declared.Counted.{Counted}
-use Rattle.refusal.specs.declared.Counted.TheVariants as Counted
+use Rattle.refusal.specs.Says.{Counted, fine}
+use Rattle.std.specs.Prelude.{Ok, List, ◌≡◌, ℕ, ◌+◌, ◌*◌, ◌<◌, ◌≤◌, length}
 use Rattle.quotient.specs.declared.Glue.TheVariants.{Twisted}
 use Rattle.quotient.specs.declared.Axis.{Axis}
 use Rattle.quotient.specs.declared.Grid.{Grid}
 use Rattle.quotient.specs.declared.Crossing.{Crossing}
-use Rattle.quotient.specs.declared.Reduced.TheVariants as Reduced
 use Rattle.quotient.specs.Shape.{axis_of, vertices_of, nvertices_of}
 use Rattle.quotient.specs.Reduce.{vertex_of, reduce_of}
 use Rattle.quotient.specs.Points.{points_of}
 use Rattle.quotient.specs.Chain.{Untangled}
-use Rattle.grid_chained.specs.declared.Classed.TheVariants as Classed
 use Rattle.grid_chained.specs.Shape.{shape_of, need_of}
 use Rattle.grid_chained.specs.PromiseReduce.{ReducedTo}
 use Rattle.grid_chained.specs.PromiseCount.{CountedTo}
@@ -37,8 +33,8 @@ pub record BothModes (g : Grid) : Type 0 where
   pub to : ℕ → ℕ
   pub from : ℕ → ℕ
   -- where the first mode's `reduce` says x of a grid point and this mode's says y, y is x renamed and x is y renamed back
-  pub point : (v y : ℕ) (x : Crossing) (room room' : List ℕ) → v < points_of g → reduce_of g (record { 0 = v }) ≡ Reduced.At x →
-      ReducedTo g v (Classed.At (record { 0 = y })) room room' → (to x.vertex.0 ≡ y) × (from y ≡ x.vertex.0)
+  pub point : (v y : ℕ) (x : Crossing) (room room' : List ℕ) → v < points_of g → reduce_of g (record { 0 = v }) ≡ Ok x →
+      ReducedTo g v (Ok (record { 0 = y })) room room' → (to x.vertex.0 ≡ y) × (from y ≡ x.vertex.0)
   -- with room `nvertices` says the same in both modes
   pub count : (r : Counted) (room room' : List ℕ) → need_of g ≤ length room → CountedTo g r room room' → r ≡ nvertices_of g
 
@@ -60,4 +56,4 @@ pub record Square (g : Grid) (n : ℕ) : Type 0 where
 
 -- with room `nvertices` says n·n + 1 of such a square that is taken
 abbrev pub SquareLaw : Type 0
-SquareLaw = (g : Grid) (n : ℕ) → Square g n → shape_of g ≡ Fine → (r : Counted) (room room' : List ℕ) → need_of g ≤ length room → CountedTo g r room room' → r ≡ Counted.Count (n * n + 1)
+SquareLaw = (g : Grid) (n : ℕ) → Square g n → shape_of g ≡ fine → (r : Counted) (room room' : List ℕ) → need_of g ≤ length room → CountedTo g r room room' → r ≡ Ok (n * n + 1)

@@ -1,4 +1,5 @@
 -- What the contracts of `grid_chained` cite. A reader of the calls needs Classing, Shape, the three Promise files and Laws; the Work files are inner contracts.
+pub mod Says
 pub mod Classing
 pub mod Shape
 pub mod PromiseClasses

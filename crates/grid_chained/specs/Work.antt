@@ -1,7 +1,6 @@
 -- Inner contracts of the calls: the work on a grid that is taken, in a room of just the size needed. Assumes nothing.
+use Rattle.refusal.specs.Says.{Counted, fine}
 use Rattle.std.specs.Prelude.{List, ◌≡◌, ℕ, ◌<◌, ◌≤◌, length}
-use Rattle.refusal.specs.declared.Answer.TheVariants.{Fine}
-use Rattle.refusal.specs.declared.Counted.{Counted}
 use Rattle.refusal.specs.Lent.{onto}
 use Rattle.quotient.specs.declared.Grid.{Grid}
 use Rattle.quotient.specs.Points.{points_of}
@@ -12,11 +11,11 @@ use Rattle.grid_chained.specs.PromiseClasses.{ClassesEnd}
 
 -- a list with a place for each point of a grid that is taken; and the room
 pub record Pointwise (g : Grid) (points : List ℕ) : Type 0 where
-  pub taken : shape_of g ≡ Fine
+  pub taken : shape_of g ≡ fine
   pub long : length points ≡ points_of g
 
 pub record Working (g : Grid) (room : List ℕ) : Type 0 where
-  pub taken : shape_of g ≡ Fine
+  pub taken : shape_of g ≡ fine
   pub long : length room ≡ need_of g
 
 -- the end of the list calls, and the result list afterwards

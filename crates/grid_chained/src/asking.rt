@@ -40,6 +40,6 @@ pub fn cleared(grid: Grid, v: u32, room: &mut [u32]) -> Look
     ensures room { room.new ≡ replicate (length room.old) 0 }
 {
     let said = work(grid, v, room);
-    lists::clear(room);
+    room.fill(0);
     said
 }

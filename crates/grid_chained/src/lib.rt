@@ -31,13 +31,6 @@ pub mod step;
 pub mod turn;
 
 // The number of a class of grid points: neither a grid vertex nor a vertex of the first mode. Only the calls of this mode lead to it, `reduce` for one point and
-// the lists for all.
+// the lists for all. 4294967295 stands for a number past the last grid point, and is no class.
 #[derive(Clone, Copy)]
 pub struct ClassVertex(pub u32);
-
-// What `reduce` says: a point's class. 4294967295 stands for a number past the last grid point, and is no class.
-#[derive(Clone, Copy)]
-pub enum Classed {
-    At(ClassVertex),
-    Refused(u32, u32),
-}

@@ -7,17 +7,14 @@ pub fn number(labels: &mut [u32]) -> usize
     ensures { Numbered labels.old labels.new result }
 {
     let mut m = 0usize;
-    let mut v = 0usize;
-    while v < labels.len() {
+    for v in 0..labels.len() {
         let l = labels[v] as usize;
         if l == v {
             labels[v] = m as u32;
             m += 1;
-            v += 1;
             continue;
         }
         labels[v] = labels[l];
-        v += 1;
     }
     m
 }

@@ -1,6 +1,6 @@
 // The plain engine: each point's label starts as its own number, and the two ends of every step take the lesser of their labels until a round changes nothing.
 ghost use Rattle.std.specs.Prelude.{◌≡◌, ◌||◌, ℕ, ◌<◌, length};
-ghost use Rattle.refusal.specs.declared.Answer.TheVariants.{Fine};
+ghost use Rattle.refusal.specs.Says.{fine};
 ghost use Rattle.quotient.specs.Points.{points_of};
 ghost use Rattle.grid_chained.specs.Shape.{shape_of};
 ghost use Rattle.grid_chained.specs.Classing.{at};
@@ -37,7 +37,7 @@ fn either(a: bool, b: bool) -> bool
 
 // Levels the two ends of the step along axis a that leaves from point v, if there is one.
 fn level_step(grid: Grid, v: u32, a: u32, labels: &mut [u32]) -> bool
-    requires { (shape_of grid ≡ Fine) × (v < points_of grid) × (a < grid.d) × Marked grid labels.old }
+    requires { (shape_of grid ≡ fine) × (v < points_of grid) × (a < grid.d) × Marked grid labels.old }
     ensures { Pass grid (λ (x b : ℕ). (x ≡ v) × (b ≡ a)) labels.old labels.new result }
 {
     if !step::leaves(grid, v, a) {
@@ -49,31 +49,26 @@ fn level_step(grid: Grid, v: u32, a: u32, labels: &mut [u32]) -> bool
 
 // Levels the ends of the steps that leave from point v.
 fn level_steps(grid: Grid, v: u32, labels: &mut [u32]) -> bool
-    requires { (shape_of grid ≡ Fine) × (v < points_of grid) × Marked grid labels.old }
+    requires { (shape_of grid ≡ fine) × (v < points_of grid) × Marked grid labels.old }
     ensures { Pass grid (λ (x b : ℕ). (x ≡ v) × (b < grid.d)) labels.old labels.new result }
 {
-    let d = grid.d;
     let mut changed = false;
-    let mut a = 0u32;
-    while a < d {
+    for a in 0..grid.d {
         let now = level_step(grid, v, a, labels);
         changed = either(changed, now);
-        a += 1;
     }
     changed
 }
 
 // One round: levels the ends of every step.
 fn round(grid: Grid, labels: &mut [u32]) -> bool
-    requires { (shape_of grid ≡ Fine) × Marked grid labels.old }
+    requires { (shape_of grid ≡ fine) × Marked grid labels.old }
     ensures { Pass grid (λ (x b : ℕ). (x < points_of grid) × (b < grid.d)) labels.old labels.new result }
 {
     let mut changed = false;
-    let mut v = 0;
-    while v < labels.len() {
+    for v in 0..labels.len() {
         let moved = level_steps(grid, v as u32, labels);
         changed = either(changed, moved);
-        v += 1;
     }
     changed
 }
@@ -83,20 +78,19 @@ fn own(labels: &mut [u32])
     requires { length labels.old < 4294967296 }
     ensures { (p : ℕ) → p < length labels.old → at labels.new p ≡ p }
 {
-    let mut v = 0;
-    while v < labels.len() {
-        labels[v] = v as u32;
-        v += 1;
+    for (v, label) in labels.iter_mut().enumerate() {
+        *label = v as u32;
     }
 }
 
 // Writes the least point of its class for each point of a grid that is taken, by rounds until one changes nothing.
 pub fn plain_labels(grid: Grid, labels: &mut [u32])
-    requires { (shape_of grid ≡ Fine) × (length labels.old ≡ points_of grid) }
+    requires { (shape_of grid ≡ fine) × (length labels.old ≡ points_of grid) }
     ensures { Labelled grid labels.new }
 {
     own(labels);
     let mut again = true;
+    // Kept: the rounds end by what a round says, not by a count, so the new form is no plainer.
     while again {
         again = round(grid, labels);
     }

@@ -1,6 +1,6 @@
 // The quick engine: the least point of a class, by going through its points.
 ghost use Rattle.std.specs.Prelude.{◌≡◌, length};
-ghost use Rattle.refusal.specs.declared.Answer.TheVariants.{Fine};
+ghost use Rattle.refusal.specs.Says.{fine};
 ghost use Rattle.quotient.specs.Points.{points_of};
 ghost use Rattle.grid_chained.specs.Shape.{shape_of};
 ghost use Rattle.grid_chained.specs.WorkTurn.{least_below};
@@ -11,7 +11,7 @@ use quotient::Grid;
 
 // The least point that v becomes across axes below a, in a grid that is taken.
 fn least_below(grid: Grid, v: u32, a: u32) -> u32
-    requires { shape_of grid ≡ Fine }
+    requires { shape_of grid ≡ fine }
     ensures { result ≡ least_below grid a v }
 {
     if a == 0 {
@@ -28,13 +28,11 @@ fn least_below(grid: Grid, v: u32, a: u32) -> u32
 
 // Writes the least point of its class for each point of a grid that is taken.
 pub fn quick_labels(grid: Grid, labels: &mut [u32])
-    requires { (shape_of grid ≡ Fine) × (length labels.old ≡ points_of grid) }
+    requires { (shape_of grid ≡ fine) × (length labels.old ≡ points_of grid) }
     ensures { Labelled grid labels.new }
 {
     let d = grid.d;
-    let mut v = 0;
-    while v < labels.len() {
-        labels[v] = least_below(grid, v as u32, d);
-        v += 1;
+    for (v, label) in labels.iter_mut().enumerate() {
+        *label = least_below(grid, v as u32, d);
     }
 }

@@ -1,6 +1,6 @@
 // A gluing step: it leaves from a point at the far end of a closed axis and leads to the near end.
 ghost use Rattle.std.specs.Prelude.{◌≡◌, ◌<◌};
-ghost use Rattle.refusal.specs.declared.Answer.TheVariants.{Fine};
+ghost use Rattle.refusal.specs.Says.{fine};
 ghost use Rattle.quotient.specs.Reduce.{wrapped_at};
 ghost use Rattle.quotient.specs.Points.{points_of, point_of};
 ghost use Rattle.quotient.specs.Chain.{stepped_to};
@@ -43,17 +43,14 @@ fn coordinate(grid: Grid, v: u32, a: u32, k: u32) -> usize
 
 // The point that a step along axis a leads to from point v, in a grid that is taken.
 pub fn leads(grid: Grid, v: u32, a: u32) -> u32
-    requires { shape_of grid ≡ Fine }
+    requires { shape_of grid ≡ fine }
     ensures { (result ≡ point_of grid (stepped_to grid v a)) × (result < points_of grid) }
 {
-    let d = grid.d;
     let mut s = 1usize;
     let mut x = 0usize;
-    let mut k = 0u32;
-    while k < d {
-        x = x + s * coordinate(grid, v, a, k);
-        s = s * grid.points_on(k);
-        k += 1;
+    for k in 0..grid.d {
+        x += s * coordinate(grid, v, a, k);
+        s *= grid.points_on(k);
     }
     x as u32
 }

@@ -1,6 +1,6 @@
 // A point at an end of an axis, and the point across it.
 ghost use Rattle.std.specs.Prelude.{◌≡◌, ◌<◌, ◌≤◌};
-ghost use Rattle.refusal.specs.declared.Answer.TheVariants.{Fine};
+ghost use Rattle.refusal.specs.Says.{fine};
 ghost use Rattle.quotient.specs.Shape.{cells_on};
 ghost use Rattle.quotient.specs.Reduce.{coord_at};
 ghost use Rattle.quotient.specs.Points.{points_of};
@@ -49,17 +49,14 @@ fn turned(grid: Grid, v: u32, a: u32, k: u32) -> usize
 
 // The point across axis a from point v, in a grid that is taken.
 pub fn across(grid: Grid, v: u32, a: u32) -> u32
-    requires { shape_of grid ≡ Fine }
+    requires { shape_of grid ≡ fine }
     ensures { (result ≡ across_of grid v a) × (result < points_of grid) }
 {
-    let d = grid.d;
     let mut s = 1usize;
     let mut x = 0usize;
-    let mut k = 0u32;
-    while k < d {
-        x = x + s * turned(grid, v, a, k);
-        s = s * grid.points_on(k);
-        k += 1;
+    for k in 0..grid.d {
+        x += s * turned(grid, v, a, k);
+        s *= grid.points_on(k);
     }
     x as u32
 }

@@ -1,6 +1,9 @@
 -- A square of n by n cells whose two axes are twisted over each other, n from 3 on: its words have a facet in three cells. The triangle at the far end of axis 0 in the
 -- first row and the one at the far end of axis 1 in the first column have the same classes, so their boxes share a diagonal, which lies in this cell and in the other
 -- triangle of each box. Assumes nothing.
+use Rattle.refusal.specs.declared.Refusal.TheVariants.{CrowdedFacet}
+use Rattle.refusal.specs.Says.{Counted, fine}
+use Rattle.std.specs.Prelude.{Err}
 use mathlib.Core.Path.{◌≡◌, refl, sym, ap, subst, ◌∙◌}
 use mathlib.Core.Bool.{Bool, true, false, cond, ◌||◌}
 use mathlib.Core.Logic.{◌⊎◌, inl, inr, ⊎_elim}
@@ -14,14 +17,10 @@ use lib.ListN.{length, length-map}
 use lib.Arith.{digits_div, digits_mod}
 use borrow.Author.Tests.{lt-ltb, le-ltb, ne_eqb}
 use Rattle.grid_sides.specs.declared.Sides.{Sides}
-use Rattle.refusal.specs.declared.Counted.{Counted}
-use Rattle.refusal.specs.declared.Counted.TheVariants.{Refused}
-use Rattle.refusal.specs.Table.{crowded_facet}
 use Rattle.refusal.specs.Limits.{most_vertices}
 use Rattle.refusal.specs.Lent.{lengths, Roomy}
 use Rattle.refusal.specs.Call.{ended}
 use Rattle.refusal.proofs.Determined.{comes-one}
-use Rattle.refusal.specs.declared.Answer.TheVariants.{Fine}
 use Rattle.lists.specs.Words.{among, has_repeat}
 use Rattle.lists.specs.Rows.{row}
 use Rattle.lists.proofs.Laws.{map_at}
@@ -403,7 +402,7 @@ module _ (j : ℕ) (large : 2 ≤ j) (third-axis : Axis) (s : Sides) where
   count-is =
       ap (λ (x : ℕ). 2 * (x * cells_on g 1)) (one-mul (cells_on g 0)) ∙ ap (λ (x : ℕ). 2 * (x * cells_on g 1)) cells-0 ∙ ap (λ (x : ℕ). 2 * (suc j * x)) cells-1
 
-  module _ (fine : check_of g ≡ Fine) where
+  module _ (taken : check_of g ≡ fine) where
     abbrev c : ℕ → ℕ
     c = class_of g
 
@@ -474,7 +473,7 @@ module _ (j : ℕ) (large : 2 ≤ j) (third-axis : Axis) (s : Sides) where
 
     in_words : (x : ℕ) (v : Word) → x < cell_count g → map c (cell_no g x) ≡ v → In v (words_by g c)
     in_words x v h e =
-        subst (λ (z : Word). In z (words_by g c)) e (subst (λ (ws : List Word). In (map c (cell_no g x)) ws) (sym (words-tab g fine c)) (to-tab (word_by g fine c) (cell_count g) x h))
+        subst (λ (z : Word). In z (words_by g c)) e (subst (λ (ws : List Word). In (map c (cell_no g x)) ws) (sym (words-tab g taken c)) (to-tab (word_by g taken c) (cell_count g) x h))
 
     word-p : In (c a ∷ c far ∷ c b ∷ []) (words_by g c)
     word-p =
@@ -494,7 +493,7 @@ module _ (j : ℕ) (large : 2 ≤ j) (third-axis : Axis) (s : Sides) where
 
     crowded-cells : Crowded 2 (in_order 3 (words_by g c))
     crowded-cells =
-        three-cells (words_by g c) (c a) (c b) (c far) (c u) (c w) (words-each g fine c) word-p word-q word-r
+        three-cells (words_by g c) (c a) (c b) (c far) (c u) (c w) (words-each g taken c) word-p word-q word-r
         (apart_by a b j (N + suc j) in-a in_b least-a least-b (λ e. omega arith))
         (apart_by far a (suc j) j in-far in-a least-far least-a (λ e. omega arith))
         (apart_by far b (suc j) (N + suc j) in-far in_b least-far least-b (λ e. omega arith))
@@ -510,7 +509,7 @@ module _ (j : ℕ) (large : 2 ≤ j) (third-axis : Axis) (s : Sides) where
         far-off l = omega (arith, before, wide)
 
     crowded-plane : Crowd g (flat_by g c)
-    crowded-plane = subst (λ (cs : List Word). Crowded 2 cs) (sym (cells_are g fine c)) crowded-cells
+    crowded-plane = subst (λ (cs : List Word). Crowded 2 cs) (sym (cells_are g taken c)) crowded-cells
 
     -- ---- no word names a class twice
     turns-0 : turns_at g 0 0 ≡ true
@@ -545,8 +544,8 @@ module _ (j : ℕ) (large : 2 ≤ j) (third-axis : Axis) (s : Sides) where
     corners-differ x i k l m e =
         let p : ℕ = corner_of g x i in
         let q : ℕ = corner_of g x k in
-        let box : InBox g p q = in-box g fine x i k (omega arith) m in
-        let rises : p < q = corner-rises g fine x i k l m in
+        let box : InBox g p q = in-box g taken x i k (omega arith) m in
+        let rises : p < q = corner-rises g taken x i k l m in
         let o = opposite p q box.first box.second rises (least-one g (((class-numbers g).classes p q box.first box.second).0 e) (least-law g p box.first) (least-law g q box.second)) in
         let across : q ≡ across_of g p 0 = o.0 ∙ sym (across-0 g j refl first-is second_is p box.first) in
         let x-turned : coord_at g q 0 ≡ suc j - coord_at g p 0 = ap (λ (z : ℕ). coord_at g z 0) across ∙ across-coord g p 0 0 (omega arith) ∙ ap (λ (n : ℕ). n - coord_at g p 0) cells-0 in
@@ -574,25 +573,25 @@ module _ (j : ℕ) (large : 2 ≤ j) (third-axis : Axis) (s : Sides) where
         (Pairs-of (λ x y. x ≡ y → ⊥) (map c (cell_no g x))
         (λ i k l m e.
         let o : k < length (cell_no g x) = subst (λ (n : ℕ). k < n) (length-map (cell_no g x) c) m in
-        let z : k ≤ 2 = omega (arith, cell-length g fine x) in
+        let z : k ≤ 2 = omega (arith, cell-length g taken x) in
         corners-differ x i k l z (sym (map_at c (cell_no g x) i 0 0 (omega arith)) ∙ e ∙ map_at c (cell_no g x) k 0 0 o)))
 
     never-twice : first_twice g (flat_by g c) ≡ cell_count g
     never-twice = first-none (λ x. has_repeat (row (flat_by g c) 3 x)) (cell_count g) (λ x h. ap has_repeat (row-is' x h) ∙ single x)
       where
         row-is' : (x : ℕ) → x < cell_count g → row (flat_by g c) 3 x ≡ map c (cell_no g x)
-        row-is' = Words.row_is g fine c
+        row-is' = Words.row_is g taken c
 
   -- ---- the call
-  plane-seven : shape_of g ≡ Fine → (r : Counted) (words words' keys keys' rows rows' spare spare' counts counts' : List ℕ) → Roomy (grid_need g) (lengths keys rows spare counts) →
-      CellWords g r words words' keys keys' rows rows' spare spare' counts counts' → r ≡ Refused crowded_facet 0
+  plane-seven : shape_of g ≡ fine → (r : Counted) (words words' keys keys' rows rows' spare spare' counts counts' : List ℕ) → Roomy (grid_need g) (lengths keys rows spare counts) →
+      CellWords g r words words' keys keys' rows rows' spare spare' counts counts' → r ≡ Err CrowdedFacet
   plane-seven shape r words words' keys keys' rows rows' spare spare' counts counts' room k =
       let few : class_count g ≤ most_vertices = few-classes in
-      let fine : check_of g ≡ Fine = few-taken g shape (class_of g) (class_count g) (class-numbers g) few in
-      let e : first_twice g (flat_by g (class_of g)) ≡ cell_count g = never-twice fine in
-      let end : WordsEnd g (length words) (Refused crowded_facet 0) [] =
-      crowded (flat_by g (class_of g)) (record { of = words-there g shape few; none = (let z : cell_count g ≤ first_twice g (flat_by g (class_of g)) = omega arith in z) }) (crowded-plane fine) in
-      (comes-one Refused [] (shape_of g) (grid_need g) (lengths keys rows spare counts) (WordsEnd g (length words)) (ends-one g (length words)) k.comes (ended shape room end)).0
+      let taken : check_of g ≡ fine = few-taken g shape (class_of g) (class_count g) (class-numbers g) few in
+      let e : first_twice g (flat_by g (class_of g)) ≡ cell_count g = never-twice taken in
+      let end : WordsEnd g (length words) (Err CrowdedFacet) [] =
+      crowded (flat_by g (class_of g)) (record { of = words-there g shape few; none = (let z : cell_count g ≤ first_twice g (flat_by g (class_of g)) = omega arith in z) }) (crowded-plane taken) in
+      (comes-one Err [] (shape_of g) (grid_need g) (lengths keys rows spare counts) (WordsEnd g (length words)) (ends-one g (length words)) k.comes (ended shape room end)).0
     where
       few-classes : class_count g ≤ most_vertices
       few-classes =
@@ -600,9 +599,9 @@ module _ (j : ℕ) (large : 2 ≤ j) (third-axis : Axis) (s : Sides) where
           omega (arith, m, count-is, few_cells g shape)
 
 -- n by n cells, each axis twisted over the other, n from 3 on: a facet in three cells, and the call says so
-pub square-crowded : (n : ℕ) → 3 ≤ n → (third-axis : Axis) (s : Sides) → check_of (plane_of n third-axis s) ≡ Fine → Crowd (plane_of n third-axis s) (flat_by (plane_of n third-axis s) (class_of (plane_of n third-axis s)))
-square-crowded zero h third-axis s fine = absurd (let z : ⊥ = omega arith in z)
-square-crowded (suc j) h third-axis s fine = crowded-plane j (omega arith) third-axis s fine
+pub square-crowded : (n : ℕ) → 3 ≤ n → (third-axis : Axis) (s : Sides) → check_of (plane_of n third-axis s) ≡ fine → Crowd (plane_of n third-axis s) (flat_by (plane_of n third-axis s) (class_of (plane_of n third-axis s)))
+square-crowded zero h third-axis s taken = absurd (let z : ⊥ = omega arith in z)
+square-crowded (suc j) h third-axis s taken = crowded-plane j (omega arith) third-axis s taken
 
 pub plane-law : PlaneLaw
 plane-law zero h third-axis s shape = absurd (let z : ⊥ = omega arith in z)

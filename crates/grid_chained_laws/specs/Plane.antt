@@ -1,10 +1,8 @@
 -- What is to be shown of the words of a projective plane. Assumes nothing.
-use Rattle.std.specs.Prelude.{List, ◌≡◌, ℕ, ◌≤◌}
+use Rattle.refusal.specs.declared.Refusal.TheVariants.{CrowdedFacet}
+use Rattle.refusal.specs.Says.{Counted, fine}
+use Rattle.std.specs.Prelude.{Err, List, ◌≡◌, ℕ, ◌≤◌}
 use Rattle.grid_sides.specs.declared.Sides.{Sides}
-use Rattle.refusal.specs.declared.Answer.TheVariants.{Fine}
-use Rattle.refusal.specs.declared.Counted.{Counted}
-use Rattle.refusal.specs.declared.Counted.TheVariants.{Refused}
-use Rattle.refusal.specs.Table.{crowded_facet}
 use Rattle.refusal.specs.Lent.{lengths, Roomy}
 use Rattle.quotient.specs.declared.Axis.{Axis}
 use Rattle.quotient.specs.declared.Grid.{Grid}
@@ -19,5 +17,5 @@ plane_of n third sides = record { d = 2; first = twisted_axis n 2; second = twis
 
 -- with room the call `cell_words` of this mode says 7 of such a grid that is taken, n from 3 on
 abbrev pub PlaneLaw : Type 0
-PlaneLaw = (n : ℕ) → 3 ≤ n → (third : Axis) (sides : Sides) → shape_of (plane_of n third sides) ≡ Fine → (r : Counted) (words words' keys keys' rows rows' spare spare' counts counts' : List ℕ) →
-    Roomy (grid_need (plane_of n third sides)) (lengths keys rows spare counts) → CellWords (plane_of n third sides) r words words' keys keys' rows rows' spare spare' counts counts' → r ≡ Refused crowded_facet 0
+PlaneLaw = (n : ℕ) → 3 ≤ n → (third : Axis) (sides : Sides) → shape_of (plane_of n third sides) ≡ fine → (r : Counted) (words words' keys keys' rows rows' spare spare' counts counts' : List ℕ) →
+    Roomy (grid_need (plane_of n third sides)) (lengths keys rows spare counts) → CellWords (plane_of n third sides) r words words' keys keys' rows rows' spare spare' counts counts' → r ≡ Err CrowdedFacet

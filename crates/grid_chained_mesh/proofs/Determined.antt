@@ -1,12 +1,12 @@
 -- The promise of `cell_words` determines what it says and every list: two calls on equal inputs end alike. Assumes nothing.
+use Rattle.refusal.specs.declared.Refusal.TheVariants.{VertexTwice}
+use Rattle.refusal.specs.Says.{Counted}
+use Rattle.std.specs.Prelude.{Err}
 use mathlib.Core.List.{List, []}
 use mathlib.Core.Path.{◌≡◌, refl, sym, ap, subst, ◌∙◌}
 use Prim.Native.Nat.{ℕ, ◌≤◌, ◌<◌}
 use native.Mathlib.Omega.{arith}
 use lib.ListN.{length}
-use Rattle.refusal.specs.declared.Counted.{Counted}
-use Rattle.refusal.specs.declared.Counted.TheVariants.{Refused}
-use Rattle.refusal.specs.Table.{vertex_twice}
 use Rattle.refusal.specs.Limits.{most_vertices}
 use Rattle.refusal.specs.Lent.{onto, lengths}
 use Rattle.refusal.proofs.Determined.{comes-one, cleared-one}
@@ -44,7 +44,7 @@ module _ (g : Grid) where
   ends-one n r r' l l' (many xs m a u) (short ys b v h) = absurd (not-both xs m a u ys b.of)
   ends-one n r r' l l' (many xs m a u) (written ys b v h) = absurd (not-both xs m a u ys b.of)
   ends-one n r r' l l' (twice xs a u) (many ys k b v) = absurd (not-both ys k b v xs a)
-  ends-one n r r' l l' (twice xs a u) (twice ys b v) = (ap (λ (ws : List ℕ). Refused vertex_twice (first_twice g ws)) (words-one g xs ys a b), refl)
+  ends-one n r r' l l' (twice xs a u) (twice ys b v) = (ap (λ (ws : List ℕ). Err (VertexTwice (first_twice g ws))) (words-one g xs ys a b), refl)
   ends-one n r r' l l' (twice xs a u) (crowded ys b v) = absurd (not-apart xs a u ys b)
   ends-one n r r' l l' (twice xs a u) (short ys b v h) = absurd (not-apart xs a u ys b)
   ends-one n r r' l l' (twice xs a u) (written ys b v h) = absurd (not-apart xs a u ys b)
@@ -68,7 +68,7 @@ module _ (g : Grid) where
   pub cell-words-one : (r r' : Counted) (words w w' keys k k' rows o o' spare p p' counts c c' : List ℕ) → CellWords g r words w keys k rows o spare p counts c → CellWords g r' words w' keys k' rows o' spare p' counts c' →
       (r ≡ r') × (w ≡ w') × ((k ≡ k') × (o ≡ o') × (p ≡ p') × (c ≡ c'))
   cell-words-one r r' words w w' keys k k' rows o o' spare p p' counts c c' a b =
-      let e = comes-one Refused [] (shape_of g) (grid_need g) (lengths keys rows spare counts) (WordsEnd g (length words)) (ends-one (length words)) a.comes b.comes in (
+      let e = comes-one Err [] (shape_of g) (grid_need g) (lengths keys rows spare counts) (WordsEnd g (length words)) (ends-one (length words)) a.comes b.comes in (
         e.0,
         a.result ∙ ap (λ (l : List ℕ). onto l words) e.1 ∙ sym b.result,
         cleared-one a.used b.used keys k k' rows o o' spare p p' counts c c' e.2 a.room b.room,

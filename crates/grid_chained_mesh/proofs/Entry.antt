@@ -1,14 +1,14 @@
 -- The ways out of `cell_words`. Assumes nothing.
+use Rattle.refusal.specs.declared.Refusal.{Refusal}
+use Rattle.refusal.specs.declared.Refusal.TheVariants.{TooShort}
+use Rattle.refusal.specs.Says.{Counted, fine}
+use Rattle.std.specs.Prelude.{Err}
 use mathlib.Core.List.{List, [], ◌++◌}
 use mathlib.Core.Path.{◌≡◌, refl, ap, ◌∙◌, subst}
 use Prim.Native.Nat.{ℕ}
 use lib.ListN.{length, take, drop}
 use lib.Seq.{length-take-le}
-use Rattle.refusal.specs.declared.Answer.TheVariants as Answer
 use Rattle.refusal.specs.declared.Room.{Room}
-use Rattle.refusal.specs.declared.Counted.{Counted}
-use Rattle.refusal.specs.declared.Counted.TheVariants.{Refused}
-use Rattle.refusal.specs.Table.{too_short}
 use Rattle.refusal.specs.Lent.{untouched, lengths, Roomy}
 use Rattle.refusal.specs.Call.{Comes, refused, cramped, ended}
 use Rattle.refusal.proofs.Parts.{parts-cleared}
@@ -20,11 +20,11 @@ use Rattle.grid_chained_mesh.specs.Words.{WordsEnd, CellWords}
 use Rattle.grid_chained_mesh.specs.Work.{Working, Worked}
 
 module _ (g : Grid) (out keys rows spare counts : List ℕ) where
-  pub out-refused : (n p : ℕ) → shape_of g ≡ Answer.Refused n p → CellWords g (Refused n p) out out keys keys rows rows spare spare counts counts
-  out-refused n p e =
+  pub out-refused : (why : Refusal) → shape_of g ≡ Err why → CellWords g (Err why) out out keys keys rows rows spare spare counts counts
+  out-refused why e =
       record { handed = []; used = untouched; comes = refused e; result = refl; room = record { of_keys = refl; of_rows = refl; of_spare = refl; of_counts = refl } }
 
-  pub out-cramped : shape_of g ≡ Answer.Fine → (n : Room) → n ≡ grid_need g → (Roomy n (lengths keys rows spare counts) → ⊥) → CellWords g (Refused too_short 0) out out keys keys rows rows spare spare counts counts
+  pub out-cramped : shape_of g ≡ fine → (n : Room) → n ≡ grid_need g → (Roomy n (lengths keys rows spare counts) → ⊥) → CellWords g (Err TooShort) out out keys keys rows rows spare spare counts counts
   out-cramped e n q f =
       record {
         handed = [];
@@ -34,7 +34,7 @@ module _ (g : Grid) (out keys rows spare counts : List ℕ) where
         room = record { of_keys = refl; of_rows = refl; of_spare = refl; of_counts = refl };
       }
 
-  module _ (e : shape_of g ≡ Answer.Fine) (n : Room) (q : n ≡ grid_need g) (h : Roomy n (lengths keys rows spare counts)) where
+  module _ (e : shape_of g ≡ fine) (n : Room) (q : n ≡ grid_need g) (h : Roomy n (lengths keys rows spare counts)) where
     pub working : Working g (take n.keys keys) (take n.rows rows) (take n.spare spare) (take n.counts counts)
     working =
         record {
@@ -51,7 +51,7 @@ module _ (g : Grid) (out keys rows spare counts : List ℕ) where
         record {
           handed = w.handed;
           used = n;
-          comes = subst (λ (m : Room). Comes Refused [] (shape_of g) m (lengths keys rows spare counts) (WordsEnd g (length out)) r w.handed n) q (ended e h w.ends);
+          comes = subst (λ (m : Room). Comes Err [] (shape_of g) m (lengths keys rows spare counts) (WordsEnd g (length out)) r w.handed n) q (ended e h w.ends);
           result = w.result;
           room = parts-cleared n keys k rows o spare s counts c h z;
         }

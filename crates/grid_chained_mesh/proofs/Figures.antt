@@ -1,4 +1,7 @@
 -- The words that the promise speaks of, computed: every grid whose classes are few enough has them, and no others; and figures. Assumes nothing.
+use Rattle.refusal.specs.declared.Refusal.TheVariants.{CrowdedFacet}
+use Rattle.refusal.specs.Says.{Counted, fine}
+use Rattle.std.specs.Prelude.{Err}
 use mathlib.Core.Path.{◌≡◌, refl, sym, subst, ◌∙◌}
 use mathlib.Core.List.{List, [], ◌∷◌}
 use Prim.Native.Nat.{ℕ, suc, ◌*◌, ◌/◌, ◌%◌, ◌≤◌, ◌<◌}
@@ -9,11 +12,7 @@ use lib.Seq.{ext_get_or}
 use lib.IntN.{pos}
 use lib.Ieee.{fin}
 use mathlib.Core.Bool.{false}
-use Rattle.refusal.specs.declared.Answer.TheVariants.{Fine}
-use Rattle.refusal.specs.declared.Counted.{Counted}
-use Rattle.refusal.specs.declared.Counted.TheVariants.{Refused}
 use Rattle.refusal.specs.declared.Room.{Room}
-use Rattle.refusal.specs.Table.{crowded_facet}
 use Rattle.refusal.specs.Lent.{Roomy}
 use Rattle.refusal.specs.Call.{Comes, ended}
 use Rattle.refusal.proofs.Determined.{comes-one}
@@ -50,21 +49,21 @@ use Rattle.grid_chained_mesh.specs.Words.{ClassWords, first_twice, Crowd, WordsE
 use Rattle.grid_chained_mesh.proofs.Steps.{words-one}
 use Rattle.grid_chained_mesh.proofs.Determined.{ends-one}
 
-module _ (g : Grid) (shape : shape_of g ≡ Fine) (few : class_count g ≤ most_vertices) where
-  fine : check_of g ≡ Fine
-  fine = few-taken g shape (class_of g) (class_count g) (class-numbers g) few
+module _ (g : Grid) (shape : shape_of g ≡ fine) (few : class_count g ≤ most_vertices) where
+  taken : check_of g ≡ fine
+  taken = few-taken g shape (class_of g) (class_count g) (class-numbers g) few
 
   listed : (p : ℕ) → p < points_of g → at (tab (points_of g) (class_of g)) p ≡ class_of g p
   listed p h = get_or-tab (points_of g) (class_of g) p 0 h
 
   same-words : flat_by g (class_of g) ≡ flat_by g (at (tab (points_of g) (class_of g)))
   same-words =
-      ext_get_or 0 (flat_by g (class_of g)) (flat_by g (at (tab (points_of g) (class_of g)))) (words_long g fine (class_of g) ∙ sym (words_long g fine (at (tab (points_of g) (class_of g)))))
+      ext_get_or 0 (flat_by g (class_of g)) (flat_by g (at (tab (points_of g) (class_of g)))) (words_long g taken (class_of g) ∙ sym (words_long g taken (at (tab (points_of g) (class_of g)))))
       (λ i h.
-      let l : i < cell_count g * suc g.d = omega (arith, words_long g fine (class_of g)) in
+      let l : i < cell_count g * suc g.d = omega (arith, words_long g taken (class_of g)) in
       let r : i % suc g.d < suc g.d = mod-lt i (omega arith) in
-      words-at g fine (class_of g) i l ∙ sym (listed (corner_of g (i / suc g.d) (i % suc g.d)) (corner-lt g fine (i / suc g.d) (i % suc g.d) (omega arith)))
-      ∙ sym (words-at g fine (at (tab (points_of g) (class_of g))) i l))
+      words-at g taken (class_of g) i l ∙ sym (listed (corner_of g (i / suc g.d) (i % suc g.d)) (corner-lt g taken (i / suc g.d) (i % suc g.d) (omega arith)))
+      ∙ sym (words-at g taken (at (tab (points_of g) (class_of g))) i l))
 
   -- the words are there
   pub words-there : ClassWords g (flat_by g (class_of g))
@@ -146,7 +145,7 @@ plane-crowd =
     }
 
 -- ---- so the call says 7 of that grid, where there is room
-plane-shape : shape_of plane ≡ Fine
+plane-shape : shape_of plane ≡ fine
 unfolding shape_of axis_of product first_where found_at some bad_set
 plane-shape = refl
 
@@ -162,10 +161,10 @@ plane-eighteen : cell_count plane ≡ 18
 unfolding axis_of product
 plane-eighteen = refl
 
-plane-end : (given : ℕ) → WordsEnd plane given (Refused crowded_facet 0) []
+plane-end : (given : ℕ) → WordsEnd plane given (Err CrowdedFacet) []
 plane-end given =
     crowded (flat_by plane (class_of plane)) (record { of = words-there plane plane-shape (let e : class_count plane ≡ 10 = plane-few in omega arith); none = omega (arith, plane-apart, plane-eighteen) }) plane-crowd
 
-pub plane-seven : {r : Counted} {h : List ℕ} {u : Room} (given : ℕ) (have : Room) → Roomy (grid_need plane) have → Comes Refused [] (shape_of plane) (grid_need plane) have (WordsEnd plane given) r h u → r ≡ Refused crowded_facet 0
+pub plane-seven : {r : Counted} {h : List ℕ} {u : Room} (given : ℕ) (have : Room) → Roomy (grid_need plane) have → Comes Err [] (shape_of plane) (grid_need plane) have (WordsEnd plane given) r h u → r ≡ Err CrowdedFacet
 plane-seven given have room c =
-    (comes-one Refused [] (shape_of plane) (grid_need plane) have (WordsEnd plane given) (ends-one plane given) c (ended plane-shape room (plane-end given))).0
+    (comes-one Err [] (shape_of plane) (grid_need plane) have (WordsEnd plane given) (ends-one plane given) c (ended plane-shape room (plane-end given))).0

@@ -1,8 +1,12 @@
 -- The work on a grid that is taken, step by step: what each call asks follows from what the calls before it gave. Assumes nothing.
+use Rattle.refusal.specs.declared.Refusal.{Refusal}
+use Rattle.refusal.specs.declared.Refusal.TheVariants.{CrowdedFacet, TooShort, VertexTwice}
+use Rattle.refusal.specs.Says.{Answer, Counted, fine}
+use Rattle.std.specs.Prelude.{Err, Ok}
 use mathlib.Core.Bool.{Bool, true, false, false≢true}
 use mathlib.Core.List.{List, [], ◌∷◌, ◌++◌}
 use mathlib.Core.Path.{◌≡◌, refl, sym, ap, ◌∙◌, subst}
-use mathlib.Core.Logic.{◌⊎◌, ⊎_elim}
+use mathlib.Core.Logic.{⊎_elim}
 use Prim.Native.Nat.{ℕ, zero, suc, ◌+◌, ◌*◌, ◌/◌, ◌<◌, ◌≤◌}
 use native.Mathlib.Nat.{mul_comm, mul-zero, suc-mul, mul-le-mul_right}
 use native.Mathlib.Omega.{arith}
@@ -10,12 +14,7 @@ use lib.ListN.{length, take, drop}
 use lib.Seq.{length-take-le}
 use lib.Dec.{ltb}
 use borrow.Author.Tests.{lt-ltb, le-ltb}
-use Rattle.refusal.specs.declared.Answer.{Answer}
-use Rattle.refusal.specs.declared.Answer.TheVariants as Answer
-use Rattle.refusal.specs.declared.Counted.{Counted}
-use Rattle.refusal.specs.declared.Counted.TheVariants.{Count, Refused}
 use Rattle.refusal.specs.Refuse.{refuse}
-use Rattle.refusal.specs.Table.{vertex_twice, crowded_facet, too_short}
 use Rattle.refusal.specs.Limits.{most_vertices}
 use Rattle.lists.specs.Rows.{cut}
 use Rattle.lists.proofs.Rows.{cut-length}
@@ -59,18 +58,18 @@ front-part (x ∷ xs) ys = ap (λ (l : List ℕ). x ∷ l) (front-part xs ys)
 
 -- what a check says, as the call says it
 abbrev to_counted : Answer → Counted
-to_counted Answer.Fine = Count 0
-to_counted (Answer.Refused n p) = Refused n p
+to_counted (Ok _) = Ok 0
+to_counted (Err why) = Err why
 
 abbrev is_fine : Answer → Bool
-is_fine Answer.Fine = true
-is_fine (Answer.Refused n p) = false
+is_fine (Ok _) = true
+is_fine (Err why) = false
 
 -- ---- the words of a grid: they are one list, and the first mode takes the grid too
-module _ (g : Grid) (fine : shape_of g ≡ Answer.Fine) where
+module _ (g : Grid) (allowed : shape_of g ≡ fine) where
   module _ (ws : List ℕ) (w : ClassWords g ws) where
-    pub words-taken : check_of g ≡ Answer.Fine
-    words-taken = few-taken g fine (at w.numbers) w.many w.classes.classing w.few
+    pub words-taken : check_of g ≡ fine
+    words-taken = few-taken g allowed (at w.numbers) w.many w.classes.classing w.few
 
     pub corners : length ws ≡ need_of g
     corners = ap length w.words ∙ words_long g words-taken (at w.numbers)
@@ -87,22 +86,22 @@ module _ (g : Grid) (fine : shape_of g ≡ Answer.Fine) where
 
   -- ---- what is said of the words
   module _ (ws : List ℕ) (w : ClassWords g ws) where
-    first-four : answer_of g.d ws ≡ refuse (ltb (first_twice g ws) (cell_count g)) vertex_twice (first_twice g ws) Answer.Fine
+    first-four : answer_of g.d ws ≡ refuse (ltb (first_twice g ws) (cell_count g)) (VertexTwice (first_twice g ws)) fine
     first-four =
-        subst (λ (l : List ℕ). answer_of g.d l ≡ refuse (ltb (first_twice g l) (cell_count g)) vertex_twice (first_twice g l) Answer.Fine) (sym w.words)
+        subst (λ (l : List ℕ). answer_of g.d l ≡ refuse (ltb (first_twice g l) (cell_count g)) (VertexTwice (first_twice g l)) fine) (sym w.words)
         (only-four g (words-taken ws w) (at w.numbers) w.many w.classes.classing w.few)
 
     pub said : (r : Answer) → r ≡ answer_of g.d ws → Said g ws r
     said r e =
-        let test : Bool → Answer = λ b. refuse b vertex_twice (first_twice g ws) Answer.Fine in
+        let test : Bool → Answer = λ b. refuse b (VertexTwice (first_twice g ws)) fine in
         ⊎_elim
         (λ (l : first_twice g ws < cell_count g). subst (λ (a : Answer). Said g ws a) (sym (e ∙ first-four ∙ ap test (lt-ltb (first_twice g ws) (cell_count g) l))) (Work.twice w l))
         (λ (l : cell_count g ≤ first_twice g ws). subst (λ (a : Answer). Said g ws a) (sym (e ∙ first-four ∙ ap test (le-ltb (first_twice g ws) (cell_count g) l))) (Work.fine (record { of = w; none = l })))
         (lt-or-ge (first_twice g ws) (cell_count g))
 
 -- room for the points
-pub points-fit : (g : Grid) → shape_of g ≡ Answer.Fine → (n : ℕ) (room : List ℕ) → n ≡ points_of g → length room ≡ need_of g → n ≤ length room
-points-fit g fine n room e h = omega (arith, points-need g fine)
+pub points-fit : (g : Grid) → shape_of g ≡ fine → (n : ℕ) (room : List ℕ) → n ≡ points_of g → length room ≡ need_of g → n ≤ length room
+points-fit g allowed n room e h = omega (arith, points-need g allowed)
 
 -- words that were laid are the grid's, where their classes are few enough
 pub laid-words : (g : Grid) (m : ℕ) (ws : List ℕ) → Laid g m ws → m ≤ most_vertices → ClassWords g ws
@@ -120,7 +119,7 @@ handed g m list l ws w =
     words-one g list ws (laid-words g m list l (omega arith)) w
 
 -- where nothing is said against the words, none names a class twice
-pub said-fine : (g : Grid) (ws : List ℕ) (r : Answer) → Said g ws r → r ≡ Answer.Fine → Apart g ws
+pub said-fine : (g : Grid) (ws : List ℕ) (r : Answer) → Said g ws r → r ≡ fine → Apart g ws
 said-fine g ws r (Work.many numbers m k l) f = absurd (false≢true (ap is_fine f))
 said-fine g ws r (Work.twice w l) f = absurd (false≢true (ap is_fine f))
 said-fine g ws r (Work.fine a) f = a
@@ -177,7 +176,7 @@ module _ (g : Grid) (keys rows spare counts : List ℕ) (w : Working g keys rows
     back_long : length (ws ++ drop len keys) ≡ length keys
     back_long = back-length len keys ws lw
 
-    pub standing : (r : Answer) → Said g ws r → r ≡ Answer.Fine → Standing g (ws ++ drop len keys) rows' spare counts
+    pub standing : (r : Answer) → Said g ws r → r ≡ fine → Standing g (ws ++ drop len keys) rows' spare counts
     standing r s f =
         record {
           room =
@@ -200,32 +199,32 @@ module _ (g : Grid) (keys rows spare counts : List ℕ) (w : Working g keys rows
 -- ---- the ways out of the work
 module _ (g : Grid) (out : List ℕ) where
   -- 6 and 4
-  pub worked-said : (ws : List ℕ) (r : Answer) (n p : ℕ) → Said g ws r → r ≡ Answer.Refused n p → Worked g (Refused n p) out out
-  worked-said ws r n p s e = subst (λ (a : Answer). Worked g (to_counted a) out out) e (by_end r s (λ f. false≢true (ap is_fine (sym e ∙ f))))
+  pub worked-said : (ws : List ℕ) (r : Answer) (why : Refusal) → Said g ws r → r ≡ Err why → Worked g (Err why) out out
+  worked-said ws r why s e = subst (λ (a : Answer). Worked g (to_counted a) out out) e (by_end r s (λ f. false≢true (ap is_fine (sym e ∙ f))))
     where
-      by_end : (r : Answer) → Said g ws r → (r ≡ Answer.Fine → ⊥) → Worked g (to_counted r) out out
+      by_end : (r : Answer) → Said g ws r → (r ≡ fine → ⊥) → Worked g (to_counted r) out out
       by_end r (Work.many numbers m k l) f = record { handed = []; ends = Words.many numbers m k l; result = refl }
       by_end r (Work.twice w l) f = record { handed = []; ends = Words.twice ws w l; result = refl }
       by_end r (Work.fine a) f = absurd (f refl)
 
-  module _ (fine : shape_of g ≡ Answer.Fine) (ws : List ℕ) (a : Apart g ws) where
+  module _ (allowed : shape_of g ≡ fine) (ws : List ℕ) (a : Apart g ws) where
     -- 7
-    pub worked-crowded : Crowd g ws → Worked g (Refused crowded_facet 0) out out
+    pub worked-crowded : Crowd g ws → Worked g (Err CrowdedFacet) out out
     worked-crowded x = record { handed = []; ends = Words.crowded ws a x; result = refl }
 
     module _ (free : Crowd g ws → ⊥) (len : ℕ) (e : len ≡ need_of g) where
       ws-corners : length ws ≡ len
-      ws-corners = corners g fine ws a.of ∙ sym e
+      ws-corners = corners g allowed ws a.of ∙ sym e
 
       -- 12
-      pub worked-short : length out < len → Worked g (Refused too_short 0) out out
+      pub worked-short : length out < len → Worked g (Err TooShort) out out
       worked-short h = record { handed = []; ends = Words.short ws a free (omega (arith, ws-corners)); result = refl }
 
       -- the words
-      pub worked-written : (part : List ℕ) → len ≤ length out → Handed g part → Worked g (Count (len / (g.d + 1))) out (part ++ drop len out)
+      pub worked-written : (part : List ℕ) → len ≤ length out → Handed g part → Worked g (Ok (len / (g.d + 1))) out (part ++ drop len out)
       worked-written part h p =
           record {
             handed = ws;
-            ends = subst (λ (n : ℕ). WordsEnd g (length out) (Count n) ws) (sym (count-is g fine ws a.of len e)) (Words.written ws a free (omega (arith, ws-corners)));
+            ends = subst (λ (n : ℕ). WordsEnd g (length out) (Ok n) ws) (sym (count-is g allowed ws a.of len e)) (Words.written ws a free (omega (arith, ws-corners)));
             result = ap (λ (l : List ℕ). l ++ drop len out) (p ws a.of) ∙ ap (λ (n : ℕ). ws ++ drop n out) (sym ws-corners);
           }

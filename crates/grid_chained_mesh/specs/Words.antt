@@ -1,9 +1,8 @@
 -- What the call `cell_words` of the mode of chains comes to, on every input. Assumes nothing.
-use Rattle.std.specs.Prelude.{List, [], ◌≡◌, ℕ, ◌+◌, ◌<◌, ◌≤◌, length}
-use Rattle.refusal.specs.declared.Counted.{Counted}
-use Rattle.refusal.specs.declared.Counted.TheVariants.{Count, Refused}
+use Rattle.refusal.specs.declared.Refusal.TheVariants.{CrowdedFacet, TooManyVertices, TooShort, VertexTwice}
+use Rattle.refusal.specs.Says.{Counted}
+use Rattle.std.specs.Prelude.{Err, Ok, List, [], ◌≡◌, ℕ, ◌+◌, ◌<◌, ◌≤◌, length}
 use Rattle.refusal.specs.declared.Room.{Room}
-use Rattle.refusal.specs.Table.{too_many_vertices, vertex_twice, crowded_facet, too_short}
 use Rattle.refusal.specs.Limits.{most_vertices}
 use Rattle.refusal.specs.Lent.{onto, lengths, Cleared}
 use Rattle.refusal.specs.Call.{Comes}
@@ -41,20 +40,20 @@ Crowd g ws = Crowded g.d (Complex.cells_of g.d ws)
 -- how the call ends, once the grid is checked and there is room: 6, 4, 7, 12, or the words. `given` is the length of the word list.
 pub data WordsEnd (g : Grid) (given : ℕ) : Counted → List ℕ → Type 0 where
   -- more classes than there may be vertices
-  many : (numbers : List ℕ) (m : ℕ) → Classes g numbers m → most_vertices < m → WordsEnd g given (Refused too_many_vertices 0) []
+  many : (numbers : List ℕ) (m : ℕ) → Classes g numbers m → most_vertices < m → WordsEnd g given (Err TooManyVertices) []
   -- a word names a class twice: the first such word is told
-  twice : (ws : List ℕ) → ClassWords g ws → first_twice g ws < cell_count g → WordsEnd g given (Refused vertex_twice (first_twice g ws)) []
+  twice : (ws : List ℕ) → ClassWords g ws → first_twice g ws < cell_count g → WordsEnd g given (Err (VertexTwice (first_twice g ws))) []
   -- a facet in three or more cells
-  crowded : (ws : List ℕ) → Apart g ws → Crowd g ws → WordsEnd g given (Refused crowded_facet 0) []
+  crowded : (ws : List ℕ) → Apart g ws → Crowd g ws → WordsEnd g given (Err CrowdedFacet) []
   -- the word list is too short
-  short : (ws : List ℕ) → Apart g ws → (Crowd g ws → ⊥) → given < length ws → WordsEnd g given (Refused too_short 0) []
+  short : (ws : List ℕ) → Apart g ws → (Crowd g ws → ⊥) → given < length ws → WordsEnd g given (Err TooShort) []
   -- the words are handed out
-  written : (ws : List ℕ) → Apart g ws → (Crowd g ws → ⊥) → length ws ≤ given → WordsEnd g given (Count (cell_count g)) ws
+  written : (ws : List ℕ) → Apart g ws → (Crowd g ws → ⊥) → length ws ≤ given → WordsEnd g given (Ok (cell_count g)) ws
 
 -- the promise: r is what the call says, and a list with ' is what it holds at exit
 pub record CellWords (g : Grid) (r : Counted) (words words' keys keys' rows rows' spare spare' counts counts' : List ℕ) : Type 0 where
   pub handed : List ℕ
   pub used : Room
-  pub comes : Comes Refused [] (shape_of g) (grid_need g) (lengths keys rows spare counts) (WordsEnd g (length words)) r handed used
+  pub comes : Comes Err [] (shape_of g) (grid_need g) (lengths keys rows spare counts) (WordsEnd g (length words)) r handed used
   pub result : words' ≡ onto handed words
   pub room : Cleared used keys keys' rows rows' spare spare' counts counts'

@@ -9,7 +9,7 @@
 #![tactic(auto)]
 
 ghost use Rattle.std.specs.Prelude.{true, false, ◌≡◌, take};
-ghost use Rattle.refusal.specs.declared.Answer.TheVariants.{Fine};
+ghost use Rattle.refusal.specs.Says.{fine};
 ghost use Rattle.lists.specs.Zero.{AllZero};
 ghost use Rattle.grid_mesh.specs.Words.{grid_need};
 ghost use Rattle.grid_chained.specs.Shape.{shape_of, need_of};
@@ -18,17 +18,17 @@ ghost use Rattle.grid_chained_mesh.specs.Work.{Working, Laying, Said, Standing, 
 
 use grid_chained::check;
 use quotient::Grid;
-use refusal::{Answer, CROWDED_FACET, Counted, MOST_VERTICES, Room, TOO_MANY_VERTICES, TOO_SHORT};
+use refusal::{MOST_VERTICES, Refusal, Room};
 
 // Writes the words over `words` and says 6 where there are too many classes, else 4 at the first word that names a class twice.
-fn checked_words(grid: Grid, words: &mut [u32], room: &mut [u32]) -> Answer
+fn checked_words(grid: Grid, words: &mut [u32], room: &mut [u32]) -> Result<(), Refusal>
     requires { Laying grid words.old room.old }
     ensures { Said grid words.new result }
 {
     let n = check::points(grid);
     let m = grid_chained_words::lay_words(grid, words, &mut room[..n]);
     if MOST_VERTICES < m {
-        return Answer::Refused(TOO_MANY_VERTICES, 0);
+        return Err(Refusal::TooManyVertices);
     }
     complex::check_cells(grid.d, words)
 }
@@ -68,23 +68,20 @@ fn work(
     rows: &mut [u32],
     spare: &mut [u32],
     counts: &mut [u32],
-) -> Counted
+) -> Result<u32, Refusal>
     requires { Working grid keys.old rows.old spare.old counts.old }
     ensures { Worked grid result words.old words.new }
 {
     let len = check::need(grid);
-    let said = checked_words(grid, &mut keys[..len], rows);
-    if let Answer::Refused(number, place) = said {
-        return Counted::Refused(number, place);
-    }
+    checked_words(grid, &mut keys[..len], rows)?;
     if !uncrowded(grid, keys, rows, spare, counts) {
-        return Counted::Refused(CROWDED_FACET, 0);
+        return Err(Refusal::CrowdedFacet);
     }
     if words.len() < len {
-        return Counted::Refused(TOO_SHORT, 0);
+        return Err(Refusal::TooShort);
     }
     hand_words(grid, &mut words[..len], rows);
-    Counted::Count((len / (grid.d as usize + 1)) as u32)
+    Ok((len / (grid.d as usize + 1)) as u32)
 }
 
 // The work, and then the working lists are all zero.
@@ -95,7 +92,7 @@ fn cleared(
     rows: &mut [u32],
     spare: &mut [u32],
     counts: &mut [u32],
-) -> Counted
+) -> Result<u32, Refusal>
     requires { Working grid keys.old rows.old spare.old counts.old }
     ensures work { Worked grid result words.old words.new }
     ensures room { AllZero keys.old keys.new rows.old rows.new spare.old spare.new counts.old
@@ -108,7 +105,7 @@ fn cleared(
 
 // What the call needs of its working lists: as much as the first mode.
 fn need(grid: Grid) -> Room
-    requires { shape_of grid ≡ Fine }
+    requires { shape_of grid ≡ fine }
     ensures { result ≡ grid_need grid }
 {
     complex::need(grid.d as usize, check::need(grid))
@@ -124,14 +121,11 @@ pub fn cell_words(
     rows: &mut [u32],
     spare: &mut [u32],
     counts: &mut [u32],
-) -> Counted
+) -> Result<u32, Refusal>
     ensures { CellWords grid result words.old words.new keys.old keys.new rows.old rows.new spare.old
         spare.new counts.old counts.new }
 {
-    let checked = check::check(grid);
-    if let Answer::Refused(number, place) = checked {
-        return Counted::Refused(number, place);
-    }
+    check::check(grid)?;
     let need = need(grid);
     let have = Room {
         keys: keys.len(),
@@ -140,7 +134,7 @@ pub fn cell_words(
         counts: counts.len(),
     };
     if !refusal::has_room(need, have) {
-        return Counted::Refused(TOO_SHORT, 0);
+        return Err(Refusal::TooShort);
     }
     let k = need.keys;
     let r = need.rows;

@@ -1,8 +1,11 @@
 -- The words of a grid by its classes pass the checks of a cell list except 4: they are whole, few, below the limit, and no class is left out. So the check of a cell list
 -- answers 4 at the first word that names a class twice, or nothing. Assumes nothing.
+use Rattle.refusal.specs.declared.Refusal.TheVariants.{BadDimension, RaggedWords, TooManyCells, VertexTwice}
+use Rattle.refusal.specs.Says.{Answer, fine}
+use Rattle.std.specs.Prelude.{Err}
 use mathlib.Core.Path.{◌≡◌, sym, ap, subst, ◌∙◌}
 use mathlib.Core.Bool.{Bool, true, false, not}
-use mathlib.Core.Logic.{◌⊎◌, ⊎_elim}
+use mathlib.Core.Logic.{⊎_elim}
 use mathlib.Core.List.{List, [], ◌∷◌}
 use Prim.Native.Nat.{ℕ, ◌+◌, ◌/◌, ◌%◌, ◌≤◌, ◌<◌}
 use native.Mathlib.Nat.{mul-suc}
@@ -10,10 +13,7 @@ use native.Mathlib.Omega.{arith}
 use lib.Dec.{eqb, ltb}
 use lib.ListN.{length, get_or}
 use borrow.Author.Tests.{ne_eqb, eq-eqb, lt-ltb, le-ltb}
-use Rattle.refusal.specs.declared.Answer.{Answer}
-use Rattle.refusal.specs.declared.Answer.TheVariants.{Fine, Refused}
 use Rattle.refusal.specs.Refuse.{refuse}
-use Rattle.refusal.specs.Table.{bad_dimension, ragged_words, too_many_cells, vertex_twice}
 use Rattle.refusal.specs.Limits.{most_dimension, most_cells, most_vertices}
 use Rattle.lists.specs.Words.{has_repeat, largest_of}
 use Rattle.lists.specs.Rows.{row}
@@ -36,29 +36,29 @@ largest-under m [] h a = h
 largest-under m (x ∷ ws) h a = let y : largest_of ws < m = largest-under m ws h a.1 in let z : x < m = a.0 in omega arith
 
 fourth : (a b c d e : Bool) (x : ℕ) (rest : Answer) → a ≡ false → b ≡ false → c ≡ false → d ≡ false → e ≡ true →
-    refuse a bad_dimension 0 (refuse b ragged_words 0 (refuse c ragged_words 0 (refuse d too_many_cells 0 (refuse e vertex_twice x rest)))) ≡ Refused vertex_twice x
+    refuse a BadDimension (refuse b RaggedWords (refuse c RaggedWords (refuse d TooManyCells (refuse e (VertexTwice x) rest)))) ≡ Err (VertexTwice x)
 fourth a b c d e x rest ha hb hc hd he = rw (ha, hb, hc, hd, he)
 
-module _ (g : Grid) (fine : check_of g ≡ Fine) (c : ℕ → ℕ) (m : ℕ) (k : Classing g c m) (few : m ≤ most_vertices) where
+module _ (g : Grid) (taken : check_of g ≡ fine) (c : ℕ → ℕ) (m : ℕ) (k : Classing g c m) (few : m ≤ most_vertices) where
   same-long : length (flat_words g) ≡ length (flat_by g c)
-  same-long = Grids.words_long g fine ∙ sym (words_long g fine c)
+  same-long = Grids.words_long g taken ∙ sym (words_long g taken c)
 
   some_number : 0 < length (flat_by g c)
-  some_number = omega (arith, words_long g fine c, some-cells g fine, mul-suc (cell_count g) g.d)
+  some_number = omega (arith, words_long g taken c, some-cells g taken, mul-suc (cell_count g) g.d)
 
   under : largest_of (flat_by g c) < m
   under =
-      let z : get_or (flat_by g c) 0 0 < m = classes-low g fine c m k 0 some_number in
-      largest-under m (flat_by g c) (omega arith) (All-of (λ x. x < m) (flat_by g c) (λ i h. classes-low g fine c m k i h))
+      let z : get_or (flat_by g c) 0 0 < m = classes-low g taken c m k 0 some_number in
+      largest-under m (flat_by g c) (omega arith) (All-of (λ x. x < m) (flat_by g c) (λ i h. classes-low g taken c m k i h))
 
   -- as many words as cells
   pub by_count : length (flat_by g c) / (g.d + 1) ≡ cell_count g
-  by_count = ap (λ (n : ℕ). n / (g.d + 1)) (sym same-long) ∙ words_count g fine
+  by_count = ap (λ (n : ℕ). n / (g.d + 1)) (sym same-long) ∙ words_count g taken
 
   -- where no word names a class twice the words pass all checks
   pub by-pass : cell_count g ≤ first_repeat (g.d + 1) (flat_by g c) (cell_count g) → Passed g.d (flat_by g c)
   by-pass h =
-      let p : Passed g.d (flat_words g) = words-pass g fine in
+      let p : Passed g.d (flat_words g) = words-pass g taken in
       record {
         small = p.small;
         some_words = λ e. omega (arith, some_number, e);
@@ -66,14 +66,14 @@ module _ (g : Grid) (fine : check_of g ≡ Fine) (c : ℕ → ℕ) (m : ℕ) (k 
         few = subst (λ (n : ℕ). n / (g.d + 1) ≤ most_cells) same-long p.few;
         apart = λ i l. first-full (λ x. has_repeat (row (flat_by g c) (g.d + 1) x)) (cell_count g) h i (subst (λ (n : ℕ). i < n) by_count l);
         low = (let u : largest_of (flat_by g c) < m = under in omega arith);
-        used = λ v l. classes-all g fine c m k v (let u : largest_of (flat_by g c) < m = under in omega arith);
+        used = λ v l. classes-all g taken c m k v (let u : largest_of (flat_by g c) < m = under in omega arith);
       }
 
   -- the first tests of a cell list are not met
-  met : first_repeat (g.d + 1) (flat_by g c) (cell_count g) < cell_count g → answer_of g.d (flat_by g c) ≡ Refused vertex_twice (first_repeat (g.d + 1) (flat_by g c) (cell_count g))
+  met : first_repeat (g.d + 1) (flat_by g c) (cell_count g) < cell_count g → answer_of g.d (flat_by g c) ≡ Err (VertexTwice (first_repeat (g.d + 1) (flat_by g c) (cell_count g)))
   unfolding answer_of
   met l =
-      let p : Passed g.d (flat_words g) = words-pass g fine in
+      let p : Passed g.d (flat_words g) = words-pass g taken in
       let z : length (flat_by g c) ≡ 0 → ⊥ = λ e. omega (arith, some_number, e) in
       let w : length (flat_by g c) % (g.d + 1) ≡ 0 = ap (λ (n : ℕ). n % (g.d + 1)) (sym same-long) ∙ p.whole in
       let f : length (flat_by g c) / (g.d + 1) ≤ most_cells = subst (λ (n : ℕ). n / (g.d + 1) ≤ most_cells) same-long p.few in
@@ -83,13 +83,13 @@ module _ (g : Grid) (fine : check_of g ≡ Fine) (c : ℕ → ℕ) (m : ℕ) (k 
       (ltb (first_repeat (g.d + 1) (flat_by g c) (length (flat_by g c) / (g.d + 1))) (length (flat_by g c) / (g.d + 1)))
       (first_repeat (g.d + 1) (flat_by g c) (length (flat_by g c) / (g.d + 1))) _
       (le-ltb most_dimension g.d p.small) (ne_eqb (length (flat_by g c)) 0 z) (ap not (eq-eqb (length (flat_by g c) % (g.d + 1)) 0 w)) (le-ltb most_cells (length (flat_by g c) / (g.d + 1)) f) t
-      ∙ ap (λ (n : ℕ). Refused vertex_twice (first_repeat (g.d + 1) (flat_by g c) n)) by_count
+      ∙ ap (λ (n : ℕ). Err (VertexTwice (first_repeat (g.d + 1) (flat_by g c) n))) by_count
 
   -- 4 at the first word that names a class twice, or nothing
-  pub only-four : answer_of g.d (flat_by g c) ≡ refuse (ltb (first_repeat (g.d + 1) (flat_by g c) (cell_count g)) (cell_count g)) vertex_twice (first_repeat (g.d + 1) (flat_by g c) (cell_count g)) Fine
+  pub only-four : answer_of g.d (flat_by g c) ≡ refuse (ltb (first_repeat (g.d + 1) (flat_by g c) (cell_count g)) (cell_count g)) (VertexTwice (first_repeat (g.d + 1) (flat_by g c) (cell_count g))) fine
   only-four =
       let first : ℕ = first_repeat (g.d + 1) (flat_by g c) (cell_count g) in
       ⊎_elim
-      (λ (l : first < cell_count g). met l ∙ sym (ap (λ (b : Bool). refuse b vertex_twice first Fine) (lt-ltb first (cell_count g) l)))
-      (λ (l : cell_count g ≤ first). passed-fine g.d (flat_by g c) (by-pass l) ∙ sym (ap (λ (b : Bool). refuse b vertex_twice first Fine) (le-ltb first (cell_count g) l)))
+      (λ (l : first < cell_count g). met l ∙ sym (ap (λ (b : Bool). refuse b (VertexTwice first) fine) (lt-ltb first (cell_count g) l)))
+      (λ (l : cell_count g ≤ first). passed-fine g.d (flat_by g c) (by-pass l) ∙ sym (ap (λ (b : Bool). refuse b (VertexTwice first) fine) (le-ltb first (cell_count g) l)))
       (lt-or-ge first (cell_count g))

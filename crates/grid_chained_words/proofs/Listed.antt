@@ -1,4 +1,5 @@
 -- The words by number, under any numbering of the points; and no class is left out by them, so refusal 5 cannot occur. Assumes nothing.
+use Rattle.refusal.specs.Says.{fine}
 use mathlib.Core.Path.{◌≡◌, sym, ap, subst, ◌∙◌}
 use mathlib.Core.Bool.{true}
 use mathlib.Core.List.{List, map}
@@ -8,7 +9,6 @@ use native.Mathlib.Numerals.{add-one}
 use native.Mathlib.Omega.{arith}
 use lib.Arith.{digits_div, digits_mod, digits_lt}
 use lib.ListN.{length, get_or, length-map}
-use Rattle.refusal.specs.declared.Answer.TheVariants.{Fine}
 use Rattle.lists.specs.Rows.{flat}
 use Rattle.lists.specs.Words.{among}
 use Rattle.lists.proofs.Laws.{map_at}
@@ -30,16 +30,16 @@ use Rattle.grid_words.proofs.Good.{mem-among, Met, meets}
 use Rattle.grid_chained.specs.Classing.{Classing}
 use Rattle.grid_chained_words.specs.Words.{words_by, flat_by}
 
-module _ (g : Grid) (fine : check_of g ≡ Fine) (c : ℕ → ℕ) where
+module _ (g : Grid) (taken : check_of g ≡ fine) (c : ℕ → ℕ) where
   words-tab : words_by g c ≡ tab (cell_count g) (λ x. map c (cell_no g x))
-  words-tab = ap (map (map c)) (listed g fine) ∙ map-tab (map c) (cell_count g) (cell_no g)
+  words-tab = ap (map (map c)) (listed g taken) ∙ map-tab (map c) (cell_count g) (cell_no g)
 
   flat-words : flat_by g c ≡ tab (cell_count g * suc g.d) (λ i. c (corner_of g (i / suc g.d) (i % suc g.d)))
   flat-words =
       ap flat words-tab
-      ∙ flat-tab (suc g.d) (cell_count g) (λ x. map c (cell_no g x)) (omega arith) (λ x h. length-map (cell_no g x) c ∙ cell-length g fine x)
+      ∙ flat-tab (suc g.d) (cell_count g) (λ x. map c (cell_no g x)) (omega arith) (λ x h. length-map (cell_no g x) c ∙ cell-length g taken x)
       ∙ tab-ext (cell_count g * suc g.d) _ _
-      (λ i h. map_at c (cell_no g (i / suc g.d)) (i % suc g.d) 0 0 (rw (cell-length g fine (i / suc g.d)) (mod-lt i (omega arith))))
+      (λ i h. map_at c (cell_no g (i / suc g.d)) (i % suc g.d) 0 0 (rw (cell-length g taken (i / suc g.d)) (mod-lt i (omega arith))))
 
   pub words_long : length (flat_by g c) ≡ cell_count g * suc g.d
   words_long = ap length flat-words ∙ length-tab (cell_count g * suc g.d) _
@@ -60,15 +60,15 @@ module _ (g : Grid) (fine : check_of g ≡ Fine) (c : ℕ → ℕ) where
   begins : (p k : ℕ) → k < g.d → (begin_of p k ≤ coord_at g p k) × (coord_at g p k ≤ begin_of p k + 1) × (begin_of p k < cells_on g k)
   begins p k l =
       let a : coord_at g p k ≤ cells_on g k = coord-le g p k in
-      let b : 1 ≤ cells_on g k = some-cell g fine k l in
+      let b : 1 ≤ cells_on g k = some-cell g taken k l in
       (omega arith, omega arith, omega arith)
 
   -- each grid point is a corner of a cell
-  pub met-point : (p : ℕ) → p < points_of g → Met g fine p
+  pub met-point : (p : ℕ) → p < points_of g → Met g taken p
   met-point p h =
       let box : InBox g (point_of g (begin_of p)) (point_of g (coord_at g p)) = corners g (begin_of p) (coord_at g p) (λ k l. ((begins p k l).0, (begins p k l).1, coord-le g p k)) in
       let le : (k : ℕ) → k < g.d → begin_of p k ≤ cells_on g k = λ k l. let x : begin_of p k < cells_on g k = (begins p k l).2 in omega arith in
-      meets g fine (point_of g (begin_of p)) p (subst (λ (w : ℕ). InBox g (point_of g (begin_of p)) w) (point-of-coords g p h) box)
+      meets g taken (point_of g (begin_of p)) p (subst (λ (w : ℕ). InBox g (point_of g (begin_of p)) w) (point-of-coords g p h) box)
       (λ k l. rw (coord-of-point g (begin_of p) le k l) (begins p k l).2)
 
   word_at : (x j : ℕ) → x < cell_count g → j ≤ g.d → get_or (flat_by g c) (x * suc g.d + j) 0 ≡ c (corner_of g x j)
@@ -94,4 +94,4 @@ module _ (g : Grid) (fine : check_of g ≡ Fine) (c : ℕ → ℕ) where
   classes-low m k i h =
       let b : i < cell_count g * suc g.d = omega (arith, words_long) in
       let r : i % suc g.d < suc g.d = mod-lt i (omega arith) in
-      subst (λ (x : ℕ). x < m) (sym (words-at i b)) (k.below (corner_of g (i / suc g.d) (i % suc g.d)) (corner-lt g fine (i / suc g.d) (i % suc g.d) (omega arith)))
+      subst (λ (x : ℕ). x < m) (sym (words-at i b)) (k.below (corner_of g (i / suc g.d) (i % suc g.d)) (corner-lt g taken (i / suc g.d) (i % suc g.d) (omega arith)))

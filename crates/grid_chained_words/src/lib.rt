@@ -18,11 +18,9 @@ pub fn class_words(grid: Grid, numbers: &[u32], words: &mut [u32])
     ensures { words.new ≡ flat_by grid (at numbers.now) }
 {
     let n = grid.d as usize + 1;
-    let mut i = 0;
-    while i < words.len() {
+    for (i, word) in words.iter_mut().enumerate() {
         let p = grid_words::corner(grid, i / n, i % n);
-        words[i] = numbers[p];
-        i += 1;
+        *word = numbers[p];
     }
 }
 

@@ -1,5 +1,6 @@
 -- How many cells a glued grid has. It has no more than words; as many exactly if no two words sort to one cell; and where it has fewer, a facet lies in three cells. So
 -- where 7 is not given a grid that is taken has d! cells for each box, and an order is handed out exactly if its words agree on every facet. Assumes nothing.
+use Rattle.refusal.specs.Says.{fine}
 use mathlib.Core.Path.{◌≡◌, refl, sym, ap, subst, ◌∙◌}
 use mathlib.Core.Bool.{Bool, true, false, false≢true}
 use mathlib.Core.Logic.{◌⊎◌, inl, inr, ⊎_elim}
@@ -9,7 +10,6 @@ use native.Mathlib.Nat.{le_refl}
 use native.Mathlib.Decide.{ℕ_discrete}
 use native.Mathlib.Omega.{arith}
 use lib.ListN.{length}
-use Rattle.refusal.specs.declared.Answer.TheVariants.{Fine}
 use Rattle.multiindex.specs.Sort.{sort_word}
 use Rattle.complex.specs.Facets.{Crowded}
 use Rattle.complex.specs.Cells.{in_order}
@@ -34,32 +34,32 @@ use Rattle.grid_mesh.proofs.Words.{word_no, words-each, own-words, glued-are, wo
 use Rattle.grid_mesh.proofs.Twice.{two-words}
 use Rattle.grid_mesh.proofs.Seven.{untangled-never-seven}
 
-module _ (g : Grid) (fine : check_of g ≡ Fine) where
+module _ (g : Grid) (taken : check_of g ≡ fine) where
   -- no more cells than words
   pub cells-most : length (glued_cells g) ≤ cell_count g
-  cells-most = omega (arith, ap length (glued-are g fine), order-length (suc g.d) (words_of g), words-many g fine)
+  cells-most = omega (arith, ap length (glued-are g taken), order-length (suc g.d) (words_of g), words-many g taken)
 
   -- as many, exactly if no two words sort to one cell
   pub apart-many : ((x y : ℕ) → x < y → y < cell_count g → sort_word (word_no g x) ≡ sort_word (word_no g y) → ⊥) → length (glued_cells g) ≡ cell_count g
   apart-many f =
-      ap length (glued-are g fine)
-      ∙ cells-many (suc g.d) (words_of g) (words-each g fine)
+      ap length (glued-are g taken)
+      ∙ cells-many (suc g.d) (words_of g) (words-each g taken)
       (λ i j h l e.
-      let m : j < cell_count g = omega (arith, words-many g fine) in
-      f i j h m (ap sort_word (sym (word-is g fine i (omega arith))) ∙ e ∙ ap sort_word (word-is g fine j m)))
-      ∙ words-many g fine
+      let m : j < cell_count g = omega (arith, words-many g taken) in
+      f i j h m (ap sort_word (sym (word-is g taken i (omega arith))) ∙ e ∙ ap sort_word (word-is g taken j m)))
+      ∙ words-many g taken
 
   pub cells-apart : length (glued_cells g) ≡ cell_count g → (x y : ℕ) → x < y → y < cell_count g → sort_word (word_no g x) ≡ sort_word (word_no g y) → ⊥
   cells-apart e x y h l q =
-      many-apart (suc g.d) (words_of g) (words-each g fine) (ap length (sym (glued-are g fine)) ∙ e ∙ sym (words-many g fine)) x y h (omega (arith, words-many g fine))
-      (ap sort_word (word-is g fine x (omega arith)) ∙ q ∙ ap sort_word (sym (word-is g fine y l)))
+      many-apart (suc g.d) (words_of g) (words-each g taken) (ap length (sym (glued-are g taken)) ∙ e ∙ sym (words-many g taken)) x y h (omega (arith, words-many g taken))
+      (ap sort_word (word-is g taken x (omega arith)) ∙ q ∙ ap sort_word (sym (word-is g taken y l)))
 
   -- ---- the grid's words as the promises read them: each has d + 1 vertices, and sorted they are the cells
   own-each : Each (λ v. length v ≡ suc g.d) (own_words g)
-  own-each = subst (λ (ws : List Word). Each (λ v. length v ≡ suc g.d) ws) (sym (own-words g fine)) (words-each g fine)
+  own-each = subst (λ (ws : List Word). Each (λ v. length v ≡ suc g.d) ws) (sym (own-words g taken)) (words-each g taken)
 
   own-cells : in_order (suc g.d) (own_words g) ≡ glued_cells g
-  own-cells = ap (in_order (suc g.d)) (own-words g fine) ∙ sym (glued-are g fine)
+  own-cells = ap (in_order (suc g.d)) (own-words g taken) ∙ sym (glued-are g taken)
 
   -- an order is handed out exactly where no two words sort to one cell and all facets agree
   pub hands-out-exactly : HandsOutExactly g
@@ -77,11 +77,11 @@ module _ (g : Grid) (fine : check_of g ≡ Fine) where
   -- ---- where 7 is not given
   -- d! cells for each box
   pub cells-number : (Crowded g.d (glued_cells g) → ⊥) → CellsForBoxes g
-  cells-number free = apart-many (λ x y h l e. free (two-words g fine x y h l e))
+  cells-number free = apart-many (λ x y h l e. free (two-words g taken x y h l e))
 
   -- the words are one for each cell
   pub words-order : (Crowded g.d (glued_cells g) → ⊥) → IsOrder (glued_cells g) (own_words g)
-  words-order free = same-order (suc g.d) (glued_cells g) (own_words g) (omega arith) own-each (ap length (own-words g fine) ∙ words-many g fine ∙ sym (cells-number free)) own-cells
+  words-order free = same-order (suc g.d) (glued_cells g) (own_words g) (omega arith) own-each (ap length (own-words g taken) ∙ words-many g taken ∙ sym (cells-number free)) own-cells
 
   -- an order is handed out exactly if they agree on every facet
   pub agree-hands-out : (Crowded g.d (glued_cells g) → ⊥) → AgreeOnFacets g.d (glued_cells g) (words_by_cell g) → HandsOut g
@@ -115,10 +115,10 @@ module _ (g : Grid) (fine : check_of g ≡ Fine) where
   pub as-many-or-seven : (length (glued_cells g) ≡ cell_count g) ⊎ Crowded g.d (glued_cells g)
   as-many-or-seven =
       ⊎_elim
-      (λ (p : Pair (cell_count g)). inr (two-words g fine p.first p.second p.order p.within p.one))
+      (λ (p : Pair (cell_count g)). inr (two-words g taken p.first p.second p.order p.within p.one))
       (λ (f : (x y : ℕ) → x < y → y < cell_count g → sort_word (word_no g x) ≡ sort_word (word_no g y) → ⊥). inl (apart-many f))
       (pair-or-not (cell_count g))
 
 -- where no axis with a non-empty set is itself reflected there are d! cells for each box
-pub untangled-number : (g : Grid) → check_of g ≡ Fine → Untangled g → CellsForBoxes g
-untangled-number g fine u = cells-number g fine (untangled-never-seven g fine u)
+pub untangled-number : (g : Grid) → check_of g ≡ fine → Untangled g → CellsForBoxes g
+untangled-number g taken u = cells-number g taken (untangled-never-seven g taken u)

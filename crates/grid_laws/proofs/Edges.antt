@@ -1,5 +1,6 @@
 -- The edges to which lengths are given are the edges of the glued cells: the same list. A visit measures between two corners of a cell, and each two corners of a cell
 -- are visited. Assumes nothing.
+use Rattle.refusal.specs.Says.{fine}
 use mathlib.Core.Path.{◌≡◌, refl, sym, ap, subst, ◌∙◌}
 use mathlib.Core.Bool.{Bool, true, ◌&&◌}
 use mathlib.Core.List.{List, [], ◌∷◌, map}
@@ -10,7 +11,6 @@ use lib.Dec.{eqb, ltb}
 use lib.Arith.{digits_div, digits_mod, digits_lt}
 use lib.ListN.{length, get_or}
 use borrow.Author.Tests.{eqb-true, ltb-true}
-use Rattle.refusal.specs.declared.Answer.TheVariants.{Fine}
 use Rattle.lists.proofs.Members.{Mem, Mem-of, Mem-at, Pairs-at}
 use Rattle.lists.specs.Tables.{tab, upto}
 use Rattle.multiindex.specs.Sort.{sort_word}
@@ -68,7 +68,7 @@ two_in w a b up ma mb n =
           ]
     ]
 
-module _ (g : Grid) (fine : check_of g ≡ Fine) where
+module _ (g : Grid) (taken : check_of g ≡ fine) where
   abbrev ends : ℕ → List ℕ
   ends r = vertex_of g (from_at g r) ∷ vertex_of g (to_at g r) ∷ []
 
@@ -79,16 +79,16 @@ module _ (g : Grid) (fine : check_of g ≡ Fine) where
   ends-are : (r : ℕ) → r < visits_of g → ends r ≡ vertex_no g (r / edges_each g.d) (first_end (r % edges_each g.d)) ∷ vertex_no g (r / edges_each g.d) (second_end (r % edges_each g.d)) ∷ []
   ends-are r h =
       let k = edges_each g.d in
-      let c = cell_in g fine r k refl h in
-      ap (λ (z : ℕ). vertex_of g z ∷ vertex_of g (to_at g r) ∷ []) (corner-at g fine (r / k) (first_end (r % k)) c)
-      ∙ ap (λ (z : ℕ). vertex_no g (r / k) (first_end (r % k)) ∷ vertex_of g z ∷ []) (corner-at g fine (r / k) (second_end (r % k)) c)
+      let c = cell_in g taken r k refl h in
+      ap (λ (z : ℕ). vertex_of g z ∷ vertex_of g (to_at g r) ∷ []) (corner-at g taken (r / k) (first_end (r % k)) c)
+      ∙ ap (λ (z : ℕ). vertex_no g (r / k) (first_end (r % k)) ∷ vertex_of g z ∷ []) (corner-at g taken (r / k) (second_end (r % k)) c)
 
   -- two corners of cell x are an edge of its glued cell
   corners-edge : (x i j : ℕ) → x < cell_count g → i < j → j ≤ g.d → In (min (vertex_no g x i) (vertex_no g x j) ∷ max (vertex_no g x i) (vertex_no g x j) ∷ []) (Skeleton.edges_of (glued_cells g))
   corners-edge x i j h l m =
-      let r = two_in (sort_word (word_no g x)) (vertex_no g x i) (vertex_no g x j) (sorted_rises g fine x h) (corner-mem g fine x (vertex_no g x i) h (i, omega arith, refl)) (corner-mem g fine x (vertex_no g x j) h (j, m, refl))
-      (λ e. omega (arith, corner-one g fine x i j (omega arith) m e)) in
-      let c = cell-of g fine x h in
+      let r = two_in (sort_word (word_no g x)) (vertex_no g x i) (vertex_no g x j) (sorted_rises g taken x h) (corner-mem g taken x (vertex_no g x i) h (i, omega arith, refl)) (corner-mem g taken x (vertex_no g x j) h (j, m, refl))
+      (λ e. omega (arith, corner-one g taken x i j (omega arith) m e)) in
+      let c = cell-of g taken x h in
       let e : (k : ℕ) → get_or (cell_at (glued_cells g) c.0) k 0 ≡ get_or (sort_word (word_no g x)) k 0 = λ k. ap (λ (w : List ℕ). get_or w k 0) c.2 in
       subst (λ (z : List ℕ). In z (Skeleton.edges_of (glued_cells g)))
       (ap (λ (z : ℕ). z ∷ get_or (cell_at (glued_cells g) c.0) r.1 0 ∷ []) (e r.0 ∙ r.4) ∙ ap (λ (z : ℕ). min (vertex_no g x i) (vertex_no g x j) ∷ z ∷ []) (e r.1 ∙ r.5))
@@ -107,7 +107,7 @@ module _ (g : Grid) (fine : check_of g ≡ Fine) where
 
   corners-visited : (x i j : ℕ) → x < cell_count g → i < j → j ≤ g.d → In (min (vertex_no g x i) (vertex_no g x j) ∷ max (vertex_no g x i) (vertex_no g x j) ∷ []) (edges_of g)
   corners-visited x i j h l m =
-      let e = edge_at g.d i j (dim g fine) m l in
+      let e = edge_at g.d i j (dim g taken) m l in
       let p : (x * edges_each g.d + edge_no i j) % edges_each g.d ≡ edge_no i j = digits_mod x e.0 in
       edge-visit x i j (x * edges_each g.d + edge_no i j) (digits_lt h e.0) (digits_div x e.0) (ap first_end p ∙ e.1) (ap second_end p ∙ e.2)
 
@@ -115,9 +115,9 @@ module _ (g : Grid) (fine : check_of g ≡ Fine) where
   visit-edge : (r : ℕ) → r < visits_of g → In (sort_word (ends r)) (Skeleton.edges_of (glued_cells g))
   visit-edge r h =
       let k = edges_each g.d in
-      let q = place_in g fine r k refl in
+      let q = place_in g taken r k refl in
       subst (λ (z : Word). In z (Skeleton.edges_of (glued_cells g))) (sym (ap sort_word (ends-are r h) ∙ two-sorted (vertex_no g (r / k) (first_end (r % k))) (vertex_no g (r / k) (second_end (r % k)))))
-      (corners-edge (r / k) (first_end (r % k)) (second_end (r % k)) (cell_in g fine r k refl h) (ends-apart g.d (r % k) (dim g fine) q) (ends-below g.d (r % k) (dim g fine) q).1)
+      (corners-edge (r / k) (first_end (r % k)) (second_end (r % k)) (cell_in g taken r k refl h) (ends-apart g.d (r % k) (dim g taken) q) (ends-below g.d (r % k) (dim g taken) q).1)
 
   visited-edge : (e : Word) → In e (edges_of g) → In e (Skeleton.edges_of (glued_cells g))
   visited-edge e m =
@@ -128,11 +128,11 @@ module _ (g : Grid) (fine : check_of g ≡ Fine) where
   edge-visited : (e : Word) → In e (Skeleton.edges_of (glued_cells g)) → In e (edges_of g)
   edge-visited e m =
       let (c, i, j, hc, l, hj, q) = edges-from (glued_cells g) e m in
-      let (x, hx, w) = word_of g fine c hc in
+      let (x, hx, w) = word_of g taken c hc in
       let lj : j < length (sort_word (word_no g x)) = omega (arith, ap length w) in
-      let up : get_or (sort_word (word_no g x)) i 0 < get_or (sort_word (word_no g x)) j 0 = Pairs-at (λ a b. a < b) (sort_word (word_no g x)) i j (sorted_rises g fine x hx) l lj in
-      let (i', li, ei) = mem-corner g fine x (get_or (sort_word (word_no g x)) i 0) hx (Mem-of (sort_word (word_no g x)) i (omega arith)) in
-      let (j', lj', ej) = mem-corner g fine x (get_or (sort_word (word_no g x)) j 0) hx (Mem-of (sort_word (word_no g x)) j lj) in
+      let up : get_or (sort_word (word_no g x)) i 0 < get_or (sort_word (word_no g x)) j 0 = Pairs-at (λ a b. a < b) (sort_word (word_no g x)) i j (sorted_rises g taken x hx) l lj in
+      let (i', li, ei) = mem-corner g taken x (get_or (sort_word (word_no g x)) i 0) hx (Mem-of (sort_word (word_no g x)) i (omega arith)) in
+      let (j', lj', ej) = mem-corner g taken x (get_or (sort_word (word_no g x)) j 0) hx (Mem-of (sort_word (word_no g x)) j lj) in
       let f : e ≡ vertex_no g x i' ∷ vertex_no g x j' ∷ [] = q ∙ ap (λ (z : List ℕ). get_or z i 0 ∷ get_or z j 0 ∷ []) w ∙ ap (λ (z : ℕ). z ∷ get_or (sort_word (word_no g x)) j 0 ∷ []) (sym ei) ∙ ap (λ (z : ℕ). vertex_no g x i' ∷ z ∷ []) (sym ej) in
       let less : vertex_no g x i' < vertex_no g x j' = omega arith in
       elim (dec_lt i' j') [

@@ -1,5 +1,6 @@
 -- Figures of the laws. 3×3 with each axis twisted over the other: 18 words and 17 cells, and a facet in three cells; so the premise of the count is needed. 3×1 with axis
 -- 0 periodic: 6 cells, 12 edges, a border of 6. Assumes nothing.
+use Rattle.refusal.specs.Says.{fine}
 use mathlib.Core.Path.{◌≡◌, refl, sym, ◌∙◌}
 use mathlib.Core.Logic.{⊎_elim}
 use Prim.Native.Nat.{ℕ}
@@ -18,14 +19,13 @@ use Rattle.quotient.specs.Fold.{product, some}
 use Rattle.quotient.specs.Shape.{axis_of, bad_set, check_of, cell_count}
 use Rattle.quotient.specs.Reduce.{rest_at, reflected_by, number_to}
 use Rattle.quotient.specs.Points.{from_digits}
-use Rattle.refusal.specs.declared.Answer.TheVariants.{Fine}
 use Rattle.grid_words.specs.Cells.{met, grid_cells}
 use Rattle.grid_lengths.specs.Edges.{edges_of}
 use Rattle.grid_mesh.specs.Words.{glued_cells}
 use Rattle.grid_laws.specs.Tangled.{axis, plane, tangled, TangledWords, TangledCells}
 use Rattle.grid_laws.proofs.Count.{as-many-or-seven}
 
-tangled-taken : check_of tangled ≡ Fine
+tangled-taken : check_of tangled ≡ fine
 unfolding check_of bad_set some first_where found_at product axis_of
 tangled-taken = refl
 

@@ -1,11 +1,11 @@
 -- What the calls on grids need of their working lists keeps document 01's bound: at most 32 numbers for each corner of the words, plus 16,384. Assumes nothing.
+use Rattle.refusal.specs.Says.{fine}
 use mathlib.Core.Path.{◌≡◌, refl}
 use Prim.Native.Nat.{ℕ, suc, ◌+◌, ◌*◌, ◌≤◌, suc-le-suc}
 use native.Mathlib.Nat.{mul_assoc, mul-le-mul_left}
 use native.Mathlib.Omega.{arith}
 use lib.Dec.{leb}
 use borrow.Author.Tests.{leb-true}
-use Rattle.refusal.specs.declared.Answer.TheVariants.{Fine}
 use Rattle.multiindex.proofs.Tables.{at-below}
 use Rattle.quotient.specs.declared.Grid.{Grid}
 use Rattle.quotient.specs.Shape.{check_of, sides_check_of, cell_count}
@@ -32,17 +32,17 @@ ends-most : (d : ℕ) → d ≤ 3 → edges_each d * 2 ≤ suc d * 3
 ends-most d h = leb-true (edges_each d * 2) (suc d * 3) (at-below 4 (λ d. leb (edges_each d * 2) (suc d * 3)) refl d (suc-le-suc h))
 
 -- the calls `cell_words`, `triangulate_ordered` and `edge_lengths_sq` on a grid that is taken
-pub words-bound : (g : Grid) → check_of g ≡ Fine → KeepsBound g (grid_need g)
-words-bound g fine = need-bound g.d (corners_of g) (dim g fine)
+pub words-bound : (g : Grid) → check_of g ≡ fine → KeepsBound g (grid_need g)
+words-bound g taken = need-bound g.d (corners_of g) (dim g taken)
 
-pub ordered-bound : (g : Grid) → check_of g ≡ Fine → KeepsBound g (order_room g)
-ordered-bound g fine = triangulated-bound g.d (corners_of g) (dim g fine)
+pub ordered-bound : (g : Grid) → check_of g ≡ fine → KeepsBound g (order_room g)
+ordered-bound g taken = triangulated-bound g.d (corners_of g) (dim g taken)
 
-pub lengths-bound : (g : Grid) → sides_check_of g ≡ Fine → KeepsBound g (lengths_need g)
-lengths-bound g fine =
+pub lengths-bound : (g : Grid) → sides_check_of g ≡ fine → KeepsBound g (lengths_need g)
+lengths-bound g taken =
     omega (
       arith,
-      mul-le-mul_left (cell_count g) (ends-most g.d (dim g (sides-taken g fine))),
+      mul-le-mul_left (cell_count g) (ends-most g.d (dim g (sides-taken g taken))),
       mul_assoc (cell_count g) (edges_each g.d) 2,
       mul_assoc (cell_count g) (suc g.d) 3,
     )

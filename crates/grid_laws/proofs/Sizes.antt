@@ -1,11 +1,11 @@
 -- How many facets and edges a glued grid has, where 7 is not given: twice the facets is d + 1 facets for each cell, and the border once more. In dimension 2 the facets
 -- are the edges, and in dimension 1 the cells are. Assumes nothing.
+use Rattle.refusal.specs.Says.{fine}
 use mathlib.Core.Path.{◌≡◌, refl, sym, ap, subst, ◌∙◌}
 use mathlib.Core.List.{List, [], ◌∷◌}
 use Prim.Native.Nat.{ℕ, zero, suc, ◌+◌, ◌*◌, ◌≤◌, ◌<◌}
 use native.Mathlib.Omega.{arith}
 use lib.ListN.{length, get_or}
-use Rattle.refusal.specs.declared.Answer.TheVariants.{Fine}
 use Rattle.complex.specs.Facets.{cell_at, facet_at, Crowded, Cells}
 use Rattle.complex.specs.Skeleton.{facets_of, border_of}
 use Rattle.complex.specs.Skeleton as Skeleton
@@ -81,25 +81,25 @@ module _ (cs : List Word) (good : Cells 1 cs) (up : Rising (Colex 2) cs) where
       (λ f m. let (c, h, e) = at_in f cs m in subst (λ (z : Word). In z (Skeleton.edges_of cs)) (sym (pair_is (cell_at cs c) (good.long c h)) ∙ e) (edges-has cs c 0 1 h (omega arith) (omega (arith, good.long c h))))
 
 -- ---- a grid that is taken
-module _ (g : Grid) (fine : check_of g ≡ Fine) where
+module _ (g : Grid) (taken : check_of g ≡ fine) where
   -- d + 1 facets for each of d! cells for each box, each facet twice but for the border
   pub facets-number : (Crowded g.d (glued_cells g) → ⊥) → factorial g.d * product (cells_on g) g.d * suc g.d + length (border_of g.d (glued_cells g)) ≡ 2 * length (facets_of g.d (glued_cells g))
   facets-number free =
-      ap (λ (n : ℕ). n * suc g.d + length (border_of g.d (glued_cells g))) (sym (cells-number g fine free))
-      ∙ ap (λ (k : ℕ). length (glued_cells g) * k + length (border_of g.d (glued_cells g))) (sym (slots-pos g.d (taken-low g fine)))
-      ∙ rows-count g.d (glued_cells g) (glued-good g fine) free
+      ap (λ (n : ℕ). n * suc g.d + length (border_of g.d (glued_cells g))) (sym (cells-number g taken free))
+      ∙ ap (λ (k : ℕ). length (glued_cells g) * k + length (border_of g.d (glued_cells g))) (sym (slots-pos g.d (taken-low g taken)))
+      ∙ rows-count g.d (glued_cells g) (glued-good g taken) free
 
   -- in dimension 2: three for each of two triangles for each box
   pub edges-number : g.d ≡ 2 → (Crowded g.d (glued_cells g) → ⊥) → 6 * product (cells_on g) g.d + length (border_of g.d (glued_cells g)) ≡ 2 * length (edges_of g)
   unfolding product
   edges-number e free =
       let a : length (edges_of g) ≡ length (facets_of g.d (glued_cells g)) =
-      ap length (edges-same g fine ∙ sym (facets-edges (glued_cells g) (subst (λ (d : ℕ). Cells d (glued_cells g)) e (glued-good g fine)))) ∙ ap (λ (d : ℕ). length (facets_of d (glued_cells g))) (sym e) in
+      ap length (edges-same g taken ∙ sym (facets-edges (glued_cells g) (subst (λ (d : ℕ). Cells d (glued_cells g)) e (glued-good g taken)))) ∙ ap (λ (d : ℕ). length (facets_of d (glued_cells g))) (sym e) in
       let b : factorial g.d * product (cells_on g) g.d * suc g.d ≡ 2 * product (cells_on g) g.d * 3 = ap (λ (d : ℕ). factorial d * product (cells_on g) g.d * suc d) e in
       omega (arith, facets-number free)
 
   -- in dimension 1: the cells
   pub edges-line : g.d ≡ 1 → edges_of g ≡ glued_cells g
   edges-line e =
-      edges-same g fine
-      ∙ cells-edges (glued_cells g) (subst (λ (d : ℕ). Cells d (glued_cells g)) e (glued-good g fine)) (subst (λ (n : ℕ). Rising (Colex n) (glued_cells g)) (ap (λ (d : ℕ). d + 1) e) (cells-rising g.d (flat_words g)))
+      edges-same g taken
+      ∙ cells-edges (glued_cells g) (subst (λ (d : ℕ). Cells d (glued_cells g)) e (glued-good g taken)) (subst (λ (n : ℕ). Rising (Colex n) (glued_cells g)) (ap (λ (d : ℕ). d + 1) e) (cells-rising g.d (flat_words g)))

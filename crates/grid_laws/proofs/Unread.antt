@@ -1,5 +1,7 @@
 -- What stands past d is not looked at, and a twist with the empty set is as periodic, for the grid's other calls too: two grids that are alike below d have the same words,
 -- cells and words by cell, and with the same sides below d the same edges and lengths. Assumes nothing.
+use Rattle.refusal.specs.Says.{Answer, fine}
+use Rattle.std.specs.Prelude.{Err, Ok}
 use mathlib.Core.Path.{◌≡◌, refl, sym, ap, ◌∙◌}
 use mathlib.Core.List.{List, [], ◌∷◌, ◌++◌, map}
 use Prim.Native.Nat.{ℕ, zero, suc, ◌+◌, ◌-◌, ◌*◌, ◌/◌, ◌%◌, ◌≤◌, ◌<◌}
@@ -8,8 +10,6 @@ use lib.Ieee.{fin}
 use lib.IntN.{pos}
 use lib.ListN.{get_or}
 use mathlib.Core.Bool.{false}
-use Rattle.refusal.specs.declared.Answer.{Answer}
-use Rattle.refusal.specs.declared.Answer.TheVariants as Answer
 use Rattle.refusal.specs.Limits.{most_dimension}
 use Rattle.lists.specs.Rows.{rows, flat}
 use Rattle.lists.specs.Tables.{upto}
@@ -164,10 +164,10 @@ module _ (g h : Grid) (alike : Alike g h) (sides : (k : ℕ) → k < g.d → sid
   one-edge-alike a b = by (sides_check_of g) refl ∙ ap (λ (x : Answer). edge_after x (settle (edge_values h a.0 b.0))) (sides-alike g h alike sides)
     where
       by : (x : Answer) → sides_check_of g ≡ x → edge_after (sides_check_of g) (settle (edge_values g a.0 b.0)) ≡ edge_after (sides_check_of g) (settle (edge_values h a.0 b.0))
-      by (Answer.Refused n p) e = rw e
-      by Answer.Fine e =
+      by (Err why) e = rw e
+      by (Ok _) e =
           let taken = sides-taken g e in
-          rw e (settled-alike g h alike (taken-low g taken) (taken-high g taken) sides a.0 b.0)
+          rw e (ap Ok (settled-alike g h alike (taken-low g taken) (taken-high g taken) sides a.0 b.0))
 
 -- ---- what stands past d: the words and cells, and in a grid that is taken the lengths
 module _ (g h : Grid) (same : SameBelow g h) where
@@ -180,9 +180,9 @@ module _ (g h : Grid) (same : SameBelow g h) where
   pub order-unread : words_by_cell g ≡ words_by_cell h
   order-unread = by-cell-alike g h (same_alike g h same)
 
-  pub lengths-unread : sides_check_of g ≡ Answer.Fine → map (settled_of g) (edges_of g) ≡ map (settled_of h) (edges_of h)
-  lengths-unread fine =
-      let taken = sides-taken g fine in
+  pub lengths-unread : sides_check_of g ≡ fine → map (settled_of g) (edges_of g) ≡ map (settled_of h) (edges_of h)
+  lengths-unread passed =
+      let taken = sides-taken g passed in
       lengths-alike g h (same_alike g h same) (taken-low g taken) (taken-high g taken) same.sides
 
   pub one-edge-unread : (a b : GluedVertex) → edge_length_of g a b ≡ edge_length_of h a b

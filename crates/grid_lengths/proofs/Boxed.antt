@@ -1,4 +1,5 @@
 -- The visits of one box are those of every other, moved: what a visit measures depends only on its place in its box, so there are no more values than a box has visits. Assumes nothing.
+use Rattle.refusal.specs.Says.{fine}
 use mathlib.Core.Path.{◌≡◌, refl, sym, ap, ap₂, subst, ◌∙◌}
 use mathlib.Core.Bool.{Bool, true, false, cond, ◌&&◌}
 use mathlib.Core.List.{List, ◌++◌}
@@ -11,7 +12,6 @@ use lib.Ieee.{Float, binary64, add}
 use lib.ListN.{length, get_or, take, drop, length-append}
 use lib.Seq.{length-take-le, take-append-le, take_all}
 use borrow.Author.Tests.{leb-true, eqb-true}
-use Rattle.refusal.specs.declared.Answer.TheVariants.{Fine}
 use Rattle.multiindex.proofs.Tables.{at-below}
 use Rattle.lists.specs.Tables.{tab}
 use Rattle.lists.proofs.Tables.{length-tab, get_or-tab, tab-ext}
@@ -63,29 +63,29 @@ step-at g p q (suc zero) h = refl
 step-at g p q (suc (suc zero)) h = refl
 step-at g p q (suc (suc (suc i))) h = absurd (let w : ⊥ = omega arith in w)
 
-module _ (g : Grid) (fine : check_of g ≡ Fine) where
+module _ (g : Grid) (passed : check_of g ≡ fine) where
   pub each-visits : 0 < visits_each g
-  each-visits = omega (arith, mul-le-mul_right (edges_each g.d) (some-order g.d (dim g fine)), one-mul (edges_each g.d), some_edges g fine)
+  each-visits = omega (arith, mul-le-mul_right (edges_each g.d) (some-order g.d (dim g passed)), one-mul (edges_each g.d), some_edges g passed)
 
   pub each-visits-few : visits_each g ≤ 36
   each-visits-few =
       omega
-      (arith, mul-le-mul_right (edges_each g.d) (le_of_suc-le-suc (few-orders g.d (dim g fine))), each-few g.d (dim g fine))
+      (arith, mul-le-mul_right (edges_each g.d) (le_of_suc-le-suc (few-orders g.d (dim g passed))), each-few g.d (dim g passed))
 
   -- all boxes together have all visits
   pub visits-boxes : boxes_of g * visits_each g ≡ visits_of g
-  visits-boxes = sym (mul_assoc (boxes_of g) (each_box g) (edges_each g.d)) ∙ ap (λ (n : ℕ). n * edges_each g.d) (mul_comm (boxes_of g) (each_box g) ∙ cells-product g fine (each_box g) (boxes_of g) refl refl)
+  visits-boxes = sym (mul_assoc (boxes_of g) (each_box g) (edges_each g.d)) ∙ ap (λ (n : ℕ). n * edges_each g.d) (mul_comm (boxes_of g) (each_box g) ∙ cells-product g passed (each_box g) (boxes_of g) refl refl)
 
   pub each-visits-most : visits_each g ≤ visits_of g
   each-visits-most =
       subst (λ (n : ℕ). visits_each g ≤ n) visits-boxes
-      (subst (λ (n : ℕ). n ≤ boxes_of g * visits_each g) (one-mul (visits_each g)) (mul-le-mul_right (visits_each g) (boxes-some g fine)))
+      (subst (λ (n : ℕ). n ≤ boxes_of g * visits_each g) (one-mul (visits_each g)) (mul-le-mul_right (visits_each g) (boxes-some g passed)))
 
   -- there are no more points than ends of visits
   pub points-ends : points_of g ≤ visits_of g * 2
   points-ends =
-      le_trans (points-corners g fine)
-      (subst (λ (n : ℕ). cell_count g * suc g.d ≤ n) (sym (mul_assoc (cell_count g) (edges_each g.d) 2)) (mul-le-mul_left (cell_count g) (ends-most g.d (taken-low g fine) (dim g fine))))
+      le_trans (points-corners g passed)
+      (subst (λ (n : ℕ). cell_count g * suc g.d ≤ n) (sym (mul_assoc (cell_count g) (edges_each g.d) 2)) (mul-le-mul_left (cell_count g) (ends-most g.d (taken-low g passed) (dim g passed))))
 
   -- ---- visit r is visit r % m of box r / m
   module _ (r : ℕ) (h : r < visits_of g) where
@@ -102,7 +102,7 @@ module _ (g : Grid) (fine : check_of g ≡ Fine) where
     edge = within % edges_each g.d
 
     edge_in : edge < edges_each g.d
-    edge_in = mod-lt within (some_edges g fine)
+    edge_in = mod-lt within (some_edges g passed)
 
     whole : r ≡ (box * each_box g + cell) * edges_each g.d + edge
     whole =
@@ -116,17 +116,17 @@ module _ (g : Grid) (fine : check_of g ≡ Fine) where
     left = ap (λ (y : ℕ). y % edges_each g.d) whole ∙ digits_mod (box * each_box g + cell) edge_in
 
     cell-each : cell < each_box g
-    cell-each = in_cells within (each_box g) (edges_each g.d) (some_edges g fine) (mod-lt r each-visits)
+    cell-each = in_cells within (each_box g) (edges_each g.d) (some_edges g passed) (mod-lt r each-visits)
 
     within-visits : within < visits_of g
     within-visits = omega (arith, mod-le r (visits_each g))
 
     -- a corner of its cell, and the same corner in the first box
     corner-here : (j : ℕ) → corner_at g (r / edges_each g.d) j ≡ corner_of g (box * each_box g + cell) j
-    corner-here j = corner-at g fine (r / edges_each g.d) j (cell_in g fine r (edges_each g.d) refl h) ∙ ap (λ (x : ℕ). corner_of g x j) over
+    corner-here j = corner-at g passed (r / edges_each g.d) j (cell_in g passed r (edges_each g.d) refl h) ∙ ap (λ (x : ℕ). corner_of g x j) over
 
     corner-first : (j : ℕ) → corner_at g cell j ≡ corner_of g cell j
-    corner-first j = corner-at g fine cell j (cell_in g fine within (edges_each g.d) refl within-visits)
+    corner-first j = corner-at g passed cell j (cell_in g passed within (edges_each g.d) refl within-visits)
 
     from-here : from_at g r ≡ corner_of g (box * each_box g + cell) (first_end edge)
     from-here = corner-here (first_end (r % edges_each g.d)) ∙ ap (λ (e : ℕ). corner_of g (box * each_box g + cell) (first_end e)) left
@@ -135,26 +135,26 @@ module _ (g : Grid) (fine : check_of g ≡ Fine) where
     to-here = corner-here (second_end (r % edges_each g.d)) ∙ ap (λ (e : ℕ). corner_of g (box * each_box g + cell) (second_end e)) left
 
     ends_low : (first_end edge ≤ g.d) × (second_end edge ≤ g.d)
-    ends_low = ends-below g.d edge (dim g fine) edge_in
+    ends_low = ends-below g.d edge (dim g passed) edge_in
 
     pub from-within : from_at g r < points_of g
-    from-within = rw from-here (corner-lt g fine (box * each_box g + cell) (first_end edge) ends_low.0)
+    from-within = rw from-here (corner-lt g passed (box * each_box g + cell) (first_end edge) ends_low.0)
 
     pub to-within : to_at g r < points_of g
-    to-within = rw to-here (corner-lt g fine (box * each_box g + cell) (second_end edge) ends_low.1)
+    to-within = rw to-here (corner-lt g passed (box * each_box g + cell) (second_end edge) ends_low.1)
 
     -- its ends have different vertices
     pub ends-apart : vertex_of g (from_at g r) ≡ vertex_of g (to_at g r) → ⊥
     ends-apart e =
-        corners-apart g fine (box * each_box g + cell) (first_end edge) (second_end edge) (end-rise edge (omega (arith, edge_in, each-few g.d (dim g fine)))) ends_low.1
+        corners-apart g passed (box * each_box g + cell) (first_end edge) (second_end edge) (end-rise edge (omega (arith, edge_in, each-few g.d (dim g passed)))) ends_low.1
         (ap (vertex_of g) (sym from-here) ∙ e ∙ ap (vertex_of g) to-here)
 
     -- a box of which no corner is a has no visit of an edge at a
     pub visit-skipped : (a b : ℕ) → touches_at g (r / visits_each g) a ≡ false → visits_edge g a b r ≡ false
     visit-skipped a b f =
         ends-other a b (vertex_of g (from_at g r)) (vertex_of g (to_at g r))
-        (λ e. untouched g fine box a cell (first_end edge) f cell-each ends_low.0 (ap (vertex_of g) (sym from-here) ∙ e))
-        (λ e. untouched g fine box a cell (second_end edge) f cell-each ends_low.1 (ap (vertex_of g) (sym to-here) ∙ e))
+        (λ e. untouched g passed box a cell (first_end edge) f cell-each ends_low.0 (ap (vertex_of g) (sym from-here) ∙ e))
+        (λ e. untouched g passed box a cell (second_end edge) f cell-each ends_low.1 (ap (vertex_of g) (sym to-here) ∙ e))
 
     -- what it measures
     pub square-boxed : square_at g r ≡ square_at g (r % visits_each g)
@@ -162,20 +162,20 @@ module _ (g : Grid) (fine : check_of g ≡ Fine) where
       where
         each : (i : ℕ) → i ≤ g.d - 1 → step_of (steps_of g (from_at g r) (to_at g r)) i ≡ step_of (steps_of g (from_at g within) (to_at g within)) i
         each i l =
-            let k : i < g.d = omega (arith, taken-low g fine) in
-            let m : i < 3 = omega (arith, dim g fine) in
+            let k : i < g.d = omega (arith, taken-low g passed) in
+            let m : i < 3 = omega (arith, dim g passed) in
             step-at g (from_at g r) (to_at g r) i m
             ∙ ap₂ (λ (p q : ℕ). coord_at g q i - coord_at g p i) from-here to-here
-            ∙ step-moved g fine box cell (first_end edge) (second_end edge) i cell-each ends_low.0 ends_low.1 k
+            ∙ step-moved g passed box cell (first_end edge) (second_end edge) i cell-each ends_low.0 ends_low.1 k
             ∙ ap₂ (λ (p q : ℕ). coord_at g q i - coord_at g p i) (sym (corner-first (first_end edge))) (sym (corner-first (second_end edge)))
             ∙ sym (step-at g (from_at g within) (to_at g within) i m)
 
     -- the points between which it measures
     pub from-boxed : from_at g r ≡ point_of g (box_at g (r / visits_each g)) + from_at g (r % visits_each g)
-    from-boxed = from-here ∙ corner-moved g fine box cell (first_end edge) cell-each ends_low.0 ∙ ap (λ (p : ℕ). point_of g (box_at g box) + p) (sym (corner-first (first_end edge)))
+    from-boxed = from-here ∙ corner-moved g passed box cell (first_end edge) cell-each ends_low.0 ∙ ap (λ (p : ℕ). point_of g (box_at g box) + p) (sym (corner-first (first_end edge)))
 
     pub to-boxed : to_at g r ≡ point_of g (box_at g (r / visits_each g)) + to_at g (r % visits_each g)
-    to-boxed = to-here ∙ corner-moved g fine box cell (second_end edge) cell-each ends_low.1 ∙ ap (λ (p : ℕ). point_of g (box_at g box) + p) (sym (corner-first (second_end edge)))
+    to-boxed = to-here ∙ corner-moved g passed box cell (second_end edge) cell-each ends_low.1 ∙ ap (λ (p : ℕ). point_of g (box_at g box) + p) (sym (corner-first (second_end edge)))
 
   -- ---- the ends of all visits are those of the first box, moved
   pub reach-long : length (end_reach g) ≡ visits_each g * 2
@@ -188,20 +188,20 @@ module _ (g : Grid) (fine : check_of g ≡ Fine) where
   point-within : (b r : ℕ) → r < visits_each g → (point_of g (box_at g b) + from_at g r < points_of g) × (point_of g (box_at g b) + to_at g r < points_of g)
   point-within b r h =
       let k : ℕ = edges_each g.d in
-      let x : r / k < each_box g = in_cells r (each_box g) k (some_edges g fine) h in
-      let e : r % k < k = mod-lt r (some_edges g fine) in
-      let l = ends-below g.d (r % k) (dim g fine) e in
+      let x : r / k < each_box g = in_cells r (each_box g) k (some_edges g passed) h in
+      let e : r % k < k = mod-lt r (some_edges g passed) in
+      let l = ends-below g.d (r % k) (dim g passed) e in
       let c : r / k < cell_count g = le_trans x each-cells in (
-        subst (λ (p : ℕ). p < points_of g) (corner-moved g fine b (r / k) (first_end (r % k)) x l.0 ∙ ap (λ (p : ℕ). point_of g (box_at g b) + p) (sym (corner-at g fine (r / k) (first_end (r % k)) c)))
-            (corner-lt g fine (b * each_box g + r / k) (first_end (r % k)) l.0),
-        subst (λ (p : ℕ). p < points_of g) (corner-moved g fine b (r / k) (second_end (r % k)) x l.1 ∙ ap (λ (p : ℕ). point_of g (box_at g b) + p) (sym (corner-at g fine (r / k) (second_end (r % k)) c)))
-            (corner-lt g fine (b * each_box g + r / k) (second_end (r % k)) l.1),
+        subst (λ (p : ℕ). p < points_of g) (corner-moved g passed b (r / k) (first_end (r % k)) x l.0 ∙ ap (λ (p : ℕ). point_of g (box_at g b) + p) (sym (corner-at g passed (r / k) (first_end (r % k)) c)))
+            (corner-lt g passed (b * each_box g + r / k) (first_end (r % k)) l.0),
+        subst (λ (p : ℕ). p < points_of g) (corner-moved g passed b (r / k) (second_end (r % k)) x l.1 ∙ ap (λ (p : ℕ). point_of g (box_at g b) + p) (sym (corner-at g passed (r / k) (second_end (r % k)) c)))
+            (corner-lt g passed (b * each_box g + r / k) (second_end (r % k)) l.1),
       )
     where
       each-cells : each_box g ≤ cell_count g
       each-cells =
-          subst (λ (n : ℕ). each_box g ≤ n) (cells-product g fine (each_box g) (boxes_of g) refl refl)
-          (subst (λ (n : ℕ). n ≤ each_box g * boxes_of g) (mul-one (each_box g)) (mul-le-mul_left (each_box g) (boxes-some g fine)))
+          subst (λ (n : ℕ). each_box g ≤ n) (cells-product g passed (each_box g) (boxes_of g) refl refl)
+          (subst (λ (n : ℕ). n ≤ each_box g * boxes_of g) (mul-one (each_box g)) (mul-le-mul_left (each_box g) (boxes-some g passed)))
 
   pub reach-within : (b i : ℕ) → i < length (end_reach g) → point_of g (box_at g b) + get_or (end_reach g) i 0 < points_of g
   reach-within b i h =
@@ -240,26 +240,26 @@ module _ (g : Grid) (fine : check_of g ≡ Fine) where
           ∙ by_side (eqb (i % 2) 0) (point_of g (box_at g (r / m))) (from_at g (r % m)) (to_at g (r % m)) (from_at g r) (to_at g r) (from-boxed r l) (to-boxed r l)
 
 -- ---- the lists that are lent
-pub moving-ends : (g : Grid) → check_of g ≡ Fine → (table reach to : List ℕ) → table ≡ vertex_table g → reach ≡ end_reach g → length to ≡ visits_of g * 2 → Moving g table reach to
-moving-ends g fine table reach to e f h =
+pub moving-ends : (g : Grid) → check_of g ≡ fine → (table reach to : List ℕ) → table ≡ vertex_table g → reach ≡ end_reach g → length to ≡ visits_of g * 2 → Moving g table reach to
+moving-ends g passed table reach to e f h =
     subst (λ (l : List ℕ). Moving g table l to) (sym f)
     (record {
-      taken = fine;
+      taken = passed;
       of_points = e;
-      some = omega (arith, reach-long g fine, reach-some g fine);
-      within = reach-within g fine;
+      some = omega (arith, reach-long g passed, reach-some g passed);
+      within = reach-within g passed;
       to_long =
-          h ∙ ap (λ (n : ℕ). n * 2) (sym (visits-boxes g fine)) ∙ mul_assoc (boxes_of g) (visits_each g) 2 ∙ ap (λ (n : ℕ). boxes_of g * n) (sym (reach-long g fine));
+          h ∙ ap (λ (n : ℕ). n * 2) (sym (visits-boxes g passed)) ∙ mul_assoc (boxes_of g) (visits_each g) 2 ∙ ap (λ (n : ℕ). boxes_of g * n) (sym (reach-long g passed));
     })
 
 -- the values of the first box are those of all visits
-pub valued : (g : Grid) → check_of g ≡ Fine → (values : List Float) → values ≡ tab (visits_each g) (square_at g) → Valued g values
-valued g fine values e =
+pub valued : (g : Grid) → check_of g ≡ fine → (values : List Float) → values ≡ tab (visits_each g) (square_at g) → Valued g values
+valued g passed values e =
     subst (λ (l : List Float). Valued g l) (sym e)
     (record {
-      taken = fine;
-      some = omega (arith, length-tab (visits_each g) (square_at g), each-visits g fine);
-      tells = λ r z h. ap (λ (n : ℕ). get_or (tab (visits_each g) (square_at g)) (r % n) z) (length-tab (visits_each g) (square_at g)) ∙ get_or-tab (visits_each g) (square_at g) (r % visits_each g) z (mod-lt r (each-visits g fine)) ∙ sym (square-boxed g fine r h);
+      taken = passed;
+      some = omega (arith, length-tab (visits_each g) (square_at g), each-visits g passed);
+      tells = λ r z h. ap (λ (n : ℕ). get_or (tab (visits_each g) (square_at g)) (r % n) z) (length-tab (visits_each g) (square_at g)) ∙ get_or-tab (visits_each g) (square_at g) (r % visits_each g) z (mod-lt r (each-visits g passed)) ∙ sym (square-boxed g passed r h);
     })
 
 pub point-even : (g : Grid) (i p : ℕ) → eqb (i % 2) 0 ≡ true → p ≡ from_at g (i / 2) → p ≡ end_point g i

@@ -1,12 +1,12 @@
 -- The promise of `edge_lengths_sq` determines what it says and every list: two calls on equal inputs end alike. Assumes nothing.
+use Rattle.refusal.specs.Says.{Counted}
+use Rattle.std.specs.Prelude.{Err}
 use mathlib.Core.List.{List, [], ◌∷◌, map}
 use mathlib.Core.Path.{◌≡◌, refl, sym, ap, ◌∙◌}
 use Prim.Native.Nat.{ℕ}
 use native.Mathlib.Omega.{arith}
 use lib.Ieee.{Float}
 use lib.ListN.{length}
-use Rattle.refusal.specs.declared.Counted.{Counted}
-use Rattle.refusal.specs.declared.Counted.TheVariants.{Refused}
 use Rattle.refusal.specs.Lent.{onto, lengths}
 use Rattle.refusal.proofs.Determined.{comes-one, cleared-one}
 use Rattle.quotient.specs.declared.Grid.{Grid}
@@ -36,7 +36,7 @@ ends-one g n r r' l l' (listed f h e) (listed f' h' e') = (refl, lengths-one l l
 pub edge-lengths-one : (g : Grid) (r r' : Counted) (out o o' : List Float) (keys k k' rows w w' spare p p' counts c c' : List ℕ) → EdgeLengths g r out o keys k rows w spare p counts c → EdgeLengths g r' out o' keys k' rows w' spare p' counts c' →
     (r ≡ r') × (o ≡ o') × ((k ≡ k') × (w ≡ w') × (p ≡ p') × (c ≡ c'))
 edge-lengths-one g r r' out o o' keys k k' rows w w' spare p p' counts c c' a b =
-    let e = comes-one Refused [] (sides_check_of g) (lengths_need g) (lengths keys rows spare counts) (LengthsEnd g (length out)) (ends-one g (length out)) a.comes b.comes in (
+    let e = comes-one Err [] (sides_check_of g) (lengths_need g) (lengths keys rows spare counts) (LengthsEnd g (length out)) (ends-one g (length out)) a.comes b.comes in (
       e.0,
       a.result ∙ ap (λ (l : List Float). onto l out) e.1 ∙ sym b.result,
       cleared-one a.used b.used keys k k' rows w w' spare p p' counts c c' e.2 a.room b.room,

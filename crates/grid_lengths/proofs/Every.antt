@@ -17,65 +17,42 @@ use Rattle.grid_words.proofs.Flat.{of-tab}
 use Rattle.quotient.specs.declared.Grid.{Grid}
 use Rattle.quotient.specs.Reduce.{vertex_of}
 use Rattle.grid_lengths.specs.declared.EdgeLength.{EdgeLength}
-use Rattle.grid_lengths.specs.declared.EdgeLength.TheVariants.{Length, Clash, NoEdge, Refused}
+use Rattle.grid_lengths.specs.declared.EdgeLength.TheVariants.{Length, Clash, NoEdge}
 use Rattle.grid_lengths.specs.Edges.{visits_of, from_at, to_at, square_at, visits_edge, edges_of}
-use Rattle.grid_lengths.specs.Settled.{met_by, settle_from, settle, values_to}
+use Rattle.grid_lengths.specs.Settled.{met_by, settle, values_to}
 use Rattle.grid_lengths.specs.Noted.{one_edge, came_to, Clashed}
 use Rattle.grid_lengths.specs.Lengths.{settled_of}
 use Rattle.grid_lengths.proofs.Values.{values-more}
 use Rattle.grid_lengths.proofs.Gathered.{two-sorted}
 use Rattle.grid_lengths.proofs.Steps.{sorted-values}
 
--- no refusal; and a length or a clash
-abbrev Sound : EdgeLength → Type 0
-Sound (Length x) = Unit {0}
-Sound (Clash x y) = Unit {0}
-Sound NoEdge = Unit {0}
-Sound (Refused n p) = ⊥
-
+-- a length or a clash
 abbrev pub Reached : EdgeLength → Type 0
 Reached (Length x) = Unit {0}
 Reached (Clash x y) = Unit {0}
 Reached NoEdge = ⊥
-Reached (Refused n p) = ⊥
-
-reached-sound : (k : EdgeLength) → Reached k → Sound k
-reached-sound (Length x) h = tt
-reached-sound (Clash x y) h = tt
-reached-sound NoEdge h = absurd h
-reached-sound (Refused n p) h = absurd h
 
 agreed : (b : Bool) (x v : Float) → Reached (cond b (Length v) (Clash x v))
 agreed true x v = tt
 agreed false x v = tt
 
-met-reached : (k : EdgeLength) (v : Float) → Sound k → Reached (met_by k v)
-met-reached (Length x) v h = agreed (agrees x v) x v
-met-reached (Clash x y) v h = tt
-met-reached NoEdge v h = tt
-met-reached (Refused n p) v h = absurd h
-
-sound-next : (b : Bool) (k : EdgeLength) (v : Float) → Sound k → Sound (cond b (met_by k v) k)
-sound-next true k v h = reached-sound (met_by k v) (met-reached k v h)
-sound-next false k v h = h
+met-reached : (k : EdgeLength) (v : Float) → Reached (met_by k v)
+met-reached (Length x) v = agreed (agrees x v) x v
+met-reached (Clash x y) v = tt
+met-reached NoEdge v = tt
 
 reached-next : (b : Bool) (k : EdgeLength) (v : Float) → Reached k → Reached (cond b (met_by k v) k)
-reached-next true k v h = met-reached k v (reached-sound k h)
+reached-next true k v h = met-reached k v
 reached-next false k v h = h
 
 module _ (g : Grid) (a b : ℕ) where
-  sound-to : (r : ℕ) → Sound (settle (values_to g a b r))
-  unfolding values_to settle_from
-  sound-to zero = tt
-  sound-to (suc r) = subst Sound (sym (values-more g a b r)) (sound-next (visits_edge g a b r) (settle (values_to g a b r)) (square_at g r) (sound-to r))
-
   pub reached-after : (x : ℕ) → visits_edge g a b x ≡ true → (r : ℕ) → x < r → Reached (settle (values_to g a b r))
   reached-after x e zero h = absurd (let z : ⊥ = omega arith in z)
   reached-after x e (suc r) h =
       subst Reached (sym (values-more g a b r))
       (elim (ℕ_discrete x r) [
         | yes q ↦
-            subst (λ (t : Bool). Reached (cond t (met_by (settle (values_to g a b r)) (square_at g r)) (settle (values_to g a b r)))) (sym (subst (λ (n : ℕ). visits_edge g a b n ≡ true) q e)) (met-reached (settle (values_to g a b r)) (square_at g r) (sound-to r))
+            subst (λ (t : Bool). Reached (cond t (met_by (settle (values_to g a b r)) (square_at g r)) (settle (values_to g a b r)))) (sym (subst (λ (n : ℕ). visits_edge g a b n ≡ true) q e)) (met-reached (settle (values_to g a b r)) (square_at g r))
         | no q ↦ reached-next (visits_edge g a b r) (settle (values_to g a b r)) (square_at g r) (reached-after x e r (omega arith))
       ])
 
@@ -87,7 +64,6 @@ a-length : (k : EdgeLength) → Reached k → ((u v : Float) → k ≡ Clash u v
 a-length (Length x) h f = (x, refl)
 a-length (Clash u v) h f = absurd (f u v refl)
 a-length NoEdge h f = absurd h
-a-length (Refused n p) h f = absurd h
 
 -- the edge of a visit
 pub visit-length : (g : Grid) → (Clashed g → ⊥) → (x : ℕ) → x < visits_of g → (v : Float) × (came_to g x ≡ Length v)

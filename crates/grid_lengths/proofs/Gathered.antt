@@ -1,15 +1,15 @@
 -- The glued edges as classes of visits: the ends of each visit, sorted, are its edge, and the distinct ones in order are the glued edges. Assumes nothing.
+use Rattle.refusal.specs.Says.{fine}
 use mathlib.Core.Path.{◌≡◌, refl, sym, ap, subst, ◌∙◌}
 use mathlib.Core.Bool.{Bool, true, false, cond, ◌&&◌}
 use mathlib.Core.List.{List, [], ◌∷◌, ◌++◌, map, append-nil}
-use Prim.Native.Nat.{ℕ, zero, suc, ◌+◌, ◌-◌, ◌*◌, ◌/◌, ◌%◌, ◌≤◌, ◌<◌, min, max}
+use Prim.Native.Nat.{ℕ, zero, suc, ◌+◌, ◌*◌, ◌/◌, ◌%◌, ◌≤◌, ◌<◌, min, max}
 use native.Mathlib.Nat.{le_refl, mul-le-mul_left, mul_assoc}
 use native.Mathlib.Omega.{arith}
 use lib.Dec.{eqb, ltb, leb}
 use lib.ListN.{length, get_or, take}
 use lib.Seq.{ext_get_or}
 use borrow.Author.Tests.{ltb-true, ltb-false, leb-true, eqb-true, eq-eqb}
-use Rattle.refusal.specs.declared.Answer.TheVariants.{Fine}
 use Rattle.lists.specs.Tables.{upto}
 use Rattle.multiindex.specs.Sort.{insert_by, insert, sort_word, sort_words}
 use Rattle.multiindex.proofs.Tables.{at-below}
@@ -61,33 +61,33 @@ ends-enough : (d : ℕ) → 1 ≤ d → d ≤ 3 → suc d ≤ edges_each d * 2
 ends-enough zero l h = absurd (let w : ⊥ = omega arith in w)
 ends-enough (suc d) l h = leb-true (suc (suc d)) (edges_each (suc d) * 2) (at-below 3 (λ d. leb (suc (suc d)) (edges_each (suc d) * 2)) refl d h)
 
-module _ (g : Grid) (fine : check_of g ≡ Fine) where
+module _ (g : Grid) (taken : check_of g ≡ fine) where
   abbrev from_to : ℕ → List ℕ
   from_to r = vertex_of g (from_at g r) ∷ vertex_of g (to_at g r) ∷ []
 
   corners-fit : cell_count g * suc g.d ≤ visits_of g * 2
   corners-fit =
-      let a : cell_count g * suc g.d ≤ cell_count g * (edges_each g.d * 2) = mul-le-mul_left (cell_count g) (ends-enough g.d (taken-low g fine) (dim g fine)) in
+      let a : cell_count g * suc g.d ≤ cell_count g * (edges_each g.d * 2) = mul-le-mul_left (cell_count g) (ends-enough g.d (taken-low g taken) (dim g taken)) in
       omega (arith, mul_assoc (cell_count g) (edges_each g.d) 2)
 
   -- all ends are numbers below the room
   corner-low : (x j : ℕ) → x < cell_count g → j ≤ g.d → vertex_of g (corner_of g x j) < visits_of g * 2
   corner-low x j h l =
       let i : x * suc g.d + j < cell_count g * suc g.d = omega (arith, pos-room x (cell_count g) (suc g.d) h) in
-      let a = low-numbers g.d (flat_words g) (words-pass g fine) (x * suc g.d + j) (omega (arith, words_long g fine)) in
-      rw (← (word_at g fine x j h l)) (omega (arith, words_long g fine, corners-fit))
+      let a = low-numbers g.d (flat_words g) (words-pass g taken) (x * suc g.d + j) (omega (arith, words_long g taken)) in
+      rw (← (word_at g taken x j h l)) (omega (arith, words_long g taken, corners-fit))
 
   from_low : (r : ℕ) → r < visits_of g → vertex_of g (from_at g r) < visits_of g * 2
   from_low r h =
       let k = edges_each g.d in
-      let c = cell_in g fine r k refl h in
-      rw (corner-at g fine (r / k) (first_end (r % k)) c) (corner-low (r / k) (first_end (r % k)) c (first-low g fine r k refl (first_end (r % k)) refl))
+      let c = cell_in g taken r k refl h in
+      rw (corner-at g taken (r / k) (first_end (r % k)) c) (corner-low (r / k) (first_end (r % k)) c (first-low g taken r k refl (first_end (r % k)) refl))
 
   to_low : (r : ℕ) → r < visits_of g → vertex_of g (to_at g r) < visits_of g * 2
   to_low r h =
       let k = edges_each g.d in
-      let c = cell_in g fine r k refl h in
-      rw (corner-at g fine (r / k) (second_end (r % k)) c) (corner-low (r / k) (second_end (r % k)) c (second-low g fine r k refl (second_end (r % k)) refl))
+      let c = cell_in g taken r k refl h in
+      rw (corner-at g taken (r / k) (second_end (r % k)) c) (corner-low (r / k) (second_end (r % k)) c (second-low g taken r k refl (second_end (r % k)) refl))
 
   end_low : (i : ℕ) → i < visits_of g * 2 → end_of g i < visits_of g * 2
   end_low i h = go (eqb (i % 2) 0)
@@ -144,7 +144,7 @@ module _ (g : Grid) (fine : check_of g ≡ Fine) where
     pub ends-table : Table K 2 total (total * 2)
     ends-table =
         subst (λ (n : ℕ). Table K 2 n (n * 2)) (sym t)
-        (subst (λ (l : List ℕ). Table l 2 (visits_of g) (visits_of g * 2)) (sym as-keys) (key-table 2 (visits_of g) (ends_of g) [] whole (omega arith) (visits_of g * 2) ends_low (omega (arith, visits-few g fine))))
+        (subst (λ (l : List ℕ). Table l 2 (visits_of g) (visits_of g * 2)) (sym as-keys) (key-table 2 (visits_of g) (ends_of g) [] whole (omega arith) (visits_of g * 2) ends_low (omega (arith, visits-few g taken))))
 
     edge_row : (r : ℕ) → r < visits_of g → row K 2 r ≡ min (vertex_of g (from_at g r)) (vertex_of g (to_at g r)) ∷ max (vertex_of g (from_at g r)) (vertex_of g (to_at g r)) ∷ []
     edge_row r h =

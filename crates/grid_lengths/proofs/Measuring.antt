@@ -1,4 +1,5 @@
 -- The visits of edges: which cell and which corners visit r measures between. Assumes nothing.
+use Rattle.refusal.specs.Says.{fine}
 use mathlib.Core.Path.{◌≡◌, refl, sym, ap, subst, ◌∙◌}
 use mathlib.Core.Bool.{Bool, false}
 use mathlib.Core.List.{List, []}
@@ -9,7 +10,6 @@ use lib.Dec.{eqb, ltb, leb}
 use lib.Ieee.{Float}
 use lib.ListN.{get_or}
 use borrow.Author.Tests.{ltb-true, leb-true, eq-eqb, ne_eqb}
-use Rattle.refusal.specs.declared.Answer.TheVariants.{Fine}
 use Rattle.multiindex.proofs.Tables.{all_below, at-below}
 use Rattle.lists.proofs.Tables.{get_or-tab}
 use Rattle.grid_sides.specs.declared.Sides.{Sides}
@@ -46,28 +46,28 @@ pub end-rise : (e : ℕ) → e < 6 → first_end e < second_end e
 end-rise e h = ltb-true (first_end e) (second_end e) (at-below 6 (λ e. ltb (first_end e) (second_end e)) refl e h)
 
 -- ---- a grid that is taken
-module _ (g : Grid) (fine : check_of g ≡ Fine) where
+module _ (g : Grid) (taken : check_of g ≡ fine) where
   pub some_edges : 0 < edges_each g.d
-  some_edges = each-some g.d (taken-low g fine) (dim g fine)
+  some_edges = each-some g.d (taken-low g taken) (dim g taken)
 
   pub dims : (1 ≤ g.d) × (g.d ≤ 3)
-  dims = (taken-low g fine, dim g fine)
+  dims = (taken-low g taken, dim g taken)
 
   pub visits-few : visits_of g ≤ 24576
   visits-few =
-      let a : cell_count g * edges_each g.d ≤ cell_count g * 6 = mul-le-mul_left (cell_count g) (each-few g.d (dim g fine)) in
-      omega (arith, taken-cells g fine)
+      let a : cell_count g * edges_each g.d ≤ cell_count g * 6 = mul-le-mul_left (cell_count g) (each-few g.d (dim g taken)) in
+      omega (arith, taken-cells g taken)
 
   -- the cells in sorted order, by number
   pub corner-at : (x j : ℕ) → x < cell_count g → corner_at g x j ≡ corner_of g x j
-  corner-at x j h = ap (λ (cs : List (List ℕ)). get_or (get_or cs x []) j 0) (listed g fine) ∙ ap (λ (w : List ℕ). get_or w j 0) (get_or-tab (cell_count g) (cell_no g) x [] h)
+  corner-at x j h = ap (λ (cs : List (List ℕ)). get_or (get_or cs x []) j 0) (listed g taken) ∙ ap (λ (w : List ℕ). get_or w j 0) (get_or-tab (cell_count g) (cell_no g) x [] h)
 
   module _ (r k : ℕ) (e : k ≡ edges_each g.d) where
     pub place_in : r % k < edges_each g.d
     place_in = subst (λ (n : ℕ). r % n < edges_each g.d) (sym e) (mod-lt r some_edges)
 
     pub place-few : r % k < 6
-    place-few = omega (arith, place_in, each-few g.d (dim g fine))
+    place-few = omega (arith, place_in, each-few g.d (dim g taken))
 
     pub each-pos : 0 < k
     each-pos = rw e some_edges
@@ -76,13 +76,13 @@ module _ (g : Grid) (fine : check_of g ≡ Fine) where
     cell_in h = subst (λ (n : ℕ). r / n < cell_count g) (sym e) ((div-lt_iff_lt-mul some_edges).1 h)
 
     pub first-low : (j : ℕ) → j ≡ first_end (r % k) → j ≤ g.d
-    first-low j q = rw q (ends-below g.d (r % k) (dim g fine) place_in).0
+    first-low j q = rw q (ends-below g.d (r % k) (dim g taken) place_in).0
 
     pub second-low : (j : ℕ) → j ≡ second_end (r % k) → j ≤ g.d
-    second-low j q = rw q (ends-below g.d (r % k) (dim g fine) place_in).1
+    second-low j q = rw q (ends-below g.d (r % k) (dim g taken) place_in).1
 
     pub corner-few : (x j p : ℕ) → j ≤ g.d → p ≡ corner_of g x j → p < 32768
-    corner-few x j p h q = rw q (let a : corner_of g x j < _ = corner-lt g fine x j h in omega (arith, points-few g fine g.d (le_refl g.d)))
+    corner-few x j p h q = rw q (let a : corner_of g x j < _ = corner-lt g taken x j h in omega (arith, points-few g taken g.d (le_refl g.d)))
 
     pub from_is : r < visits_of g → (j p : ℕ) → j ≡ first_end (r % k) → p ≡ corner_of g (r / k) j → p ≡ from_at g r
     from_is h j p hj hp = hp ∙ ap (corner_of g (r / k)) hj ∙ sym (corner-at (r / k) (first_end (r % k)) (cell_in h)) ∙ ap (λ (n : ℕ). corner_at g (r / n) (first_end (r % n))) e

@@ -1,4 +1,6 @@
 -- The question of one edge says NoEdge exactly where the two vertices are not the ends of an edge. No vertex is joined to itself, nor to a number that no vertex has. Assumes nothing.
+use Rattle.refusal.specs.Says.{Answer, fine}
+use Rattle.std.specs.Prelude.{Err, Ok}
 use mathlib.Core.Path.{◌≡◌, refl, sym, ap, subst, ◌∙◌}
 use mathlib.Core.Bool.{Bool, true, false, ◌&&◌}
 use mathlib.Core.List.{List, [], ◌∷◌, map}
@@ -8,8 +10,6 @@ use native.Mathlib.Omega.{arith}
 use lib.Dec.{eqb}
 use lib.ListN.{length, get_or}
 use borrow.Author.Tests.{eqb-true, eq-eqb}
-use Rattle.refusal.specs.declared.Answer.{Answer}
-use Rattle.refusal.specs.declared.Answer.TheVariants as Answer
 use Rattle.lists.specs.Tables.{tab, upto}
 use Rattle.lists.proofs.Tables.{map-tab, length-tab, get_or-tab}
 use Rattle.multiindex.specs.Sort.{sort_word}
@@ -22,7 +22,7 @@ use Rattle.quotient.specs.Shape.{vertices_of, check_of, sides_check_of}
 use Rattle.quotient.specs.Reduce.{vertex_of}
 use Rattle.quotient.proofs.Onto.{vertex-lt}
 use Rattle.grid_lengths.specs.declared.EdgeLength.{EdgeLength}
-use Rattle.grid_lengths.specs.declared.EdgeLength.TheVariants.{Length, Clash, NoEdge, Refused}
+use Rattle.grid_lengths.specs.declared.EdgeLength.TheVariants.{NoEdge}
 use Rattle.grid_lengths.specs.Edges.{visits_of, from_at, to_at, same_ends, visits_edge, edges_of, EdgeAmong}
 use Rattle.grid_lengths.specs.Settled.{settle_from, settle, values_to, edge_values, edge_after, edge_length_of, NoEdgeExactly}
 use Rattle.grid_lengths.proofs.Gathered.{two-sorted}
@@ -50,16 +50,6 @@ alike-pair a b p q s = alike-ends a b p q (ap (λ (l : List ℕ). get_or l 0 0) 
 
 no-edge-reached : (k : EdgeLength) → Reached k → k ≡ NoEdge → ⊥
 no-edge-reached k h e = subst Reached e h
-
--- a refusal is an answer of another kind
-abbrev other : EdgeLength → ℕ
-other (Length x) = 1
-other (Clash x y) = 1
-other NoEdge = 0
-other (Refused n p) = 1
-
-refused-some : (n p : ℕ) → Refused n p ≡ NoEdge → ⊥
-refused-some n p e = let z : ◌≡◌ {A = ℕ} 1 0 = ap other e in omega arith
 
 module _ (g : Grid) where
   ends-list : map (λ r. vertex_of g (from_at g r) ∷ vertex_of g (to_at g r) ∷ []) (upto (visits_of g)) ≡ tab (visits_of g) (λ r. vertex_of g (from_at g r) ∷ vertex_of g (to_at g r) ∷ [])
@@ -108,9 +98,9 @@ module _ (g : Grid) where
       ap (λ (m : ℕ). settle (values_to g a b m)) (sym (zero-add (visits_of g)))
       ∙ ap settle (values-none g a b 0 (visits_of g) (λ i l. ap (visits_edge g a b) (zero-add i) ∙ not-visited a b i l n))
 
-  answer-settled : (k : Answer) (x : EdgeLength) → edge_after k x ≡ NoEdge → x ≡ NoEdge
-  answer-settled Answer.Fine x e = e
-  answer-settled (Answer.Refused n p) x e = absurd (refused-some n p e)
+  answer-settled : (k : Answer) (x : EdgeLength) → edge_after k x ≡ Ok NoEdge → x ≡ NoEdge
+  answer-settled (Ok _) x e = cc
+  answer-settled (Err why) x e = cc
 
   pub no-edge-exactly : (a b : GluedVertex) → NoEdgeExactly g a b
   unfolding edge_length_of
@@ -120,20 +110,20 @@ module _ (g : Grid) where
             λ e k.
             let v = edge-visit a.0 b.0 k in
             no-edge-reached (settle (edge_values g a.0 b.0)) (reached-after g a.0 b.0 v.0 v.2 (visits_of g) v.1) (answer-settled (sides_check_of g) (settle (edge_values g a.0 b.0)) e);
-        all = λ f n. rw f (none-settled a.0 b.0 n);
+        all = λ f n. rw f (ap Ok (none-settled a.0 b.0 n));
       }
 
   -- ---- equal ends, and a number that no vertex has
-  module _ (fine : check_of g ≡ Answer.Fine) where
+  module _ (taken : check_of g ≡ fine) where
     pub no_loop : (a : ℕ) → EdgeAmong g a a → ⊥
     no_loop a k =
         let v = edge-visit a a k in
         let z = ends-alike a a (vertex_of g (from_at g v.0)) (vertex_of g (to_at g v.0)) v.2 in
         let e : vertex_of g (from_at g v.0) ≡ vertex_of g (to_at g v.0) = omega (arith, z.0, z.1) in
-        ends-apart g fine v.0 v.1 e
+        ends-apart g taken v.0 v.1 e
 
     pub no-unknown : (a b : ℕ) → vertices_of g ≤ a → EdgeAmong g a b → ⊥
     no-unknown a b h k =
         let v = edge-visit a b k in
         let z = ends-alike a b (vertex_of g (from_at g v.0)) (vertex_of g (to_at g v.0)) v.2 in
-        omega (arith, z.0, z.1, vertex-lt g fine (from_at g v.0) (from-within g fine v.0 v.1), vertex-lt g fine (to_at g v.0) (to-within g fine v.0 v.1))
+        omega (arith, z.0, z.1, vertex-lt g taken (from_at g v.0) (from-within g taken v.0 v.1), vertex-lt g taken (to_at g v.0) (to-within g taken v.0 v.1))

@@ -1,4 +1,5 @@
 -- A box of which no corner is a has no visit of an edge at a: what is known of the edge stays as it is. Assumes nothing.
+use Rattle.refusal.specs.Says.{fine}
 use mathlib.Core.Path.{◌≡◌, sym, ap, subst, ◌∙◌}
 use mathlib.Core.Bool.{Bool, false}
 use mathlib.Core.List.{◌++◌, append-nil}
@@ -7,7 +8,6 @@ use native.Mathlib.Nat.{suc-mul, zero-mul, mul-le-mul_right}
 use native.Mathlib.Numerals.{add-one}
 use native.Mathlib.Omega.{arith}
 use lib.Arith.{digits_div}
-use Rattle.refusal.specs.declared.Answer.TheVariants.{Fine}
 use Rattle.quotient.specs.declared.Grid.{Grid}
 use Rattle.quotient.specs.Shape.{check_of}
 use Rattle.grid_words.specs.Cells.{boxes_of}
@@ -31,7 +31,7 @@ module _ (g : Grid) (a b : ℕ) where
       ap (values_to g a b) (let e : r + suc n ≡ suc (r + n) = omega arith in e) ∙ value_none (r + n) (h n (omega arith)) ∙ values-none r n (λ i l. h i (omega arith))
 
 -- ---- the loop over the boxes: what is known is what the visits of the boxes before x come to
-module _ (g : Grid) (fine : check_of g ≡ Fine) (a b : ℕ) where
+module _ (g : Grid) (passed : check_of g ≡ fine) (a b : ℕ) where
   pub settled-none : NoEdge ≡ settle (values_to g a b (0 * visits_each g))
   unfolding values_to settle_from
   settled-none = ap (λ (n : ℕ). settle (values_to g a b n)) (sym (zero-mul (visits_each g)))
@@ -41,7 +41,7 @@ module _ (g : Grid) (fine : check_of g ≡ Fine) (a b : ℕ) where
 
   module _ (x : ℕ) (h : x < boxes_of g) where
     in-visits : x * visits_each g + visits_each g ≤ visits_of g
-    in-visits = omega (arith, mul-le-mul_right (visits_each g) h, suc-mul x (visits_each g), visits-boxes g fine)
+    in-visits = omega (arith, mul-le-mul_right (visits_each g) h, suc-mul x (visits_each g), visits-boxes g passed)
 
     pub box-visits : (each : ℕ) → each ≡ visits_each g → x * each + each ≤ visits_of g
     box-visits each e = rw e in-visits
@@ -49,7 +49,7 @@ module _ (g : Grid) (fine : check_of g ≡ Fine) (a b : ℕ) where
     -- the box has a corner at a
     pub settling : (each : ℕ) → each ≡ visits_each g → (known : EdgeLength) → known ≡ settle (values_to g a b (x * visits_each g)) → Settling g a b (x * each) (x * each + each) known
     settling each e known k =
-        record { taken = fine; rising = omega arith; within = box-visits each e; so_far = k ∙ ap (λ (n : ℕ). settle (values_to g a b (x * n))) (sym e) }
+        record { taken = passed; rising = omega arith; within = box-visits each e; so_far = k ∙ ap (λ (n : ℕ). settle (values_to g a b (x * n))) (sym e) }
 
     pub settled-box : (each : ℕ) → each ≡ visits_each g → (known : EdgeLength) → known ≡ settle (values_to g a b (x * each + each)) → known ≡ settle (values_to g a b ((x + 1) * visits_each g))
     settled-box each e known k = k ∙ ap (λ (n : ℕ). settle (values_to g a b (x * n + n))) e ∙ ap (λ (n : ℕ). settle (values_to g a b n)) (sym (next-box x))
@@ -62,7 +62,7 @@ module _ (g : Grid) (fine : check_of g ≡ Fine) (a b : ℕ) where
         (sym
         (ap (values_to g a b) (next-box x)
         ∙ values-none g a b (x * visits_each g) (visits_each g)
-        (λ i l. visit-skipped g fine (x * visits_each g + i) (omega (arith, in-visits)) a b (subst (λ (y : ℕ). touches_at g y a ≡ false) (sym (digits_div x l)) (sym e ∙ f)))))
+        (λ i l. visit-skipped g passed (x * visits_each g + i) (omega (arith, in-visits)) a b (subst (λ (y : ℕ). touches_at g y a ≡ false) (sym (digits_div x l)) (sym e ∙ f)))))
 
   pub settled-done : (x n : ℕ) → x ≡ n → n ≡ boxes_of g → (known : EdgeLength) → known ≡ settle (values_to g a b (x * visits_each g)) → known ≡ settle (edge_values g a b)
-  settled-done x n e f known k = k ∙ ap (λ (m : ℕ). settle (values_to g a b (m * visits_each g))) (e ∙ f) ∙ ap (λ (m : ℕ). settle (values_to g a b m)) (visits-boxes g fine)
+  settled-done x n e f known k = k ∙ ap (λ (m : ℕ). settle (values_to g a b (m * visits_each g))) (e ∙ f) ∙ ap (λ (m : ℕ). settle (values_to g a b m)) (visits-boxes g passed)

@@ -1,4 +1,7 @@
 -- The work of `edge_lengths_sq`, step by step: what each call asks follows from what the calls before it gave. Assumes nothing.
+use Rattle.refusal.specs.declared.Refusal.TheVariants.{TooShort, TwoLengths}
+use Rattle.refusal.specs.Says.{fine}
+use Rattle.std.specs.Prelude.{Err, Ok}
 use mathlib.Core.Path.{◌≡◌, refl, sym, ap, subst, ◌∙◌}
 use mathlib.Core.Bool.{Bool}
 use mathlib.Core.List.{List, [], ◌∷◌, ◌++◌, map, append-nil}
@@ -8,9 +11,6 @@ use native.Mathlib.Omega.{arith}
 use lib.Ieee.{Float}
 use lib.ListN.{length, get_or, take, drop, set, replicate, length-replicate, get_or-replicate, drop_of_length-le}
 use lib.Seq.{take_all}
-use Rattle.refusal.specs.declared.Answer.TheVariants.{Fine}
-use Rattle.refusal.specs.declared.Counted.TheVariants.{Count, Refused}
-use Rattle.refusal.specs.Table.{two_lengths, too_short}
 use Rattle.lists.specs.Tables.{tab}
 use Rattle.lists.proofs.Tables.{length-tab, tab-ext, map-tab, list-tab}
 use Rattle.quotient.specs.declared.Grid.{Grid}
@@ -48,12 +48,12 @@ pub stored-lengths : (src dst : List Float) (i : ℕ) → length src ≤ i → l
 stored-lengths src dst i h k = rw (take_all i src h, drop_of_length-le dst k) (append-nil src)
 
 -- ---- the notes
-module _ (g : Grid) (fine : check_of g ≡ Fine) (m : ℕ) (ids : List ℕ) (c : Classed g m ids) where
+module _ (g : Grid) (passed : check_of g ≡ fine) (m : ℕ) (ids : List ℕ) (c : Classed g m ids) where
   pub noting : (rows : List ℕ) (n : ℕ) → rows ≡ replicate n 0 → n ≡ ends_room g → length ids ≡ ends_room g → Noting g ids rows
   noting rows n e h l =
       let r : length rows ≡ n = ap length e ∙ length-replicate n 0 in
       record {
-        taken = fine;
+        taken = passed;
         long = omega arith;
         below = λ x k. omega (arith, c.below x k, c.few);
         same = c.same;
@@ -74,7 +74,7 @@ module _ (g : Grid) (fine : check_of g ≡ Fine) (m : ℕ) (ids : List ℕ) (c :
     pub handing : (k : ℕ) → k ≡ m → Handing g k last
     handing k e =
         record {
-          taken = fine;
+          taken = passed;
           long = omega (arith, c.few);
           some = λ i h. let l : i < m = omega arith in omega (arith, noted-at i l);
           low = λ i h. let l : i < m = omega arith in omega (arith, noted-at i l, n.within (c.of i l).visit (c.of i l).within);
@@ -97,20 +97,20 @@ module _ (g : Grid) (fine : check_of g ≡ Fine) (m : ℕ) (ids : List ℕ) (c :
         ∙ sym (map-tab Length m (λ i. square_at g (get_or last i 0 - 1)))
 
     -- 12
-    pub worked-short : (out : List Float) → length out < m → Worked g (Refused too_short 0) out out
+    pub worked-short : (out : List Float) → length out < m → Worked g (Err TooShort) out out
     worked-short out h = record { handed = []; ends = short free (omega (arith, c.many)); result = refl }
 
     -- the lengths
-    pub worked-listed : (out part : List Float) (k : ℕ) → k ≡ m → m ≤ length out → part ≡ tab k (λ i. square_at g (get_or last i 0 - 1)) → Worked g (Count m) out (part ++ drop m out)
+    pub worked-listed : (out part : List Float) (k : ℕ) → k ≡ m → m ≤ length out → part ≡ tab k (λ i. square_at g (get_or last i 0 - 1)) → Worked g (Ok m) out (part ++ drop m out)
     worked-listed out part k e h p =
         let xs = tab m (λ i. square_at g (get_or last i 0 - 1)) in
         let l : length xs ≡ m = length-tab m (λ i. square_at g (get_or last i 0 - 1)) in
         record {
           handed = tab m (λ i. square_at g (get_or last i 0 - 1));
-          ends = subst (λ (z : ℕ). LengthsEnd g (length out) (Count z) (tab m (λ i. square_at g (get_or last i 0 - 1)))) c.many (listed free (omega (arith, c.many)) lengths-are);
+          ends = subst (λ (z : ℕ). LengthsEnd g (length out) (Ok z) (tab m (λ i. square_at g (get_or last i 0 - 1)))) c.many (listed free (omega (arith, c.many)) lengths-are);
           result = ap (λ (t : List Float). t ++ drop m out) (p ∙ ap (λ (z : ℕ). tab z (λ i. square_at g (get_or last i 0 - 1))) e) ∙ ap (λ (z : ℕ). tab m (λ i. square_at g (get_or last i 0 - 1)) ++ drop z out) (sym l);
         }
 
 -- 15
-pub worked-clash : (g : Grid) (out : List Float) → Clashed g → Worked g (Refused two_lengths 0) out out
+pub worked-clash : (g : Grid) (out : List Float) → Clashed g → Worked g (Err TwoLengths) out out
 worked-clash g out x = record { handed = []; ends = clashing x; result = refl }

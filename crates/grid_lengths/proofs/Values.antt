@@ -1,18 +1,19 @@
 -- An edge's values, one after the other. Assumes nothing.
+use Rattle.std.specs.Prelude.{Ok, Err}
+use Rattle.refusal.specs.declared.Refusal.{Refusal}
+use Rattle.refusal.specs.Says.{fine}
 use mathlib.Core.Path.{◌≡◌, refl, sym, ap, ◌∙◌}
 use mathlib.Core.Bool.{Bool, true, false, cond}
 use mathlib.Core.List.{List, [], ◌∷◌, ◌++◌}
 use Prim.Native.Nat.{ℕ, suc, ◌+◌}
 use native.Mathlib.Numerals.{add-one}
 use lib.Ieee.{Float}
-use Rattle.refusal.specs.declared.Answer.{Answer}
-use Rattle.refusal.specs.declared.Answer.TheVariants as Answer
 use Rattle.grid_sides.specs.Lengths.{agrees}
 use Rattle.quotient.specs.declared.Grid.{Grid}
 use Rattle.quotient.specs.declared.GluedVertex.{GluedVertex}
 use Rattle.quotient.specs.Shape.{sides_check_of}
 use Rattle.grid_lengths.specs.declared.EdgeLength.{EdgeLength}
-use Rattle.grid_lengths.specs.declared.EdgeLength.TheVariants.{Length, Clash, NoEdge, Refused}
+use Rattle.grid_lengths.specs.declared.EdgeLength.TheVariants.{Length, Clash, NoEdge}
 use Rattle.grid_lengths.specs.Edges.{square_at, visits_edge}
 use Rattle.grid_lengths.specs.Settled.{met_by, settle_from, settle, only_if, values_to, edge_values, after_visit, edge_length_of}
 
@@ -29,9 +30,6 @@ module _ (k : EdgeLength) (v : Float) where
 
   pub met-first : k ≡ NoEdge → Length v ≡ met_by k v
   met-first e = rw e
-
-  pub met-refused : (n p : ℕ) → k ≡ Refused n p → Refused n p ≡ met_by k v
-  met-refused n p e = rw e
 
 -- ---- one visit more
 pub settle-append : (s : EdgeLength) (xs ys : List Float) → settle_from s (xs ++ ys) ≡ settle_from (settle_from s xs) ys
@@ -59,10 +57,10 @@ visited-no g a b r k t ht e = rw (← ht, e)
 
 -- ---- the answer
 module _ (g : Grid) (a b : GluedVertex) where
-  pub edge-refused : (n p : ℕ) → Answer.Refused n p ≡ sides_check_of g → Refused n p ≡ edge_length_of g a b
+  pub edge-refused : (why : Refusal) → Err why ≡ sides_check_of g → Err why ≡ edge_length_of g a b
   unfolding edge_length_of
-  edge-refused n p e = rw (← e)
+  edge-refused why e = rw (← e)
 
-  pub edge-settled : (x : EdgeLength) → Answer.Fine ≡ sides_check_of g → x ≡ settle (edge_values g a.0 b.0) → x ≡ edge_length_of g a b
+  pub edge-settled : (x : EdgeLength) → fine ≡ sides_check_of g → x ≡ settle (edge_values g a.0 b.0) → Ok x ≡ edge_length_of g a b
   unfolding edge_length_of
   edge-settled x e q = rw (← e, q)

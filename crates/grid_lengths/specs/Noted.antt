@@ -1,12 +1,12 @@
 -- The last visit of each edge, noted as one more than its number, and 0 for none. Assumes nothing.
+use Rattle.refusal.specs.Says.{fine}
 use Rattle.std.specs.Prelude.{Bool, true, false, cond, List, ◌≡◌, ℕ, zero, suc, ◌*◌, ◌/◌, ◌%◌, ◌<◌, ◌≤◌, eqb, Float, length, get_or}
 use Rattle.lists.specs.Tables.{tab}
-use Rattle.refusal.specs.declared.Answer.TheVariants.{Fine}
 use Rattle.quotient.specs.declared.Grid.{Grid}
 use Rattle.quotient.specs.Shape.{check_of}
 use Rattle.quotient.specs.Reduce.{vertex_of}
 use Rattle.grid_lengths.specs.declared.EdgeLength.{EdgeLength}
-use Rattle.grid_lengths.specs.declared.EdgeLength.TheVariants.{Length, Clash, NoEdge, Refused}
+use Rattle.grid_lengths.specs.declared.EdgeLength.TheVariants.{Length, Clash, NoEdge}
 use Rattle.grid_lengths.specs.Edges.{visits_of, from_at, to_at, square_at, visits_edge}
 use Rattle.grid_lengths.specs.Settled.{settle, edge_values}
 
@@ -26,7 +26,6 @@ abbrev pub is_length : EdgeLength → Bool
 is_length (Length x) = true
 is_length (Clash x y) = false
 is_length NoEdge = false
-is_length (Refused n p) = false
 
 -- visit y is one of the edge of visit x
 abbrev pub one_edge : Grid → ℕ → ℕ → Bool
@@ -38,7 +37,7 @@ came_to g x = settle (edge_values g (vertex_of g (from_at g x)) (vertex_of g (to
 
 -- the visits in classes, one for each edge, and no note yet
 pub record Noting (g : Grid) (ids last : List ℕ) : Type 0 where
-  pub taken : check_of g ≡ Fine
+  pub taken : check_of g ≡ fine
   pub long : visits_of g ≤ length ids
   pub below : (x : ℕ) → x < visits_of g → get_or ids x 0 < length last
   pub same : (x y : ℕ) → x < visits_of g → y < visits_of g → get_or ids x 0 ≡ get_or ids y 0 → one_edge g x y ≡ true

@@ -1,7 +1,6 @@
 -- What the work on a grid that is taken asks of its lists, of just the lengths that are needed, and what it gives. Assumes nothing.
+use Rattle.refusal.specs.Says.{Counted, fine}
 use Rattle.std.specs.Prelude.{List, [], ◌∷◌, true, cond, ◌≡◌, ℕ, ◌*◌, ◌/◌, ◌%◌, ◌<◌, ◌≤◌, min, max, eqb, Float, length, get_or}
-use Rattle.refusal.specs.declared.Answer.TheVariants.{Fine}
-use Rattle.refusal.specs.declared.Counted.{Counted}
 use Rattle.refusal.specs.Lent.{onto}
 use Rattle.quotient.specs.declared.Grid.{Grid}
 use Rattle.quotient.specs.Shape.{check_of}
@@ -28,24 +27,24 @@ end_reach g = tab (visits_each g * 2) (end_point g)
 
 -- what the visits before start came to is known, and those before end are to come
 pub record Settling (g : Grid) (a b start end : ℕ) (known : EdgeLength) : Type 0 where
-  pub taken : check_of g ≡ Fine
+  pub taken : check_of g ≡ fine
   pub rising : start ≤ end
   pub within : end ≤ visits_of g
   pub so_far : known ≡ settle (values_to g a b start)
 
 -- values has what each visit of the first box measures, and so what every visit does
 pub record Valued (g : Grid) (values : List Float) : Type 0 where
-  pub taken : check_of g ≡ Fine
+  pub taken : check_of g ≡ fine
   pub some : 0 < length values
   pub tells : (r : ℕ) (z : Float) → r < visits_of g → get_or values (r % length values) z ≡ square_at g r
 
 pub record EndsLent (g : Grid) (keys table : List ℕ) : Type 0 where
-  pub taken : check_of g ≡ Fine
+  pub taken : check_of g ≡ fine
   pub keys_long : length keys ≡ visits_of g * 2
   pub table_long : points_of g ≤ length table
 
 pub record Working (g : Grid) (keys rows spare counts : List ℕ) : Type 0 where
-  pub taken : check_of g ≡ Fine
+  pub taken : check_of g ≡ fine
   pub keys_long : length keys ≡ ends_room g
   pub rows_long : length rows ≡ ends_room g
   pub spare_long : length spare ≡ ends_room g
@@ -69,7 +68,7 @@ pub record Classed (g : Grid) (m : ℕ) (ids : List ℕ) : Type 0 where
 
 -- each of m edges has the note of a visit
 pub record Handing (g : Grid) (m : ℕ) (last : List ℕ) : Type 0 where
-  pub taken : check_of g ≡ Fine
+  pub taken : check_of g ≡ fine
   pub long : m ≤ length last
   pub some : (i : ℕ) → i < m → 0 < get_or last i 0
   pub low : (i : ℕ) → i < m → get_or last i 0 ≤ visits_of g

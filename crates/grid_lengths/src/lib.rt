@@ -10,7 +10,7 @@
 #![tactic(auto)]
 
 ghost use Rattle.std.specs.Prelude.{◌≡◌, true, false, ℕ, suc, ◌+◌, ◌-◌, ◌*◌, ◌<◌, ◌≤◌, min, max, length, get_or};
-ghost use Rattle.refusal.specs.declared.Answer.TheVariants.{Fine};
+ghost use Rattle.refusal.specs.Says.{fine};
 ghost use Rattle.quotient.specs.Shape.{check_of};
 ghost use Rattle.quotient.specs.Reduce.{coord_at, vertex_of};
 ghost use Rattle.grid_lengths.specs.Edges.{first_end, second_end, edges_each, visits_of, from_at, to_at, spacings_of, square_at, same_ends, visits_edge};
@@ -24,15 +24,14 @@ ghost use Rattle.lists.specs.Zero.{AllZero};
 use grid_sides::{Sides, Steps};
 use multiindex::permutation;
 use quotient::{GluedVertex, Grid, GridVertex};
-use refusal::{Answer, Counted, Room, TOO_SHORT, TWO_LENGTHS};
+use refusal::{Refusal, Room};
 
 // What the question of one edge says: its squared length, the two that clash first, or that there is no such edge.
-#[derive(Clone, Copy)]
+#[derive(Clone, Copy, Debug, PartialEq)]
 pub enum EdgeLength {
     Length(f64),
     Clash(f64, f64),
     NoEdge,
-    Refused(u32, u32),
 }
 
 const FIRST: [u8; 6] = [0, 0, 1, 0, 1, 2];
@@ -50,7 +49,7 @@ fn edges_each(d: u32) -> usize
 
 // How many visits of edges there are.
 fn visits(grid: Grid) -> usize
-    requires { check_of grid ≡ Fine }
+    requires { check_of grid ≡ fine }
     ensures { result ≡ visits_of grid }
 {
     grid_words::cells(grid) * edges_each(grid.d)
@@ -61,7 +60,7 @@ const MOST_VISITS: usize = 36;
 
 // How many visits a box has: each edge of each of its cells.
 fn visits_each(grid: Grid) -> usize
-    requires { check_of grid ≡ Fine }
+    requires { check_of grid ≡ fine }
     ensures { result ≡ visits_each grid }
 {
     permutation::count(grid.d as usize) * edges_each(grid.d)
@@ -85,7 +84,7 @@ fn second_end(e: usize) -> usize
 
 // The point from which visit r measures.
 fn from_at(grid: Grid, r: usize) -> u32
-    requires { (check_of grid ≡ Fine) × (r < visits_of grid) }
+    requires { (check_of grid ≡ fine) × (r < visits_of grid) }
     ensures { result ≡ from_at grid r }
 {
     let k = edges_each(grid.d);
@@ -94,7 +93,7 @@ fn from_at(grid: Grid, r: usize) -> u32
 
 // The point to which visit r measures.
 fn to_at(grid: Grid, r: usize) -> u32
-    requires { (check_of grid ≡ Fine) × (r < visits_of grid) }
+    requires { (check_of grid ≡ fine) × (r < visits_of grid) }
     ensures { result ≡ to_at grid r }
 {
     let k = edges_each(grid.d);
@@ -140,7 +139,7 @@ fn step(grid: Grid, p: u32, q: u32, k: u32) -> u32
 
 // The squared length that visit r measures.
 fn measured(grid: Grid, r: usize) -> f64
-    requires { (check_of grid ≡ Fine) × (r < visits_of grid) }
+    requires { (check_of grid ≡ fine) × (r < visits_of grid) }
     ensures { result ≡ square_at grid r }
 {
     let p = from_at(grid, r);
@@ -182,7 +181,7 @@ fn larger(a: u32, b: u32) -> u32
 
 // Whether visit r is one of the edge between a and b.
 fn visits_edge(grid: Grid, a: u32, b: u32, r: usize) -> bool
-    requires { (check_of grid ≡ Fine) × (r < visits_of grid) }
+    requires { (check_of grid ≡ fine) × (r < visits_of grid) }
     ensures { result ≡ visits_edge grid a b r }
 {
     let begins = grid.crossed(GridVertex(from_at(grid, r)));
@@ -206,13 +205,12 @@ fn meet(known: EdgeLength, later: f64) -> EdgeLength
         }
         EdgeLength::Clash(x, y) => EdgeLength::Clash(x, y),
         EdgeLength::NoEdge => EdgeLength::Length(later),
-        EdgeLength::Refused(n, p) => EdgeLength::Refused(n, p),
     }
 }
 
 // What is known of the edge between a and b after visit r.
 fn visited(grid: Grid, a: u32, b: u32, r: usize, known: EdgeLength) -> EdgeLength
-    requires { (check_of grid ≡ Fine) × (r < visits_of grid) }
+    requires { (check_of grid ≡ fine) × (r < visits_of grid) }
     ensures { result ≡ after_visit grid a b r known }
 {
     if visits_edge(grid, a, b, r) {
@@ -223,14 +221,11 @@ fn visited(grid: Grid, a: u32, b: u32, r: usize, known: EdgeLength) -> EdgeLengt
 }
 
 // The squared length of the edge between two vertices, or the two that clash first, or that there is no such edge. Refused: 1, 10, 9, 8, 3 and 6.
-pub fn edge_length_sq(grid: Grid, from: GluedVertex, to: GluedVertex) -> EdgeLength
+pub fn edge_length_sq(grid: Grid, from: GluedVertex, to: GluedVertex) -> Result<EdgeLength, Refusal>
     ensures { result ≡ edge_length_of grid from to }
 {
-    let checked = grid.check_with_sides();
-    if let Answer::Refused(number, place) = checked {
-        return EdgeLength::Refused(number, place);
-    }
-    settled(grid, from.0, to.0)
+    grid.check_with_sides()?;
+    Ok(settled(grid, from.0, to.0))
 }
 
 // What the first visits of the edge between a and b come to, up to visit `end`, where `known` is what those before visit `start` came to.
@@ -239,37 +234,32 @@ fn settled_to(grid: Grid, a: u32, b: u32, start: usize, end: usize, known: EdgeL
     ensures { result ≡ settle (values_to grid a b end) }
 {
     let mut now = known;
-    let mut r = start;
-    while r < end {
+    for r in start..end {
         now = visited(grid, a, b, r, now);
-        r += 1;
     }
     now
 }
 
 // What all visits of the edge between a and b come to. A box of which no corner is a has none of them.
 fn settled(grid: Grid, a: u32, b: u32) -> EdgeLength
-    requires { check_of grid ≡ Fine }
+    requires { check_of grid ≡ fine }
     ensures { result ≡ settle (edge_values grid a b) }
 {
     let boxes = grid_words::boxes(grid);
     let each = visits_each(grid);
     let mut known = EdgeLength::NoEdge;
-    let mut x = 0usize;
-    while x < boxes {
-        if grid_words::touches(grid, x, GluedVertex(a)) {
-            known = settled_to(grid, a, b, x * each, x * each + each, known);
-            x += 1;
+    for x in 0..boxes {
+        if !grid_words::touches(grid, x, GluedVertex(a)) {
             continue;
         }
-        x += 1;
+        known = settled_to(grid, a, b, x * each, x * each + each, known);
     }
     known
 }
 
 // The grid point at end i: of visit i / 2, where it begins for an even i, where it ends for an odd one.
 fn end_point(grid: Grid, i: usize) -> u32
-    requires { (check_of grid ≡ Fine) × (i < visits_of grid * 2) }
+    requires { (check_of grid ≡ fine) × (i < visits_of grid * 2) }
     ensures { result ≡ end_point grid i }
 {
     if i % 2 == 0 {
@@ -281,13 +271,11 @@ fn end_point(grid: Grid, i: usize) -> u32
 
 // Writes the grid points at the ends of the first box's visits: how far from its box's origin each end lies.
 fn reaches(grid: Grid, reach: &mut [u32])
-    requires { (check_of grid ≡ Fine) × (length reach.old ≡ visits_each grid * 2) }
+    requires { (check_of grid ≡ fine) × (length reach.old ≡ visits_each grid * 2) }
     ensures { reach.new ≡ end_reach grid }
 {
-    let mut i = 0;
-    while i < reach.len() {
+    for i in 0..reach.len() {
         reach[i] = end_point(grid, i);
-        i += 1;
     }
 }
 
@@ -306,13 +294,11 @@ fn write_ends(grid: Grid, keys: &mut [u32], table: &mut [u32])
 
 // Writes what each visit of the first box measures.
 fn measure(grid: Grid, values: &mut [f64])
-    requires { (check_of grid ≡ Fine) × (length values.old ≡ visits_each grid) }
+    requires { (check_of grid ≡ fine) × (length values.old ≡ visits_each grid) }
     ensures { Valued grid values.new }
 {
-    let mut r = 0;
-    while r < values.len() {
+    for r in 0..values.len() {
         values[r] = measured(grid, r);
-        r += 1;
     }
 }
 
@@ -347,14 +333,7 @@ fn follows(grid: Grid, values: &[f64], note: u32, r: usize) -> bool
         EdgeLength::Length(_) => true,
         EdgeLength::Clash(_, _) => false,
         EdgeLength::NoEdge => false,
-        EdgeLength::Refused(_, _) => false,
     }
-}
-
-fn wide(x: u32) -> usize
-    ensures { result ≡ x }
-{
-    x as usize
 }
 
 // Notes the last visit of each edge, where the values of one box are at hand; false where two values of an edge clash.
@@ -363,14 +342,12 @@ fn note_each(grid: Grid, values: &[f64], total: usize, ids: &[u32], last: &mut [
     ensures yes { result ≡ true → Noted grid ids.now last.new }
     ensures no { result ≡ false → Clashed grid }
 {
-    let mut r = 0;
-    while r < total {
-        let id = wide(ids[r]);
+    for r in 0..total {
+        let id = ids[r] as usize;
         if !follows(grid, values, last[id], r) {
             return false;
         }
         last[id] = r as u32 + 1;
-        r += 1;
     }
     true
 }
@@ -411,10 +388,8 @@ fn hand_each(grid: Grid, values: &[f64], last: &[u32], lengths: &mut [f64])
     requires { Valued grid values.now × Handing grid (length lengths.old) last.now }
     ensures { lengths.new ≡ tab (length lengths.old) (λ i. square_at grid (get_or last.now i 0 - 1)) }
 {
-    let mut i = 0;
-    while i < lengths.len() {
-        lengths[i] = value(grid, values, wide(last[i]) - 1);
-        i += 1;
+    for i in 0..lengths.len() {
+        lengths[i] = value(grid, values, last[i] as usize - 1);
     }
 }
 
@@ -437,21 +412,21 @@ fn work(
     rows: &mut [u32],
     spare: &mut [u32],
     counts: &mut [u32],
-) -> Counted
+) -> Result<u32, Refusal>
     requires { Working grid keys.old rows.old spare.old counts.old }
     ensures { Worked grid result lengths.old lengths.new }
 {
     let m = classes(grid, keys, rows, spare, counts);
     let total = visits(grid);
-    lists::clear(rows);
+    rows.fill(0);
     if !note_last(grid, total, counts, rows) {
-        return Counted::Refused(TWO_LENGTHS, 0);
+        return Err(Refusal::TwoLengths);
     }
     if lengths.len() < m {
-        return Counted::Refused(TOO_SHORT, 0);
+        return Err(Refusal::TooShort);
     }
     hand_out(grid, rows, &mut lengths[..m]);
-    Counted::Count(m as u32)
+    Ok(m as u32)
 }
 
 // The work, and then the working lists are all zero.
@@ -462,7 +437,7 @@ fn cleared(
     rows: &mut [u32],
     spare: &mut [u32],
     counts: &mut [u32],
-) -> Counted
+) -> Result<u32, Refusal>
     requires { Working grid keys.old rows.old spare.old counts.old }
     ensures work { Worked grid result lengths.old lengths.new }
     ensures room { AllZero keys.old keys.new rows.old rows.new spare.old spare.new counts.old
@@ -475,7 +450,7 @@ fn cleared(
 
 // How long each working list has to be: two ends for each edge of each cell.
 fn need(grid: Grid) -> Room
-    requires { check_of grid ≡ Fine }
+    requires { check_of grid ≡ fine }
     ensures { result ≡ lengths_need grid }
 {
     let n = visits(grid) * 2;
@@ -496,14 +471,11 @@ pub fn edge_lengths_sq(
     rows: &mut [u32],
     spare: &mut [u32],
     counts: &mut [u32],
-) -> Counted
+) -> Result<u32, Refusal>
     ensures { EdgeLengths grid result lengths.old lengths.new keys.old keys.new rows.old rows.new spare.old
         spare.new counts.old counts.new }
 {
-    let checked = grid.check_with_sides();
-    if let Answer::Refused(number, place) = checked {
-        return Counted::Refused(number, place);
-    }
+    grid.check_with_sides()?;
     let need = need(grid);
     let have = Room {
         keys: keys.len(),
@@ -512,7 +484,7 @@ pub fn edge_lengths_sq(
         counts: counts.len(),
     };
     if !refusal::has_room(need, have) {
-        return Counted::Refused(TOO_SHORT, 0);
+        return Err(Refusal::TooShort);
     }
     let k = need.keys;
     let r = need.rows;

@@ -1,11 +1,11 @@
 -- The promise of `cell_words` determines what it says and every list: two calls on equal inputs end alike. Assumes nothing.
+use Rattle.refusal.specs.Says.{Counted}
+use Rattle.std.specs.Prelude.{Err}
 use mathlib.Core.List.{List, []}
 use mathlib.Core.Path.{◌≡◌, refl, sym, ap, ◌∙◌}
 use Prim.Native.Nat.{ℕ}
 use native.Mathlib.Omega.{arith}
 use lib.ListN.{length}
-use Rattle.refusal.specs.declared.Counted.{Counted}
-use Rattle.refusal.specs.declared.Counted.TheVariants.{Refused}
 use Rattle.refusal.specs.Lent.{onto, lengths}
 use Rattle.refusal.proofs.Determined.{comes-one, cleared-one}
 use Rattle.quotient.specs.declared.Grid.{Grid}
@@ -27,7 +27,7 @@ ends-one g n r r' l l' (written f h) (written f' h') = (refl, refl)
 pub cell-words-one : (g : Grid) (r r' : Counted) (words w w' keys k k' rows o o' spare p p' counts c c' : List ℕ) → CellWords g r words w keys k rows o spare p counts c → CellWords g r' words w' keys k' rows o' spare p' counts c' →
     (r ≡ r') × (w ≡ w') × ((k ≡ k') × (o ≡ o') × (p ≡ p') × (c ≡ c'))
 cell-words-one g r r' words w w' keys k k' rows o o' spare p p' counts c c' a b =
-    let e = comes-one Refused [] (check_of g) (grid_need g) (lengths keys rows spare counts) (WordsEnd g (length words)) (ends-one g (length words)) a.comes b.comes in (
+    let e = comes-one Err [] (check_of g) (grid_need g) (lengths keys rows spare counts) (WordsEnd g (length words)) (ends-one g (length words)) a.comes b.comes in (
       e.0,
       a.result ∙ ap (λ (l : List ℕ). onto l words) e.1 ∙ sym b.result,
       cleared-one a.used b.used keys k k' rows o o' spare p p' counts c c' e.2 a.room b.room,

@@ -2,6 +2,7 @@
 -- both boxes lie away from the ends, both at one end, or they face each other, one at each end. If on no axis they face each other, the chains are the same points. If
 -- on some axis they do, they do on each axis where either lies at an end; and then no corner has all facing axes of the one box before their step and all of the other
 -- after it: there neither chain would be wrapped, and n - 1 would be 1. Assumes nothing.
+use Rattle.refusal.specs.Says.{fine}
 use mathlib.Core.Path.{◌≡◌, refl, sym, ◌∙◌}
 use mathlib.Core.Bool.{Bool, true, false, cond, ◌&&◌}
 use mathlib.Core.Logic.{◌⊎◌, inl, inr, ⊎_elim}
@@ -11,7 +12,6 @@ use native.Mathlib.Omega.{arith}
 use lib.Dec.{eqb}
 use borrow.Author.Tests.{eqb-true, eqb-false, eq-eqb, ne_eqb}
 use Rattle.multiindex.proofs.Tables.{first_of, second-of}
-use Rattle.refusal.specs.declared.Answer.TheVariants.{Fine}
 use Rattle.quotient.specs.declared.Grid.{Grid}
 use Rattle.quotient.specs.Shape.{cells_on, closed_at, check_of}
 use Rattle.quotient.proofs.Laws.{lt-or-ge}
@@ -68,17 +68,17 @@ pub sides-few : (g : Grid) (p q : ℕ → ℕ) (k : ℕ) → side g p q k < 3
 sides-few g p q k = side-most (closed_at g k) (cells_on g k) (p k) (q k)
 
 -- a box does not face itself
-pub side-self : (g : Grid) → check_of g ≡ Fine → (p : ℕ → ℕ) (k : ℕ) → k < g.d → side g p p k ≡ 0
-side-self g fine p k l =
+pub side-self : (g : Grid) → check_of g ≡ fine → (p : ℕ → ℕ) (k : ℕ) → k < g.d → side g p p k ≡ 0
+side-self g taken p k l =
     ⊎_elim
     (λ (h : 0 < side g p p k).
     ⊎_elim
     (λ (m : 1 < side g p p k).
     let r = side-two (closed_at g k) (cells_on g k) (p k) (p k) (omega (arith, sides-few g p p k)) in
-    absurd (let w : ⊥ = omega (arith, r.1, r.2, three-cells g fine k l r.0) in w))
+    absurd (let w : ⊥ = omega (arith, r.1, r.2, three-cells g taken k l r.0) in w))
     (λ (m : side g p p k ≤ 1).
     let r = side-one (closed_at g k) (cells_on g k) (p k) (p k) (omega arith) in
-    absurd (let w : ⊥ = omega (arith, r.1, r.2, three-cells g fine k l r.0) in w))
+    absurd (let w : ⊥ = omega (arith, r.1, r.2, three-cells g taken k l r.0) in w))
     (lt-or-ge 1 (side g p p k)))
     (λ (h : side g p p k ≤ 0). let w : side g p p k ≡ 0 = omega arith in w)
     (lt-or-ge 0 (side g p p k))
@@ -126,37 +126,37 @@ pub record Faced (g : Grid) (p q : ℕ → ℕ) : Type 0 where
   pub axis-in : axis < g.d
   pub faces : (side g p q axis ≡ 1) ⊎ (side g p q axis ≡ 2)
 
-module _ (g : Grid) (fine : check_of g ≡ Fine) (p q : ℕ → ℕ) (hp : Begins g p) (hq : Begins g q) (u w : ℕ → ℕ → ℕ) (cu : Chain g.d u) (cw : Chain g.d w) where
+module _ (g : Grid) (taken : check_of g ≡ fine) (p q : ℕ → ℕ) (hp : Begins g p) (hq : Begins g q) (u w : ℕ → ℕ → ℕ) (cu : Chain g.d u) (cw : Chain g.d w) where
   abbrev Meets : ℕ → ℕ → Type 0
   Meets i j = vertex_by g p (u i) ≡ vertex_by g q (w j)
 
   ends-to : (i j k : ℕ) → Meets i j → k < g.d → closed_at g k ≡ true → End (p k + u i k) (cells_on g k) → End (q k + w j k) (cells_on g k)
-  ends-to i j k v l c h = ends-agree g fine p q (u i) (w j) hp hq (cu.most i) (cw.most j) v k l c h
+  ends-to i j k v l c h = ends-agree g taken p q (u i) (w j) hp hq (cu.most i) (cw.most j) v k l c h
 
   ends-from : (i j k : ℕ) → Meets i j → k < g.d → closed_at g k ≡ true → End (q k + w j k) (cells_on g k) → End (p k + u i k) (cells_on g k)
-  ends-from i j k v l c h = ends-agree g fine q p (w j) (u i) hq hp (cw.most j) (cu.most i) (sym v) k l c h
+  ends-from i j k v l c h = ends-agree g taken q p (w j) (u i) hq hp (cw.most j) (cu.most i) (sym v) k l c h
 
   pub up-or-down : (k : ℕ) → k < g.d → (side g p q k ≡ 1) ⊎ (side g p q k ≡ 2) → (i j : ℕ) → Meets i j → u i k + w j k ≡ 1
   up-or-down k l s i j v =
       ⊎_elim
       (λ (e : side g p q k ≡ 1).
       let r = side-one (closed_at g k) (cells_on g k) (p k) (q k) e in
-      opposed (cells_on g k) (p k) (q k) (u i k) (w j k) (three-cells g fine k l r.0) r.1 r.2 (cu.most i k l) (cw.most j k l) (ends-to i j k v l r.0) (ends-from i j k v l r.0))
+      opposed (cells_on g k) (p k) (q k) (u i k) (w j k) (three-cells g taken k l r.0) r.1 r.2 (cu.most i k l) (cw.most j k l) (ends-to i j k v l r.0) (ends-from i j k v l r.0))
       (λ (e : side g p q k ≡ 2).
       let r = side-two (closed_at g k) (cells_on g k) (p k) (q k) e in
-      let z : w j k + u i k ≡ 1 = opposed (cells_on g k) (q k) (p k) (w j k) (u i k) (three-cells g fine k l r.0) r.2 r.1 (cw.most j k l) (cu.most i k l) (ends-from i j k v l r.0) (ends-to i j k v l r.0) in
+      let z : w j k + u i k ≡ 1 = opposed (cells_on g k) (q k) (p k) (w j k) (u i k) (three-cells g taken k l r.0) r.2 r.1 (cw.most j k l) (cu.most i k l) (ends-from i j k v l r.0) (ends-to i j k v l r.0) in
       let y : u i k + w j k ≡ 1 = omega arith in y)
       s
 
   up-together : (k : ℕ) → k < g.d → closed_at g k ≡ true → p k + 1 ≡ cells_on g k → q k + 1 ≡ cells_on g k → (i j : ℕ) → Meets i j → u i k ≡ w j k
   up-together k l c ep eq i j v =
-      beside (cells_on g k) (p k) (q k) (u i k) (w j k) (three-cells g fine k l c) ep eq (cu.most i k l) (cw.most j k l) (ends-to i j k v l c) (ends-from i j k v l c)
+      beside (cells_on g k) (p k) (q k) (u i k) (w j k) (three-cells g taken k l c) ep eq (cu.most i k l) (cw.most j k l) (ends-to i j k v l c) (ends-from i j k v l c)
 
   -- ---- they face each other on no axis: matched corners are one point
   module _ (apart : (k : ℕ) → k < g.d → side g p q k ≡ 0) where
     last-to : (i j k : ℕ) → Meets i j → k < g.d → closed_at g k ≡ true → p k + u i k ≡ cells_on g k → q k + w j k ≡ cells_on g k
     last-to i j k v l c e =
-        let t : 3 ≤ cells_on g k = three-cells g fine k l c in
+        let t : 3 ≤ cells_on g k = three-cells g taken k l c in
         ⊎_elim
         (λ (z : q k + w j k ≡ 0).
         let s : side g p q k ≡ 1 = one_side (closed_at g k) (cells_on g k) (p k) (q k) c (omega (arith, hp k l, cu.most i k l)) (omega arith) in
@@ -166,7 +166,7 @@ module _ (g : Grid) (fine : check_of g ≡ Fine) (p q : ℕ → ℕ) (hp : Begin
 
     last-from : (i j k : ℕ) → Meets i j → k < g.d → closed_at g k ≡ true → q k + w j k ≡ cells_on g k → p k + u i k ≡ cells_on g k
     last-from i j k v l c e =
-        let t : 3 ≤ cells_on g k = three-cells g fine k l c in
+        let t : 3 ≤ cells_on g k = three-cells g taken k l c in
         ⊎_elim
         (λ (z : p k + u i k ≡ 0).
         let s : side g p q k ≡ 2 = two-side (closed_at g k) (cells_on g k) (p k) (q k) c t (omega arith) (omega (arith, hq k l, cw.most j k l)) in
@@ -186,7 +186,7 @@ module _ (g : Grid) (fine : check_of g ≡ Fine) (p q : ℕ → ℕ) (hp : Begin
 
     pub one-point : (i j : ℕ) → Meets i j → (k : ℕ) → k < g.d → p k + u i k ≡ q k + w j k
     one-point i j v =
-        corner-same g fine p q (u i) (w j) hp hq (cu.most i) (cw.most j) v
+        corner-same g taken p q (u i) (w j) hp hq (cu.most i) (cw.most j) v
         (λ k l. wraps-same (closed_at g k) (p k + u i k) (q k + w j k) (cells_on g k) (λ c. last-to i j k v l c) (λ c. last-from i j k v l c))
 
   -- ---- they face each other on some axis
@@ -218,7 +218,7 @@ module _ (g : Grid) (fine : check_of g ≡ Fine) (p q : ℕ → ℕ) (hp : Begin
     high-second k l c e =
         let r = m.back g.d (le_refl g.d) in
         ⊎_elim
-        (λ (z : p k + u r.0 k ≡ 0). two-side (closed_at g k) (cells_on g k) (p k) (q k) c (three-cells g fine k l c) (omega arith) e)
+        (λ (z : p k + u r.0 k ≡ 0). two-side (closed_at g k) (cells_on g k) (p k) (q k) c (three-cells g taken k l c) (omega arith) e)
         (λ (z : p k + u r.0 k ≡ cells_on g k). absurd (not-beside k l c (omega (arith, hp k l, cu.most r.0 k l)) e))
         (ends-from r.0 g.d k r.2 l c (inr (omega (arith, cw.each k l))))
 
@@ -227,7 +227,7 @@ module _ (g : Grid) (fine : check_of g ≡ Fine) (p q : ℕ → ℕ) (hp : Begin
     not-parted i h none each =
         let r = m.forth i h in
         let same : (k : ℕ) → k < g.d → p k + u i k ≡ q k + w r.0 k =
-        corner-same g fine p q (u i) (w r.0) hp hq (cu.most i) (cw.most r.0) r.2
+        corner-same g taken p q (u i) (w r.0) hp hq (cu.most i) (cw.most r.0) r.2
         (λ k l. unwrapped (closed_at g k) (p k + u i k) (q k + w r.0 k) (cells_on g k)
         (λ c e. let z : u i k ≡ 0 = none k l (high-first k l c (omega (arith, hp k l, cu.most i k l))) in omega (arith, hp k l))
         (λ c e.
@@ -237,10 +237,10 @@ module _ (g : Grid) (fine : check_of g ≡ Fine) (p q : ℕ → ℕ) (hp : Begin
         ⊎_elim
         (λ (e : side g p q f.axis ≡ 1).
         let s = side-one (closed_at g f.axis) (cells_on g f.axis) (p f.axis) (q f.axis) e in
-        let z : ⊥ = omega (arith, s.1, s.2, same f.axis f.axis-in, none f.axis f.axis-in e, cw.most r.0 f.axis f.axis-in, three-cells g fine f.axis f.axis-in s.0) in z)
+        let z : ⊥ = omega (arith, s.1, s.2, same f.axis f.axis-in, none f.axis f.axis-in e, cw.most r.0 f.axis f.axis-in, three-cells g taken f.axis f.axis-in s.0) in z)
         (λ (e : side g p q f.axis ≡ 2).
         let s = side-two (closed_at g f.axis) (cells_on g f.axis) (p f.axis) (q f.axis) e in
-        let z : ⊥ = omega (arith, s.1, s.2, same f.axis f.axis-in, each f.axis f.axis-in e, three-cells g fine f.axis f.axis-in s.0) in z)
+        let z : ⊥ = omega (arith, s.1, s.2, same f.axis f.axis-in, each f.axis f.axis-in e, three-cells g taken f.axis f.axis-in s.0) in z)
         f.faces
       where
         unwrapped : (b : Bool) (x y n : ℕ) → (b ≡ true → x ≡ n → ⊥) → (b ≡ true → y ≡ n → ⊥) → (b && eqb x n) ≡ (b && eqb y n)

@@ -1,5 +1,6 @@
 -- What folding keeps of a point's coordinates: on a closed axis 0 stands for an end and for nothing else, and where the same axes wrap at two points that fold to the
 -- same, the points are the same. Assumes nothing.
+use Rattle.refusal.specs.Says.{fine}
 use mathlib.Core.Path.{◌≡◌, refl, sym, ap, subst, ◌∙◌}
 use mathlib.Core.Bool.{Bool, true, false, cond, ◌&&◌}
 use mathlib.Core.Logic.{◌⊎◌, inl, inr, ⊎_elim}
@@ -8,7 +9,6 @@ use native.Mathlib.Nat.{mod_self, mod-eq_of_lt, zero-mod}
 use native.Mathlib.Omega.{arith}
 use lib.Dec.{eqb}
 use borrow.Author.Tests.{eqb-true, eqb-false, eq-eqb, ne_eqb}
-use Rattle.refusal.specs.declared.Answer.TheVariants.{Fine}
 use Rattle.quotient.specs.declared.Grid.{Grid}
 use Rattle.quotient.specs.Fold.{member}
 use Rattle.quotient.specs.Shape.{cells_on, closed_at, mask_at, check_of}
@@ -183,9 +183,9 @@ module _ (g : Grid) (p e : ℕ → ℕ) (hp : Begins g p) (he : Bits g e) where
   pub corner-in : corner_by g p e < points_of g
   corner-in = point-lt g (λ k. p k + e k) corner-le
 
-module _ (g : Grid) (fine : check_of g ≡ Fine) (p q e f : ℕ → ℕ) (hp : Begins g p) (hq : Begins g q) (he : Bits g e) (hf : Bits g f) (v : vertex_by g p e ≡ vertex_by g q f) where
+module _ (g : Grid) (taken : check_of g ≡ fine) (p q e f : ℕ → ℕ) (hp : Begins g p) (hq : Begins g q) (he : Bits g e) (hf : Bits g f) (v : vertex_by g p e ≡ vertex_by g q f) where
   pub fold-one : (k : ℕ) → k < g.d → folded_at g (corner_by g p e) k ≡ folded_at g (corner_by g q f) k
-  fold-one = vertex-one g fine (corner_by g p e) (corner_by g q f) (corner-in g p e hp he) (corner-in g q f hq hf) v
+  fold-one = vertex-one g taken (corner_by g p e) (corner_by g q f) (corner-in g p e hp he) (corner-in g q f hq hf) v
 
   -- an end of a closed axis is an end for both
   pub ends-agree : (k : ℕ) → k < g.d → closed_at g k ≡ true → End (p k + e k) (cells_on g k) → End (q k + f k) (cells_on g k)

@@ -2,6 +2,7 @@
 -- of the one and corner j of the other. Unless one corner is the first of its chain and the other the last, the same axes reflect at corners with one vertex, and these
 -- are one point: first for the axes that reflect, since nothing reflects them, and then for all. So the boxes are one, i is j, and the chains are the same elsewhere.
 -- Assumes nothing.
+use Rattle.refusal.specs.Says.{fine}
 use mathlib.Core.Path.{◌≡◌, refl, sym, ap, subst, ◌∙◌}
 use mathlib.Core.Bool.{Bool, true, false, ◌&&◌, false≢true}
 use mathlib.Core.Logic.{◌⊎◌, inl, inr, ⊎_elim}
@@ -10,7 +11,6 @@ use native.Mathlib.Nat.{le_refl}
 use native.Mathlib.Decide.{ℕ_discrete}
 use native.Mathlib.Omega.{arith}
 use lib.Dec.{eqb}
-use Rattle.refusal.specs.declared.Answer.TheVariants.{Fine}
 use Rattle.lists.specs.Tables.{sum}
 use Rattle.lists.proofs.Sums.{sum-ext}
 use Rattle.quotient.specs.declared.Grid.{Grid}
@@ -42,7 +42,7 @@ none_left : {T : Type 0} (n c e : ℕ) → (c ≡ e → ⊥) → (c ≡ 0 → e 
 none_left n c e f low high (inl z) = f z
 none_left n c e f low high (inr z) = ⊎_elim f (⊎_elim (λ (y : (c ≡ 0) × (e ≡ n)). low y.0 y.1) (λ (y : (c ≡ n) × (e ≡ 0)). high y.0 y.1)) z.1
 
-module _ (g : Grid) (fine : check_of g ≡ Fine) (untangled : Untangled g) (p q : ℕ → ℕ) (hp : Begins g p) (hq : Begins g q) (u w : ℕ → ℕ → ℕ) (cu : Chain g.d u) (cw : Chain g.d w)
+module _ (g : Grid) (taken : check_of g ≡ fine) (untangled : Untangled g) (p q : ℕ → ℕ) (hp : Begins g p) (hq : Begins g q) (u w : ℕ → ℕ → ℕ) (cu : Chain g.d u) (cw : Chain g.d w)
     (i j : ℕ) (m : MatchedBut g p q u w i j) (first : i ≡ 0 → j ≡ g.d → ⊥) (last : j ≡ 0 → i ≡ g.d → ⊥) where
   abbrev Meets : ℕ → ℕ → Type 0
   Meets l r = vertex_by g p (u l) ≡ vertex_by g q (w r)
@@ -63,12 +63,12 @@ module _ (g : Grid) (fine : check_of g ≡ Fine) (untangled : Untangled g) (p q 
     ends l r v =
         subst (λ (c : ℕ). (c ≡ q k + w r k) ⊎ ((closed_at g k ≡ true) × AtEnds (cells_on g k) c (q k + w r k))) (first-coord l k h)
         (subst (λ (e : ℕ). (coord_at g (corner_by g p (u l)) k ≡ e) ⊎ ((closed_at g k ≡ true) × AtEnds (cells_on g k) (coord_at g (corner_by g p (u l)) k) e)) (second-coord r k h)
-        (coord-ends g (corner_by g p (u l)) (corner_by g q (w r)) k (a l r v) (fold-one g fine p q (u l) (w r) hp hq (cu.most l) (cw.most r) v k h)))
+        (coord-ends g (corner_by g p (u l)) (corner_by g q (w r)) k (a l r v) (fold-one g taken p q (u l) (w r) hp hq (cu.most l) (cw.most r) v k h)))
 
     -- not n and 0: look at the first corner of the one chain, or at the last of the other
     not-down : closed_at g k ≡ true → (l r : ℕ) → p k + u l k ≡ cells_on g k → q k + w r k ≡ 0 → ⊥
     not-down c l r x y =
-        let t : 3 ≤ cells_on g k = three-cells g fine k h c in
+        let t : 3 ≤ cells_on g k = three-cells g taken k h c in
         let s : p k + 1 ≡ cells_on g k = omega (arith, hp k h, cu.most l k h) in
         elim (ℕ_discrete i 0) [
           | yes z ↦
@@ -84,7 +84,7 @@ module _ (g : Grid) (fine : check_of g ≡ Fine) (untangled : Untangled g) (p q 
 
     not-up : closed_at g k ≡ true → (l r : ℕ) → p k + u l k ≡ 0 → q k + w r k ≡ cells_on g k → ⊥
     not-up c l r x y =
-        let t : 3 ≤ cells_on g k = three-cells g fine k h c in
+        let t : 3 ≤ cells_on g k = three-cells g taken k h c in
         let s : q k + 1 ≡ cells_on g k = omega (arith, hq k h, cw.most r k h) in
         elim (ℕ_discrete j 0) [
           | yes z ↦
@@ -178,10 +178,10 @@ module _ (g : Grid) (fine : check_of g ≡ Fine) (untangled : Untangled g) (p q 
         }
 
 -- one corner is the first and the other the last, or the chains agree
-pub agree-or-across : (g : Grid) → check_of g ≡ Fine → Untangled g → (p q : ℕ → ℕ) → Begins g p → Begins g q → (u w : ℕ → ℕ → ℕ) → Chain g.d u → Chain g.d w → (i j : ℕ) → MatchedBut g p q u w i j → j ≤ g.d
+pub agree-or-across : (g : Grid) → check_of g ≡ fine → Untangled g → (p q : ℕ → ℕ) → Begins g p → Begins g q → (u w : ℕ → ℕ → ℕ) → Chain g.d u → Chain g.d w → (i j : ℕ) → MatchedBut g p q u w i j → j ≤ g.d
     → ((l : ℕ) → l ≤ g.d → sum g.d (u l) ≡ l) → ((r : ℕ) → r ≤ g.d → sum g.d (w r) ≡ r) → (((i ≡ 0) × (j ≡ g.d)) ⊎ ((j ≡ 0) × (i ≡ g.d))) ⊎ AgreeBut g p q u w i j
-agree-or-across g fine untangled p q hp hq u w cu cw i j m lj su sw =
-    let some : 1 ≤ g.d = taken-low g fine in
+agree-or-across g taken untangled p q hp hq u w cu cw i j m lj su sw =
+    let some : 1 ≤ g.d = taken-low g taken in
     elim (ℕ_discrete i 0) [
       | yes a ↦
           elim (ℕ_discrete j g.d) [
@@ -189,7 +189,7 @@ agree-or-across g fine untangled p q hp hq u w cu cw i j m lj su sw =
             | no b ↦
                 let f : i ≡ 0 → j ≡ g.d → ⊥ = λ x y. b y in
                 let l : j ≡ 0 → i ≡ g.d → ⊥ = λ x y. omega arith in
-                inr (agree-but g fine untangled p q hp hq u w cu cw i j m f l lj su sw (high-box g fine untangled p q hp hq u w cu cw i j m f l (λ e. omega arith) b))
+                inr (agree-but g taken untangled p q hp hq u w cu cw i j m f l lj su sw (high-box g taken untangled p q hp hq u w cu cw i j m f l (λ e. omega arith) b))
           ]
       | no a ↦
           elim (ℕ_discrete j 0) [
@@ -199,11 +199,11 @@ agree-or-across g fine untangled p q hp hq u w cu cw i j m lj su sw =
                   | no c ↦
                       let f : i ≡ 0 → j ≡ g.d → ⊥ = λ x y. a x in
                       let l : j ≡ 0 → i ≡ g.d → ⊥ = λ x y. c y in
-                      inr (agree-but g fine untangled p q hp hq u w cu cw i j m f l lj su sw (high-box g fine untangled p q hp hq u w cu cw i j m f l c (λ e. omega arith)))
+                      inr (agree-but g taken untangled p q hp hq u w cu cw i j m f l lj su sw (high-box g taken untangled p q hp hq u w cu cw i j m f l c (λ e. omega arith)))
                 ]
             | no b ↦
                 let f : i ≡ 0 → j ≡ g.d → ⊥ = λ x y. a x in
                 let l : j ≡ 0 → i ≡ g.d → ⊥ = λ x y. b x in
-                inr (agree-but g fine untangled p q hp hq u w cu cw i j m f l lj su sw (low-box g fine untangled p q hp hq u w cu cw i j m f l a b))
+                inr (agree-but g taken untangled p q hp hq u w cu cw i j m f l lj su sw (low-box g taken untangled p q hp hq u w cu cw i j m f l a b))
           ]
     ]

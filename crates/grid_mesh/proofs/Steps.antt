@@ -1,4 +1,7 @@
 -- The work on a grid that is taken, step by step: what each call asks follows from what the calls before it gave. Assumes nothing.
+use Rattle.refusal.specs.declared.Refusal.TheVariants.{CrowdedFacet, TooShort}
+use Rattle.refusal.specs.Says.{fine}
+use Rattle.std.specs.Prelude.{Err, Ok}
 use mathlib.Core.Bool.{Bool, true, false}
 use mathlib.Core.List.{List, [], ◌++◌}
 use mathlib.Core.Path.{◌≡◌, refl, sym, ap, ◌∙◌, subst}
@@ -7,10 +10,7 @@ use native.Mathlib.Nat.{mul_comm, mul-zero, suc-mul, mul-suc, mul-le-mul_right, 
 use native.Mathlib.Numerals.{add-one}
 use native.Mathlib.Omega.{arith}
 use lib.ListN.{length, get_or, take, drop, length-append}
-use Rattle.refusal.specs.declared.Answer.TheVariants.{Fine}
-use Rattle.refusal.specs.declared.Counted.TheVariants.{Count, Refused}
 use Rattle.refusal.specs.Limits.{many_corners, most_cells}
-use Rattle.refusal.specs.Table.{crowded_facet, too_short}
 use Rattle.lists.specs.Rows.{cut, row}
 use Rattle.lists.proofs.Rows.{cut-length}
 use Rattle.lists.proofs.Tables.{length-tab}
@@ -62,37 +62,37 @@ module _ (n count : ℕ) (ws rest : List ℕ) (whole : count * n ≡ length ws) 
       omega (arith, q.least c t h ht (row_same (sort_words n count (ws ++ rest)) n r t same))
 
 -- ---- a grid that is taken: its words are few
-module _ (g : Grid) (fine : check_of g ≡ Fine) where
+module _ (g : Grid) (passed : check_of g ≡ fine) where
   pub corners-few : corners_of g < many_corners
-  corners-few = omega (arith, words_long g fine, few-corners g.d (flat_words g) (words-pass g fine))
+  corners-few = omega (arith, words_long g passed, few-corners g.d (flat_words g) (words-pass g passed))
 
   -- the number of corners as the code has it
   pub corners-are : (count : ℕ) → count ≡ cell_count g → count * (g.d + 1) ≡ corners_of g
   corners-are count e = rw (e, add-one g.d)
 
   pub count-few : (count : ℕ) → count ≡ cell_count g → count ≤ most_cells
-  count-few count e = rw e (taken-cells g fine)
+  count-few count e = rw e (taken-cells g passed)
 
   pub words-many : length (words_of g) ≡ cell_count g
-  words-many = ap length (words-tab g fine) ∙ length-tab (cell_count g) _
+  words-many = ap length (words-tab g passed) ∙ length-tab (cell_count g) _
 
   -- ---- the cells of the words
   module _ (count : ℕ) (e : count ≡ cell_count g) (rest K : List ℕ) (k : K ≡ sort_words (g.d + 1) count (flat_words g ++ rest)) where
     count-is : count ≡ length (flat_words g) / (g.d + 1)
-    count-is = e ∙ sym (words_count g fine)
+    count-is = e ∙ sym (words_count g passed)
 
     long-is : length (flat_words g) ≡ count * (g.d + 1)
-    long-is = words_long g fine ∙ sym (corners-are count e)
+    long-is = words_long g passed ∙ sym (corners-are count e)
 
     pub grid-table : Table K (g.d + 1) count (count * (g.d + 1))
     grid-table =
         subst (λ (l : List ℕ). Table l (g.d + 1) count (count * (g.d + 1))) (sym k)
         (subst (λ (b : ℕ). Table (sort_words (g.d + 1) count (flat_words g ++ rest)) (g.d + 1) count b) long-is
         (subst (λ (n : ℕ). Table (sort_words (g.d + 1) n (flat_words g ++ rest)) (g.d + 1) n (length (flat_words g))) (sym count-is)
-        (words-table g.d (flat_words g) (words-pass g fine) rest)))
+        (words-table g.d (flat_words g) (words-pass g passed) rest)))
 
     pub keys-hold : corners_of g ≤ length K
-    keys-hold = omega (arith, ap length k, words-length (g.d + 1) count (flat_words g ++ rest), length-append (flat_words g) rest, words_long g fine)
+    keys-hold = omega (arith, ap length k, words-length (g.d + 1) count (flat_words g ++ rest), length-append (flat_words g) rest, words_long g passed)
 
     pub count_fits_lem : count ≤ corners_of g
     count_fits_lem = omega (arith, mul-suc (cell_count g) g.d)
@@ -106,11 +106,11 @@ module _ (g : Grid) (fine : check_of g ≡ Fine) where
     module _ (m : ℕ) (reps ids rows tail : List ℕ) (q : Distinct (cell K (g.d + 1)) (g.d + 1) count m reps ids) (long : m ≤ length reps) (f : rows ≡ rows_of K (g.d + 1) (take m reps) ++ tail) (room : corners_of g ≤ length rows) where
       pub grid-made : Made g.d (flat_words g) m rows
       grid-made =
-          made g.d (flat_words g) (words-pass g fine) rest m reps ids rows tail
+          made g.d (flat_words g) (words-pass g passed) rest m reps ids rows tail
           (subst (λ (n : ℕ). Distinct (cell (sort_words (g.d + 1) n (flat_words g ++ rest)) (g.d + 1)) (g.d + 1) n m reps ids) count-is (subst (λ (l : List ℕ). Distinct (cell l (g.d + 1)) (g.d + 1) count m reps ids) k q))
           long
           (f ∙ ap (λ (l : List ℕ). rows_of l (g.d + 1) (take m reps) ++ tail) (k ∙ ap (λ (n : ℕ). sort_words (g.d + 1) n (flat_words g ++ rest)) count-is))
-          (omega (arith, words_long g fine))
+          (omega (arith, words_long g passed))
 
       here-q : Distinct (cell (sort_words (g.d + 1) count (flat_words g ++ rest)) (g.d + 1)) (g.d + 1) count m reps ids
       here-q = subst (λ (l : List ℕ). Distinct (cell l (g.d + 1)) (g.d + 1) count m reps ids) k q
@@ -183,20 +183,20 @@ module _ (g : Grid) (keys rows spare counts : List ℕ) (w : Working g keys rows
     mates-free rows'' t x = not-crowded g.d m (cut (suc g.d) m rows') (cut-length (suc g.d) m rows') rows'' t (omega (arith, a.most, a.corners)) (subst (λ (cs : List (List ℕ)). Crowded g.d cs) (sym a.same) x)
 
 -- ---- the ends of the work
-module _ (g : Grid) (fine : check_of g ≡ Fine) (r : Bool) (told : IsCrowded g r) where
+module _ (g : Grid) (passed : check_of g ≡ fine) (r : Bool) (told : IsCrowded g r) where
   -- 7
-  pub worked-crowded : r ≡ true → (out : List ℕ) → Worked g (Refused crowded_facet 0) out out
+  pub worked-crowded : r ≡ true → (out : List ℕ) → Worked g (Err CrowdedFacet) out out
   worked-crowded e out = record { handed = []; ends = crowded (told.yes e); result = refl }
 
   -- 12
-  pub worked-short : r ≡ false → (out : List ℕ) (len : ℕ) → len ≡ corners_of g → length out < len → Worked g (Refused too_short 0) out out
-  worked-short q out len e h = record { handed = []; ends = short (told.no q) (omega (arith, words_long g fine)); result = refl }
+  pub worked-short : r ≡ false → (out : List ℕ) (len : ℕ) → len ≡ corners_of g → length out < len → Worked g (Err TooShort) out out
+  worked-short q out len e h = record { handed = []; ends = short (told.no q) (omega (arith, words_long g passed)); result = refl }
 
   -- the words
-  pub worked-written : r ≡ false → (out part : List ℕ) (count len : ℕ) → count ≡ cell_count g → len ≡ corners_of g → len ≤ length out → part ≡ flat_words g → Worked g (Count count) out (part ++ drop len out)
+  pub worked-written : r ≡ false → (out part : List ℕ) (count len : ℕ) → count ≡ cell_count g → len ≡ corners_of g → len ≤ length out → part ≡ flat_words g → Worked g (Ok count) out (part ++ drop len out)
   worked-written q out part count len c e h p =
       record {
         handed = flat_words g;
-        ends = subst (λ (n : ℕ). WordsEnd g (length out) (Count n) (flat_words g)) (words-many g fine ∙ sym c) (written (told.no q) (omega (arith, words_long g fine)));
-        result = rw (p, e, words_long g fine);
+        ends = subst (λ (n : ℕ). WordsEnd g (length out) (Ok n) (flat_words g)) (words-many g passed ∙ sym c) (written (told.no q) (omega (arith, words_long g passed)));
+        result = rw (p, e, words_long g passed);
       }

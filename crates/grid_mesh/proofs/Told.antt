@@ -1,10 +1,10 @@
 -- The test of a tangled grid: where it does not hold, no axis with a non-empty set is itself reflected, and 7 is never given (proofs/Seven). Assumes nothing.
+use Rattle.refusal.specs.Says.{fine}
 use mathlib.Core.Path.{◌≡◌, refl, sym, ap, ◌∙◌}
 use mathlib.Core.Bool.{Bool, true, false, not, ◌&&◌, false≢true}
 use Prim.Native.Nat.{ℕ, ◌<◌}
 use lib.Dec.{eqb}
 use borrow.Author.Tests.{eqb-true}
-use Rattle.refusal.specs.declared.Answer.TheVariants.{Fine}
 use Rattle.quotient.specs.declared.Axis.{Axis}
 use Rattle.quotient.specs.declared.Grid.{Grid}
 use Rattle.quotient.specs.Fold.{member, some}
@@ -34,8 +34,8 @@ told-untangled g e a b k la lb lk m =
     let t : tangled_by g a b ≡ false = false-some (tangled_by g a) g.d b (false-some (tangled_at g) g.d a e la) lb in
     none-reflected (mask_at g b) k (eqb-true (mask_at g b) 0 (not-not (eqb (mask_at g b) 0) (and-false (member (mask_at g a) b) (not (eqb (mask_at g b) 0)) m t)))
 
-pub not-tangled : (g : Grid) → check_of g ≡ Fine → is_tangled g ≡ false → IsCrowded g false
-not-tangled g fine e = record { yes = λ q. absurd (false≢true q); no = λ q x. untangled-never-seven g fine (told-untangled g e) x }
+pub not-tangled : (g : Grid) → check_of g ≡ fine → is_tangled g ≡ false → IsCrowded g false
+not-tangled g taken e = record { yes = λ q. absurd (false≢true q); no = λ q x. untangled-never-seven g taken (told-untangled g e) x }
 
 -- ---- the test of two axes
 module _ (g : Grid) (a b : ℕ) (x y : Axis) (hx : x ≡ axis_of g a) (hy : y ≡ axis_of g b) (m n : ℕ) (hm : m ≡ mask_of x.glue) (hn : n ≡ mask_of y.glue) where

@@ -2,6 +2,7 @@
 -- order of the first can be turned (proofs/Turns); the corner with the same vertex in the second lies between its first and its last too, and its order is turned there.
 -- If the two turned cells differ, they and the one cell have a facet in common. If they are one cell, the argument is gone through again with them: the axes on which the
 -- first box is at its last cell come later in the new order, and they cannot come later for ever. Assumes nothing.
+use Rattle.refusal.specs.Says.{fine}
 use mathlib.Core.Path.{◌≡◌, refl, sym, ap, subst, ◌∙◌}
 use mathlib.Core.Logic.{◌⊎◌, inl, inr, ⊎_elim}
 use mathlib.Core.List.{List}
@@ -11,7 +12,6 @@ use native.Mathlib.Decide.{ℕ_discrete}
 use native.Mathlib.Omega.{arith}
 use lib.Arith.{digits_div, digits_mod, digits_lt}
 use lib.ListN.{length}
-use Rattle.refusal.specs.declared.Answer.TheVariants.{Fine}
 use Rattle.lists.proofs.Members.{Mem, Mem-of, Mem-at}
 use Rattle.multiindex.specs.Permutation.{orders}
 use Rattle.multiindex.specs.Sort.{sort_word}
@@ -34,7 +34,7 @@ use Rattle.grid_mesh.proofs.Facing.{side, sides-few, side-self, Chain, Matched, 
 use Rattle.grid_mesh.proofs.Members.{one_word}
 use Rattle.grid_mesh.proofs.Words.{word_no, vertex_no, corner-one, OneFacet, same-cell, cell_same, crowd}
 
-module _ (g : Grid) (fine : check_of g ≡ Fine) where
+module _ (g : Grid) (taken : check_of g ≡ fine) where
   -- ---- cells by box and order
   -- cell x is that of box b along order t
   pub record At (x b t : ℕ) : Type 0 where
@@ -44,15 +44,15 @@ module _ (g : Grid) (fine : check_of g ≡ Fine) where
     pub corner : (j : ℕ) → j ≤ g.d → corner_of g x j ≡ corner_by g (box_at g b) (up g.d t j)
 
   cells_count : cell_count g ≡ boxes_of g * each_box g
-  cells_count = rw (orders-factorial g.d (dim g fine)) (mul_comm _ (boxes_of g))
+  cells_count = rw (orders-factorial g.d (dim g taken)) (mul_comm _ (boxes_of g))
 
   pub at_of : (x : ℕ) → x < cell_count g → At x (x / each_box g) (each_box g - 1 - x % each_box g)
   at_of x h =
       record {
         in-grid = h;
-        box_in = (div-lt_iff_lt-mul (some-order g.d (dim g fine))).1 (rw cells_count at h);
-        order-in = turn-lt g fine x;
-        corner = λ j l. corner-point g fine x j l;
+        box_in = (div-lt_iff_lt-mul (some-order g.d (dim g taken))).1 (rw cells_count at h);
+        order-in = turn-lt g taken x;
+        corner = λ j l. corner-point g taken x j l;
       }
 
   abbrev cell_by : ℕ → ℕ → ℕ
@@ -71,7 +71,7 @@ module _ (g : Grid) (fine : check_of g ≡ Fine) where
         order-in = l;
         corner =
             λ j k.
-            corner-point g fine (cell_by b t) j k
+            corner-point g taken (cell_by b t) j k
             ∙ ap (λ (a : ℕ). point_of g (λ k. box_at g a k + up g.d (n - 1 - cell_by b t % n) j k)) q
             ∙ ap (λ (a : ℕ). point_of g (λ k. box_at g b k + up g.d a j k)) e;
       }
@@ -79,10 +79,10 @@ module _ (g : Grid) (fine : check_of g ≡ Fine) where
   pub chain : (t : ℕ) → t < length (orders g.d) → Chain g.d (up g.d t)
   chain t l =
       record {
-        most = λ i k m. up-most g.d t (dim g fine) l i k m;
-        none = λ k m. up_none g.d t (dim g fine) l k;
-        each = λ k m. up-each g.d t (dim g fine) l k m;
-        rises = λ i j k h m. up-rises g.d t (dim g fine) l i j k h;
+        most = λ i k m. up-most g.d t (dim g taken) l i k m;
+        none = λ k m. up_none g.d t (dim g taken) l k;
+        each = λ k m. up-each g.d t (dim g taken) l k m;
+        rises = λ i j k h m. up-rises g.d t (dim g taken) l i j k h;
       }
 
   pub vertex-at : (x b t j : ℕ) → At x b t → j ≤ g.d → vertex_no g x j ≡ vertex_by g (box_at g b) (up g.d t j)
@@ -105,8 +105,8 @@ module _ (g : Grid) (fine : check_of g ≡ Fine) where
     moves-away : vertex_no g y i ≡ vertex_no g x i → ⊥
     moves-away e =
         let z : box_at g b w.axis + up g.d u i w.axis ≡ box_at g b w.axis + up g.d t i w.axis =
-        one-point g fine (box_at g b) (box_at g b) (box-lt g fine b) (box-lt g fine b) (up g.d u) (up g.d t) (chain u a'.order-in) (chain t a.order-in)
-        (λ k l. side-self g fine (box_at g b) k l) i i (sym (vertex-at y b u i a' li) ∙ e ∙ vertex-at x b t i a li) w.axis w.axis-in in
+        one-point g taken (box_at g b) (box_at g b) (box-lt g taken b) (box-lt g taken b) (up g.d u) (up g.d t) (chain u a'.order-in) (chain t a.order-in)
+        (λ k l. side-self g taken (box_at g b) k l) i i (sym (vertex-at y b u i a' li) ∙ e ∙ vertex-at x b t i a li) w.axis w.axis-in in
         w.other (omega arith)
 
     turned-cell : TurnedCell x i y
@@ -118,12 +118,12 @@ module _ (g : Grid) (fine : check_of g ≡ Fine) where
               λ l h e.
               elim (ℕ_discrete l i) [
                 | yes q ↦ moves-away (sym e ∙ ap (vertex_no g x) q)
-                | no q ↦ q (corner-one g fine y l i h li (stays-there l h q ∙ e))
+                | no q ↦ q (corner-one g taken y l i h li (stays-there l h q ∙ e))
               ];
         }
 
   module _ (x i y : ℕ) (hx : x < cell_count g) (li : i ≤ g.d) (w : TurnedCell x i y) where
-    turned-facet : OneFacet g fine x i y i
+    turned-facet : OneFacet g taken x i y i
     turned-facet =
         record {
           forth = λ v o. (o.0, o.1, o.2, w.kept o.0 o.1 o.2 ∙ o.3);
@@ -131,22 +131,22 @@ module _ (g : Grid) (fine : check_of g ≡ Fine) where
         }
 
     turned_apart : sort_word (word_no g x) ≡ sort_word (word_no g y) → ⊥
-    turned_apart e = let c = cell_same g fine y x w.in-grid hx (sym e) (vertex_no g y i) (i, li, refl) in w.new c.0 c.1 c.2
+    turned_apart e = let c = cell_same g taken y x w.in-grid hx (sym e) (vertex_no g y i) (i, li, refl) in w.new c.0 c.1 c.2
 
   -- ---- one cell of two words, and both turned at corners with one vertex
   module _ (x y i j : ℕ) (hx : x < cell_count g) (hy : y < cell_count g) (li : i ≤ g.d) (lj : j ≤ g.d) (e : sort_word (word_no g x) ≡ sort_word (word_no g y)) (v : vertex_no g x i ≡ vertex_no g y j) where
-    one-facet : OneFacet g fine x i y j
+    one-facet : OneFacet g taken x i y j
     one-facet =
         record {
-          forth = λ u o. let c = cell_same g fine x y hx hy e u (o.0, o.1, o.3) in (c.0, c.1, (λ q. o.2 (corner-one g fine x o.0 i o.1 li (o.3 ∙ sym c.2 ∙ ap (vertex_no g y) q ∙ sym v))), c.2);
-          back = λ u o. let c = cell_same g fine y x hy hx (sym e) u (o.0, o.1, o.3) in (c.0, c.1, (λ q. o.2 (corner-one g fine y o.0 j o.1 lj (o.3 ∙ sym c.2 ∙ ap (vertex_no g x) q ∙ v))), c.2);
+          forth = λ u o. let c = cell_same g taken x y hx hy e u (o.0, o.1, o.3) in (c.0, c.1, (λ q. o.2 (corner-one g taken x o.0 i o.1 li (o.3 ∙ sym c.2 ∙ ap (vertex_no g y) q ∙ sym v))), c.2);
+          back = λ u o. let c = cell_same g taken y x hy hx (sym e) u (o.0, o.1, o.3) in (c.0, c.1, (λ q. o.2 (corner-one g taken y o.0 j o.1 lj (o.3 ∙ sym c.2 ∙ ap (vertex_no g x) q ∙ v))), c.2);
         }
 
     module _ (x' y' : ℕ) (a : TurnedCell x i x') (b : TurnedCell y j y') where
       -- the new corners have one vertex: one cell again
       still_one : vertex_no g x' i ≡ vertex_no g y' j → sort_word (word_no g x') ≡ sort_word (word_no g y')
       still_one q =
-          same-cell g fine x' y' a.in-grid b.in-grid
+          same-cell g taken x' y' a.in-grid b.in-grid
           (λ u c.
           elim (ℕ_discrete c.0 i) [
             | yes z ↦ (j, lj, sym q ∙ ap (vertex_no g x') (sym z) ∙ c.2)
@@ -162,11 +162,11 @@ module _ (g : Grid) (fine : check_of g ≡ Fine) where
       three-cells-meet : (vertex_no g x' i ≡ vertex_no g y' j → ⊥) → Crowded g.d (glued_cells g)
       three-cells-meet n =
           let s = turned-facet y j y' hy lj b in
-          crowd g fine (taken-low g fine) x i x' i y' j hx a.in-grid b.in-grid li li lj (turned-facet x i x' hx li a)
+          crowd g taken (taken-low g taken) x i x' i y' j hx a.in-grid b.in-grid li li lj (turned-facet x i x' hx li a)
           (record { forth = λ u o. s.forth u (one-facet.forth u o); back = λ u o. one-facet.back u (s.back u o) })
           (turned_apart x i x' hx li a) (λ q. turned_apart y j y' hy lj b (sym e ∙ q))
           (λ q.
-          let c = cell_same g fine x' y' a.in-grid b.in-grid q (vertex_no g x' i) (i, li, refl) in
+          let c = cell_same g taken x' y' a.in-grid b.in-grid q (vertex_no g x' i) (i, li, refl) in
           elim (ℕ_discrete c.0 j) [
             | yes z ↦ n (sym c.2 ∙ ap (vertex_no g y') z)
             | no z ↦ let o = one-facet.back (vertex_no g x' i) (c.0, c.1, z, sym (b.kept c.0 c.1 z) ∙ c.2) in a.new o.0 o.1 o.3
@@ -176,8 +176,8 @@ module _ (g : Grid) (fine : check_of g ≡ Fine) where
   matched : (x y b c t s : ℕ) → At x b t → At y c s → sort_word (word_no g x) ≡ sort_word (word_no g y) → Matched g (box_at g b) (box_at g c) (up g.d t) (up g.d s)
   matched x y b c t s a a' e =
       record {
-        forth = λ i l. let r = cell_same g fine x y a.in-grid a'.in-grid e (vertex_no g x i) (i, l, refl) in (r.0, r.1, sym (vertex-at x b t i a l) ∙ sym r.2 ∙ vertex-at y c s r.0 a' r.1);
-        back = λ j l. let r = cell_same g fine y x a'.in-grid a.in-grid (sym e) (vertex_no g y j) (j, l, refl) in (r.0, r.1, sym (vertex-at x b t r.0 a r.1) ∙ r.2 ∙ vertex-at y c s j a' l);
+        forth = λ i l. let r = cell_same g taken x y a.in-grid a'.in-grid e (vertex_no g x i) (i, l, refl) in (r.0, r.1, sym (vertex-at x b t i a l) ∙ sym r.2 ∙ vertex-at y c s r.0 a' r.1);
+        back = λ j l. let r = cell_same g taken y x a'.in-grid a.in-grid (sym e) (vertex_no g y j) (j, l, refl) in (r.0, r.1, sym (vertex-at x b t r.0 a r.1) ∙ r.2 ∙ vertex-at y c s j a' l);
       }
 
   -- how the boxes b and c lie on each axis
@@ -188,7 +188,7 @@ module _ (g : Grid) (fine : check_of g ≡ Fine) where
   listed b c = kinds (sides b c 0) (sides b c 1) (sides b c 2)
 
   listed-is : (b c k : ℕ) → k < g.d → listed b c k ≡ sides b c k
-  listed-is b c k l = below-three k (omega (arith, dim g fine))
+  listed-is b c k l = below-three k (omega (arith, dim g taken))
     where
       below-three : (k : ℕ) → k < 3 → listed b c k ≡ sides b c k
       below-three zero l = refl
@@ -218,11 +218,11 @@ module _ (g : Grid) (fine : check_of g ≡ Fine) where
     pairs = matched x y b c t s a a' e
 
     opposite : (k : ℕ) → k < g.d → (sides b c k ≡ 1) ⊎ (sides b c k ≡ 2) → (i j : ℕ) → vertex_by g (box_at g b) (up g.d t i) ≡ vertex_by g (box_at g c) (up g.d s j) → up g.d t i k + up g.d s j k ≡ 1
-    opposite k l h i j v = up-or-down g fine (box_at g b) (box_at g c) (box-lt g fine b) (box-lt g fine c) (up g.d t) (up g.d s) first-chain second-chain k l h i j v
+    opposite k l h i j v = up-or-down g taken (box_at g b) (box_at g c) (box-lt g taken b) (box-lt g taken c) (up g.d t) (up g.d s) first-chain second-chain k l h i j v
 
     never-parted : Parted g.d t (listed b c) → ⊥
     never-parted p =
-        not-parted g fine (box_at g b) (box_at g c) (box-lt g fine b) (box-lt g fine c) (up g.d t) (up g.d s) first-chain second-chain pairs f p.at p.at_in
+        not-parted g taken (box_at g b) (box_at g c) (box-lt g taken b) (box-lt g taken c) (up g.d t) (up g.d s) first-chain second-chain pairs f p.at p.at_in
         (λ k l q. p.none k l (listed-is b c k l ∙ q)) (λ k l q. p.each k l (listed-is b c k l ∙ q))
 
     module _ (p : Later g.d t (listed b c)) (j : ℕ) (lj : j ≤ g.d) (v : vertex_by g (box_at g b) (up g.d t p.at) ≡ vertex_by g (box_at g c) (up g.d s j)) where
@@ -246,7 +246,7 @@ module _ (g : Grid) (fine : check_of g ≡ Fine) where
       turned-once : Crowded g.d (glued_cells g) ⊎ Next b c t
       turned-once =
           let li : p.at ≤ g.d = omega (arith, p.at_in) in
-          let r = turn g.d s j (dim g fine) a'.order-in not_first not_last in
+          let r = turn g.d s j (dim g taken) a'.order-in not_first not_last in
           let na = at-by b p.order a.box_in p.turned.order-in in
           let nb = at-by c r.0 a'.box_in r.1.order-in in
           let ta = turned-cell x b t p.at p.order (cell_by b p.order) a na li p.turned in
@@ -272,7 +272,7 @@ module _ (g : Grid) (fine : check_of g ≡ Fine) where
         ⊎_elim
         (λ (p : Parted g.d t (listed b c)). absurd (never-parted p))
         (λ (p : Later g.d t (listed b c)). let r = pairs.forth p.at (omega (arith, p.at_in)) in turned-once p r.0 r.1 r.2)
-        (place g.d t (sides b c 0) (sides b c 1) (sides b c 2) (dim g fine) a.order-in (sides-few g (box_at g b) (box_at g c) 0) (sides-few g (box_at g b) (box_at g c) 1) (sides-few g (box_at g b) (box_at g c) 2))
+        (place g.d t (sides b c 0) (sides b c 1) (sides b c 2) (dim g taken) a.order-in (sides-few g (box_at g b) (box_at g c) 0) (sides-few g (box_at g b) (box_at g c) 1) (sides-few g (box_at g b) (box_at g c) 2))
 
   -- again and again, n times at most
   twice : (n x y b c t s : ℕ) → At x b t → At y c s → sort_word (word_no g x) ≡ sort_word (word_no g y) → Faced g (box_at g b) (box_at g c) → earliness g.d t (listed b c) < n → Crowded g.d (glued_cells g)
@@ -306,23 +306,23 @@ module _ (g : Grid) (fine : check_of g ≡ Fine) where
     one-corner i j li lj v =
         a.corner i li
         ∙ number_same (points_on g) (λ k. box_at g b k + up g.d t i k) (λ k. box_at g c k + up g.d s j k) g.d
-        (one-point g fine (box_at g b) (box_at g c) (box-lt g fine b) (box-lt g fine c) (up g.d t) (up g.d s) (chain t a.order-in) (chain s a'.order-in) apart i j v)
+        (one-point g taken (box_at g b) (box_at g c) (box-lt g taken b) (box-lt g taken c) (up g.d t) (up g.d s) (chain t a.order-in) (chain s a'.order-in) apart i j v)
         ∙ sym (a'.corner j lj)
 
     one-cell-no : cell_no g x ≡ cell_no g y
     one-cell-no =
         let m = matched x y b c t s a a' e in
-        one_word (cell_no g x) (cell_no g y) (cell-rising g fine x) (cell-rising g fine y)
+        one_word (cell_no g x) (cell_no g y) (cell-rising g taken x) (cell-rising g taken y)
         (λ v k.
         let r = Mem-at v (cell_no g x) k in
-        let li : r.0 ≤ g.d = omega (arith, r.1, cell-length g fine x) in
+        let li : r.0 ≤ g.d = omega (arith, r.1, cell-length g taken x) in
         let o = m.forth r.0 li in
-        subst (λ (u : ℕ). Mem u (cell_no g y)) (sym (one-corner r.0 o.0 li o.1 o.2) ∙ r.2) (Mem-of (cell_no g y) o.0 (omega (arith, o.1, cell-length g fine y))))
+        subst (λ (u : ℕ). Mem u (cell_no g y)) (sym (one-corner r.0 o.0 li o.1 o.2) ∙ r.2) (Mem-of (cell_no g y) o.0 (omega (arith, o.1, cell-length g taken y))))
         (λ v k.
         let r = Mem-at v (cell_no g y) k in
-        let lj : r.0 ≤ g.d = omega (arith, r.1, cell-length g fine y) in
+        let lj : r.0 ≤ g.d = omega (arith, r.1, cell-length g taken y) in
         let o = m.back r.0 lj in
-        subst (λ (u : ℕ). Mem u (cell_no g x)) (one-corner o.0 r.0 o.1 lj o.2 ∙ r.2) (Mem-of (cell_no g x) o.0 (omega (arith, o.1, cell-length g fine x))))
+        subst (λ (u : ℕ). Mem u (cell_no g x)) (one-corner o.0 r.0 o.1 lj o.2 ∙ r.2) (Mem-of (cell_no g x) o.0 (omega (arith, o.1, cell-length g taken x))))
 
   -- two words that sort to one cell are of boxes that face each other
   two-faced : (x y : ℕ) → x < y → y < cell_count g → sort_word (word_no g x) ≡ sort_word (word_no g y) → Faced g (box_at g (x / each_box g)) (box_at g (y / each_box g))
@@ -331,7 +331,7 @@ module _ (g : Grid) (fine : check_of g ≡ Fine) where
       (λ (f : Faced g (box_at g (x / each_box g)) (box_at g (y / each_box g))). f)
       (λ (r : (k : ℕ) → k < g.d → sides (x / each_box g) (y / each_box g) k ≡ 0).
       let q : cell_no g x ≡ cell_no g y = one-cell-no x y (x / each_box g) (y / each_box g) (each_box g - 1 - x % each_box g) (each_box g - 1 - y % each_box g) (at_of x (omega arith)) (at_of y l) e r in
-      absurd (colex-irr (suc g.d) (cell_no g y) (subst (λ (w : List ℕ). Colex (suc g.d) w (cell_no g y)) q (cell-before g fine x y h l))))
+      absurd (colex-irr (suc g.d) (cell_no g y) (subst (λ (w : List ℕ). Colex (suc g.d) w (cell_no g y)) q (cell-before g taken x y h l))))
       (faced-or-not (box_at g (x / each_box g)) (box_at g (y / each_box g)) g.d (le_refl g.d))
 
   -- and make a facet in three cells

@@ -1,5 +1,6 @@
 -- The words of a grid that is taken and the cells they sort to, by their corners: two words sort to one cell exactly if they have the same vertices, and three words
 -- that have the same vertices but for one in each are a facet in three cells, unless two of them are one cell. Assumes nothing.
+use Rattle.refusal.specs.Says.{fine}
 use mathlib.Core.Path.{◌≡◌, refl, sym, ap, subst, ◌∙◌}
 use mathlib.Core.Bool.{false}
 use mathlib.Core.List.{List, [], map}
@@ -8,7 +9,6 @@ use native.Mathlib.Numerals.{add-one}
 use native.Mathlib.Decide.{dec_lt}
 use native.Mathlib.Omega.{arith}
 use lib.ListN.{length, get_or}
-use Rattle.refusal.specs.declared.Answer.TheVariants.{Fine}
 use Rattle.lists.specs.Words.{has_repeat}
 use Rattle.lists.specs.Rows.{cut, rows, row}
 use Rattle.lists.proofs.Rows.{cut_at}
@@ -45,17 +45,17 @@ word_no g x = map (vertex_of g) (cell_no g x)
 abbrev pub vertex_no : Grid → ℕ → ℕ → ℕ
 vertex_no g x j = vertex_of g (corner_of g x j)
 
-module _ (g : Grid) (fine : check_of g ≡ Fine) where
+module _ (g : Grid) (taken : check_of g ≡ fine) where
   pub words-each : Each (λ w. length w ≡ suc g.d) (words_of g)
   words-each =
       each_of (λ w. length w ≡ suc g.d) (words_of g)
-      (λ w m. let r = of-tab (word_no g) (cell_count g) w (subst (λ (l : List Word). In w l) (words-tab g fine) m) in ap length (sym r.2) ∙ word-length g fine r.0)
+      (λ w m. let r = of-tab (word_no g) (cell_count g) w (subst (λ (l : List Word). In w l) (words-tab g taken) m) in ap length (sym r.2) ∙ word-length g taken r.0)
 
   -- the grid's words are its flat list cut into words
   pub own-words : rows (suc g.d) (flat_words g) ≡ words_of g
   own-words =
-      let c : length (flat_words g) / suc g.d ≡ cell_count g = subst (λ (n : ℕ). length (flat_words g) / n ≡ cell_count g) (add-one g.d) (words_count g fine) in
-      ap (λ (n : ℕ). cut (suc g.d) n (flat_words g)) (c ∙ sym (words-many g fine)) ∙ cut-flat (suc g.d) (words_of g)
+      let c : length (flat_words g) / suc g.d ≡ cell_count g = subst (λ (n : ℕ). length (flat_words g) / n ≡ cell_count g) (add-one g.d) (words_count g taken) in
+      ap (λ (n : ℕ). cut (suc g.d) n (flat_words g)) (c ∙ sym (words-many g taken)) ∙ cut-flat (suc g.d) (words_of g)
       (each_long (suc g.d) (words_of g) (λ c h. each_in (λ w. length w ≡ suc g.d) (get_or (words_of g) c []) (words_of g) words-each (in-at (words_of g) c h)))
 
   pub glued-are : glued_cells g ≡ in_order (suc g.d) (words_of g)
@@ -63,21 +63,21 @@ module _ (g : Grid) (fine : check_of g ≡ Fine) where
   glued-are = ap (λ (n : ℕ). in_order n (rows n (flat_words g))) (add-one g.d) ∙ ap (in_order (suc g.d)) own-words
 
   pub word-is : (x : ℕ) → x < cell_count g → get_or (words_of g) x [] ≡ word_no g x
-  word-is x h = ap (λ (l : List Word). get_or l x []) (words-tab g fine) ∙ get_or-tab (cell_count g) (word_no g) x [] h
+  word-is x h = ap (λ (l : List Word). get_or l x []) (words-tab g taken) ∙ get_or-tab (cell_count g) (word_no g) x [] h
 
   row_is : (x : ℕ) → x < cell_count g → row (flat_words g) (suc g.d) x ≡ word_no g x
   row_is x h =
-      let c : length (flat_words g) / suc g.d ≡ cell_count g = subst (λ (n : ℕ). length (flat_words g) / n ≡ cell_count g) (add-one g.d) (words_count g fine) in
+      let c : length (flat_words g) / suc g.d ≡ cell_count g = subst (λ (n : ℕ). length (flat_words g) / n ≡ cell_count g) (add-one g.d) (words_count g taken) in
       sym (cut_at (suc g.d) (length (flat_words g) / suc g.d) (flat_words g) x (omega arith)) ∙ ap (λ (l : List Word). get_or l x []) own-words ∙ word-is x h
 
   pub word-corner : (x j : ℕ) → x < cell_count g → j ≤ g.d → get_or (word_no g x) j 0 ≡ vertex_no g x j
-  word-corner x j h l = ap (λ (w : List ℕ). get_or w j 0) (sym (row_is x h)) ∙ row-cell (flat_words g) (suc g.d) x j (omega arith) ∙ word_at g fine x j h l
+  word-corner x j h l = ap (λ (w : List ℕ). get_or w j 0) (sym (row_is x h)) ∙ row-cell (flat_words g) (suc g.d) x j (omega arith) ∙ word_at g taken x j h l
 
   pub corner-one : (x i j : ℕ) → i ≤ g.d → j ≤ g.d → vertex_no g x i ≡ vertex_no g x j → i ≡ j
   corner-one x i j hi hj e =
       elim (dec_lt i j) [
-        | yes l ↦ absurd (corners-apart g fine x i j l hj e)
-        | no l ↦ elim (dec_lt j i) [ yes m ↦ absurd (corners-apart g fine x j i m hi (sym e)) | no m ↦ omega arith ]
+        | yes l ↦ absurd (corners-apart g taken x i j l hj e)
+        | no l ↦ elim (dec_lt j i) [ yes m ↦ absurd (corners-apart g taken x j i m hi (sym e)) | no m ↦ omega arith ]
       ]
 
   -- ---- a word's numbers are the vertices of its corners
@@ -93,19 +93,19 @@ module _ (g : Grid) (fine : check_of g ≡ Fine) where
 
   pub corner-mem : (x v : ℕ) → x < cell_count g → Corner x v → Mem v (sorted x)
   corner-mem x v h c =
-      sort-mem v (word_no g x) (subst (λ (u : ℕ). Mem u (word_no g x)) (word-corner x c.0 h c.1 ∙ c.2) (Mem-of (word_no g x) c.0 (omega (arith, word-length g fine x, c.1))))
+      sort-mem v (word_no g x) (subst (λ (u : ℕ). Mem u (word_no g x)) (word-corner x c.0 h c.1 ∙ c.2) (Mem-of (word_no g x) c.0 (omega (arith, word-length g taken x, c.1))))
 
   pub mem-corner : (x v : ℕ) → x < cell_count g → Mem v (sorted x) → Corner x v
   mem-corner x v h m =
       let r = Mem-at v (word_no g x) (mem-sort v (word_no g x) m) in
-      let l : r.0 ≤ g.d = omega (arith, r.1, word-length g fine x) in
+      let l : r.0 ≤ g.d = omega (arith, r.1, word-length g taken x) in
       (r.0, l, sym (word-corner x r.0 h l) ∙ r.2)
 
   pub sorted_rises : (x : ℕ) → x < cell_count g → Rises (sorted x)
-  sorted_rises x h = sort-strict (word_no g x) (subst (λ (w : List ℕ). has_repeat w ≡ false) (row_is x h) (row_apart g fine x h))
+  sorted_rises x h = sort-strict (word_no g x) (subst (λ (w : List ℕ). has_repeat w ≡ false) (row_is x h) (row_apart g taken x h))
 
   pub sorted_long : (x : ℕ) → length (sorted x) ≡ suc g.d
-  sorted_long x = sort-length (word_no g x) ∙ word-length g fine x
+  sorted_long x = sort-length (word_no g x) ∙ word-length g taken x
 
   -- two words sort to one cell exactly if they have the same vertices
   pub same-cell : (x y : ℕ) → x < cell_count g → y < cell_count g → ((v : ℕ) → Corner x v → Corner y v) → ((v : ℕ) → Corner y v → Corner x v) → sort_word (word_no g x) ≡ sort_word (word_no g y)
@@ -120,12 +120,12 @@ module _ (g : Grid) (fine : check_of g ≡ Fine) where
   cell-of x h =
       at_in (sorted x) (glued_cells g)
       (subst (λ (cs : List Word). In (sorted x) cs) (sym glued-are)
-      (order-has (suc g.d) (words_of g) (word_no g x) words-each (subst (λ (ws : List Word). In (word_no g x) ws) (sym (words-tab g fine)) (to-tab (word_no g) (cell_count g) x h))))
+      (order-has (suc g.d) (words_of g) (word_no g x) words-each (subst (λ (ws : List Word). In (word_no g x) ws) (sym (words-tab g taken)) (to-tab (word_no g) (cell_count g) x h))))
 
   pub word_of : (c : ℕ) → c < length (glued_cells g) → (x : ℕ) × (x < cell_count g) × (cell_at (glued_cells g) c ≡ sort_word (word_no g x))
   word_of c h =
       let u = order_from (suc g.d) (words_of g) (cell_at (glued_cells g) c) (subst (λ (cs : List Word). In (cell_at (glued_cells g) c) cs) glued-are (in-at (glued_cells g) c h)) in
-      let r = of-tab (word_no g) (cell_count g) u.0 (subst (λ (ws : List Word). In u.0 ws) (words-tab g fine) u.1) in
+      let r = of-tab (word_no g) (cell_count g) u.0 (subst (λ (ws : List Word). In u.0 ws) (words-tab g taken) u.1) in
       (r.0, r.1, sym (ap sort_word r.2 ∙ u.2))
 
   pub glued-good : Cells g.d (glued_cells g)

@@ -1,9 +1,8 @@
 -- What the call `cell_words` comes to, on every input. Assumes nothing.
-use Rattle.std.specs.Prelude.{List, [], ◌≡◌, ℕ, suc, ◌*◌, ◌<◌, ◌≤◌, length}
-use Rattle.refusal.specs.declared.Counted.{Counted}
-use Rattle.refusal.specs.declared.Counted.TheVariants.{Count, Refused}
+use Rattle.refusal.specs.declared.Refusal.TheVariants.{CrowdedFacet, TooShort}
+use Rattle.refusal.specs.Says.{Counted}
+use Rattle.std.specs.Prelude.{Err, Ok, List, [], ◌≡◌, ℕ, suc, ◌*◌, ◌<◌, ◌≤◌, length}
 use Rattle.refusal.specs.declared.Room.{Room}
-use Rattle.refusal.specs.Table.{crowded_facet, too_short}
 use Rattle.refusal.specs.Lent.{onto, lengths, Cleared}
 use Rattle.refusal.specs.Call.{Comes}
 use Rattle.complex.specs.Room.{need_of}
@@ -27,16 +26,16 @@ grid_need g = need_of g.d (corners_of g)
 -- how the call ends, once the grid is checked and there is room: 7, 12, or the words. `given` is the length of the word list.
 pub data WordsEnd (g : Grid) (given : ℕ) : Counted → List ℕ → Type 0 where
   -- a facet in three or more cells
-  crowded : Crowded g.d (glued_cells g) → WordsEnd g given (Refused crowded_facet 0) []
+  crowded : Crowded g.d (glued_cells g) → WordsEnd g given (Err CrowdedFacet) []
   -- the word list is too short
-  short : (Crowded g.d (glued_cells g) → ⊥) → given < length (flat_words g) → WordsEnd g given (Refused too_short 0) []
+  short : (Crowded g.d (glued_cells g) → ⊥) → given < length (flat_words g) → WordsEnd g given (Err TooShort) []
   -- the words are handed out
-  written : (Crowded g.d (glued_cells g) → ⊥) → length (flat_words g) ≤ given → WordsEnd g given (Count (length (words_of g))) (flat_words g)
+  written : (Crowded g.d (glued_cells g) → ⊥) → length (flat_words g) ≤ given → WordsEnd g given (Ok (length (words_of g))) (flat_words g)
 
 -- the promise: r is what the call says, and a list with ' is what it holds at exit
 pub record CellWords (g : Grid) (r : Counted) (words words' keys keys' rows rows' spare spare' counts counts' : List ℕ) : Type 0 where
   pub handed : List ℕ
   pub used : Room
-  pub comes : Comes Refused [] (check_of g) (grid_need g) (lengths keys rows spare counts) (WordsEnd g (length words)) r handed used
+  pub comes : Comes Err [] (check_of g) (grid_need g) (lengths keys rows spare counts) (WordsEnd g (length words)) r handed used
   pub result : words' ≡ onto handed words
   pub room : Cleared used keys keys' rows rows' spare spare' counts counts'

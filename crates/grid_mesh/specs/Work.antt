@@ -1,7 +1,6 @@
 -- What the work on a grid that is taken asks of its lists, of just the lengths that are needed, and what it gives. Assumes nothing.
+use Rattle.refusal.specs.Says.{Counted, fine}
 use Rattle.std.specs.Prelude.{Bool, true, false, not, ◌&&◌, List, ◌≡◌, ℕ, suc, ◌<◌, ◌≤◌, eqb, length, get_or}
-use Rattle.refusal.specs.declared.Answer.TheVariants.{Fine}
-use Rattle.refusal.specs.declared.Counted.{Counted}
 use Rattle.refusal.specs.Lent.{onto}
 use Rattle.lists.specs.Rows.{row}
 use Rattle.multiindex.specs.Sort.{sort_word}
@@ -26,7 +25,7 @@ is_tangled g = some (tangled_at g) g.d
 
 -- room for the cells of the words
 pub record Finding (g : Grid) (keys rows spare counts : List ℕ) : Type 0 where
-  pub taken : check_of g ≡ Fine
+  pub taken : check_of g ≡ fine
   pub keys_long : corners_of g ≤ length keys
   pub rows_long : length rows ≡ corners_of g
   pub spare_long : length spare ≡ corners_of g
@@ -46,7 +45,7 @@ pub record IsCrowded (g : Grid) (r : Bool) : Type 0 where
   pub no : r ≡ false → Crowded g.d (glued_cells g) → ⊥
 
 pub record Working (g : Grid) (keys rows spare counts : List ℕ) : Type 0 where
-  pub taken : check_of g ≡ Fine
+  pub taken : check_of g ≡ fine
   pub keys_long : length keys ≡ key_room g.d (corners_of g)
   pub rows_long : length rows ≡ corners_of g
   pub spare_long : length spare ≡ corners_of g

@@ -9,14 +9,14 @@
 #![tactic(auto)]
 
 ghost use Rattle.std.specs.Prelude.{◌≡◌};
-ghost use Rattle.refusal.specs.declared.Answer.TheVariants.{Fine};
+ghost use Rattle.refusal.specs.Says.{fine};
 ghost use Rattle.lists.specs.Zero.{AllZero};
 ghost use Rattle.quotient.specs.Shape.{check_of};
 ghost use Rattle.grid_mesh.specs.Words.{grid_need, CellWords};
 ghost use Rattle.grid_mesh.specs.Work.{Finding, Found, tangled_by, tangled_at, is_tangled, IsCrowded, Working, Worked};
 
 use quotient::{Grid, mask};
-use refusal::{Answer, CROWDED_FACET, Counted, Room, TOO_SHORT};
+use refusal::{Refusal, Room};
 
 // Whether axis a reflects axis b, and b reflects one itself.
 fn tangled_by(grid: Grid, a: u32, b: u32) -> bool
@@ -37,13 +37,10 @@ fn tangled_by(grid: Grid, a: u32, b: u32) -> bool
 fn tangled_at(grid: Grid, a: u32) -> bool
     ensures { result ≡ tangled_at grid a }
 {
-    let d = grid.d;
-    let mut b = 0u32;
-    while b < d {
+    for b in 0..grid.d {
         if tangled_by(grid, a, b) {
             return true;
         }
-        b += 1;
     }
     false
 }
@@ -52,13 +49,10 @@ fn tangled_at(grid: Grid, a: u32) -> bool
 fn tangled(grid: Grid) -> bool
     ensures { result ≡ is_tangled grid }
 {
-    let d = grid.d;
-    let mut a = 0u32;
-    while a < d {
+    for a in 0..grid.d {
         if tangled_at(grid, a) {
             return true;
         }
-        a += 1;
     }
     false
 }
@@ -113,20 +107,20 @@ fn work(
     rows: &mut [u32],
     spare: &mut [u32],
     counts: &mut [u32],
-) -> Counted
+) -> Result<u32, Refusal>
     requires { Working grid keys.old rows.old spare.old counts.old }
     ensures { Worked grid result words.old words.new }
 {
     if crowded(grid, keys, rows, spare, counts) {
-        return Counted::Refused(CROWDED_FACET, 0);
+        return Err(Refusal::CrowdedFacet);
     }
     let count = grid_words::cells(grid);
     let len = count * (grid.d as usize + 1);
     if words.len() < len {
-        return Counted::Refused(TOO_SHORT, 0);
+        return Err(Refusal::TooShort);
     }
     grid_words::write_words(grid, &mut words[..len], rows);
-    Counted::Count(count as u32)
+    Ok(count as u32)
 }
 
 // The work, and then the working lists are all zero.
@@ -137,7 +131,7 @@ fn cleared(
     rows: &mut [u32],
     spare: &mut [u32],
     counts: &mut [u32],
-) -> Counted
+) -> Result<u32, Refusal>
     requires { Working grid keys.old rows.old spare.old counts.old }
     ensures work { Worked grid result words.old words.new }
     ensures room { AllZero keys.old keys.new rows.old rows.new spare.old spare.new counts.old
@@ -150,7 +144,7 @@ fn cleared(
 
 // What a call on the words of the grid needs of its working lists.
 fn need(grid: Grid) -> Room
-    requires { check_of grid ≡ Fine }
+    requires { check_of grid ≡ fine }
     ensures { result ≡ grid_need grid }
 {
     let d = grid.d as usize;
@@ -166,14 +160,11 @@ pub fn cell_words(
     rows: &mut [u32],
     spare: &mut [u32],
     counts: &mut [u32],
-) -> Counted
+) -> Result<u32, Refusal>
     ensures { CellWords grid result words.old words.new keys.old keys.new rows.old rows.new spare.old
         spare.new counts.old counts.new }
 {
-    let checked = grid.check();
-    if let Answer::Refused(number, place) = checked {
-        return Counted::Refused(number, place);
-    }
+    grid.check()?;
     let need = need(grid);
     let have = Room {
         keys: keys.len(),
@@ -182,7 +173,7 @@ pub fn cell_words(
         counts: counts.len(),
     };
     if !refusal::has_room(need, have) {
-        return Counted::Refused(TOO_SHORT, 0);
+        return Err(Refusal::TooShort);
     }
     let k = need.keys;
     let r = need.rows;

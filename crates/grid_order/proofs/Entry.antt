@@ -1,4 +1,8 @@
 -- The ways out of `triangulate_ordered`. Assumes nothing.
+use Rattle.refusal.specs.declared.Refusal.{Refusal}
+use Rattle.refusal.specs.declared.Refusal.TheVariants.{TooShort}
+use Rattle.refusal.specs.Says.{fine}
+use Rattle.std.specs.Prelude.{Err, Result}
 use mathlib.Core.List.{List, ◌++◌}
 use mathlib.Core.Path.{◌≡◌, refl, ap, ◌∙◌, subst}
 use Prim.Native.Nat.{ℕ, zero, suc, ◌+◌, ◌-◌, ◌*◌, ◌<◌, ◌≤◌}
@@ -6,9 +10,7 @@ use native.Mathlib.Nat.{suc-mul, mul-le-mul_left, mul-le-mul_right}
 use native.Mathlib.Omega.{arith}
 use lib.ListN.{length, take, drop}
 use lib.Seq.{length-take-le}
-use Rattle.refusal.specs.declared.Answer.TheVariants as Answer
 use Rattle.refusal.specs.declared.Room.{Room}
-use Rattle.refusal.specs.Table.{too_short}
 use Rattle.refusal.specs.Limits.{most_dimension, row_most, many_corners}
 use Rattle.refusal.specs.Lent.{untouched, lengths, Roomy}
 use Rattle.refusal.specs.Call.{Comes, refused, cramped, ended}
@@ -19,7 +21,6 @@ use Rattle.quotient.specs.declared.Grid.{Grid}
 use Rattle.quotient.specs.Shape.{check_of}
 use Rattle.grid_mesh.specs.Words.{corners_of}
 use Rattle.grid_order.specs.declared.Triangulated.{Triangulated}
-use Rattle.grid_order.specs.declared.Triangulated.TheVariants.{Refused}
 use Rattle.grid_order.specs.Promise.{order_room, nothing, Ends, TriangulateOrdered}
 use Rattle.grid_order.specs.Work.{Working, Worked}
 
@@ -42,8 +43,8 @@ pub start_is : (g : Grid) (n : Room) → n ≡ order_room g → n.keys - n.rows 
 start_is g n q = omega (arith, ap (λ (m : Room). m.keys) q, ap (λ (m : Room). m.rows) q)
 
 module _ (g : Grid) (cells order keys rows spare counts : List ℕ) where
-  pub out-refused : (n p : ℕ) → check_of g ≡ Answer.Refused n p → TriangulateOrdered g (Refused n p) cells cells order order keys keys rows rows spare spare counts counts
-  out-refused n p e =
+  pub out-refused : (why : Refusal) → check_of g ≡ Err why → TriangulateOrdered g (Err why) cells cells order order keys keys rows rows spare spare counts counts
+  out-refused why e =
       record {
         handed = nothing;
         used = untouched;
@@ -53,7 +54,7 @@ module _ (g : Grid) (cells order keys rows spare counts : List ℕ) where
         room = record { of_keys = refl; of_rows = refl; of_spare = refl; of_counts = refl };
       }
 
-  pub out-cramped : check_of g ≡ Answer.Fine → (n : Room) → n ≡ order_room g → (Roomy n (lengths keys rows spare counts) → ⊥) → TriangulateOrdered g (Refused too_short 0) cells cells order order keys keys rows rows spare spare counts counts
+  pub out-cramped : check_of g ≡ fine → (n : Room) → n ≡ order_room g → (Roomy n (lengths keys rows spare counts) → ⊥) → TriangulateOrdered g (Err TooShort) cells cells order order keys keys rows rows spare spare counts counts
   out-cramped e n q f =
       record {
         handed = nothing;
@@ -64,7 +65,7 @@ module _ (g : Grid) (cells order keys rows spare counts : List ℕ) where
         room = record { of_keys = refl; of_rows = refl; of_spare = refl; of_counts = refl };
       }
 
-  module _ (e : check_of g ≡ Answer.Fine) (n : Room) (q : n ≡ order_room g) (h : Roomy n (lengths keys rows spare counts)) where
+  module _ (e : check_of g ≡ fine) (n : Room) (q : n ≡ order_room g) (h : Roomy n (lengths keys rows spare counts)) where
     pub working : Working g (n.keys - n.rows - n.rows) (take n.keys keys) (take n.rows rows) (take n.spare spare) (take n.counts counts)
     working =
         record {
@@ -76,13 +77,13 @@ module _ (g : Grid) (cells order keys rows spare counts : List ℕ) where
           counts_long = length-take-le n.counts counts h.in_counts ∙ ap (λ (m : Room). m.counts) q;
         }
 
-    pub out-ended : (r : Triangulated) (cells' order' k o s c : List ℕ) → Worked g r cells cells' order order' → AllZero (take n.keys keys) k (take n.rows rows) o (take n.spare spare) s (take n.counts counts) c →
+    pub out-ended : (r : Result Triangulated Refusal) (cells' order' k o s c : List ℕ) → Worked g r cells cells' order order' → AllZero (take n.keys keys) k (take n.rows rows) o (take n.spare spare) s (take n.counts counts) c →
         TriangulateOrdered g r cells cells' order order' keys (k ++ drop n.keys keys) rows (o ++ drop n.rows rows) spare (s ++ drop n.spare spare) counts (c ++ drop n.counts counts)
     out-ended r cells' order' k o s c w z =
         record {
           handed = w.handed;
           used = n;
-          comes = subst (λ (m : Room). Comes Refused nothing (check_of g) m (lengths keys rows spare counts) (Ends g (length cells) (length order)) r w.handed n) q (ended e h w.ends);
+          comes = subst (λ (m : Room). Comes Err nothing (check_of g) m (lengths keys rows spare counts) (Ends g (length cells) (length order)) r w.handed n) q (ended e h w.ends);
           the_cells = w.the_cells;
           the_order = w.the_order;
           room = parts-cleared n keys k rows o spare s counts c h z;

@@ -1,4 +1,7 @@
 -- The work of `triangulate_ordered` in its working lists, from the first call to the end. Assumes nothing.
+use Rattle.refusal.specs.declared.Refusal.{Refusal}
+use Rattle.refusal.specs.declared.Refusal.TheVariants.{CrowdedFacet}
+use Rattle.std.specs.Prelude.{Err, Ok, Result}
 use mathlib.Core.Bool.{Bool, true, false}
 use mathlib.Core.List.{List, [], ◌∷◌, ◌++◌, append-nil}
 use mathlib.Core.Path.{◌≡◌, refl, sym, ap, ◌∙◌, subst}
@@ -9,7 +12,6 @@ use native.Mathlib.Omega.{arith}
 use lib.ListN.{length, get_or, take, drop, length-append, length-drop, drop_of_length-le}
 use lib.Seq.{length-take-le, take_at, drop_at, drop-drop, take_all, get_or-take, get_or-drop}
 use Rattle.refusal.specs.Limits.{row_most, many_corners}
-use Rattle.refusal.specs.Table.{crowded_facet}
 use Rattle.lists.specs.Rows.{cut, rows, flat, row}
 use Rattle.lists.proofs.Flat.{flat-cut}
 use Rattle.lists.proofs.Rows.{cut-length, cut_at}
@@ -41,7 +43,7 @@ use Rattle.ordering.specs.WorkAgree.{Agreeing}
 use Rattle.ordering_words.proofs.Lists.{cut-front, front_at}
 use Rattle.ordering_words.proofs.Orders.{word-found, by-cell-at, by-cell-rows}
 use Rattle.grid_order.specs.declared.Triangulated.{Triangulated}
-use Rattle.grid_order.specs.declared.Triangulated.TheVariants.{Ordered, Unordered, Refused}
+use Rattle.grid_order.specs.declared.Triangulated.TheVariants.{Ordered, Unordered}
 use Rattle.grid_order.specs.Promise.{own_words, words_by_cell, cells_length, HandsOut, Handed, nothing, Ends}
 use Rattle.grid_order.specs.Promise.Ends.{crowded, short as ends-short, short_order as ends-short-order, ordered as ends-ordered, unordered as ends-unordered}
 use Rattle.grid_order.specs.Work.{Laying, Laid, Decided, Handing, Out, HandedOut, Working, Worked}
@@ -82,16 +84,16 @@ cell-has g c h =
 
 -- what is handed out is the end
 module _ (g : Grid) (free : Crowded g.d (glued_cells g) → ⊥) (size m : ℕ) (list : List ℕ) (many : length (glued_cells g) ≡ m) (long : size ≡ cells_length g) (cells_are : take size (drop size list) ≡ flat (glued_cells g)) (words_are : take size list ≡ flat (words_by_cell g)) where
-  ended : (cells order : ℕ) (b : Bool) (r : Triangulated) (h : Handed) → (b ≡ true → HandsOut g) → (b ≡ false → HandsOut g → ⊥) → Out size m list cells order b r h → Ends g cells order r h
+  ended : (cells order : ℕ) (b : Bool) (r : Result Triangulated Refusal) (h : Handed) → (b ≡ true → HandsOut g) → (b ≡ false → HandsOut g → ⊥) → Out size m list cells order b r h → Ends g cells order r h
   ended cells order b r h given never (short x) = ends-short free (omega (arith, long))
   ended cells order b r h given never (short_order x) = ends-short-order free (given refl) (omega (arith, long))
   ended cells order b r h given never (ordered x y) =
-      subst (λ (l : List ℕ). Ends g cells order (Ordered m) (record { cells = take size (drop size list); order = l })) (sym words_are)
-      (subst (λ (l : List ℕ). Ends g cells order (Ordered m) (record { cells = l; order = flat (words_by_cell g) })) (sym cells_are)
-      (subst (λ (n : ℕ). Ends g cells order (Ordered n) (record { cells = flat (glued_cells g); order = flat (words_by_cell g) })) many (ends-ordered free (given refl) (omega (arith, long)) (omega (arith, long)))))
+      subst (λ (l : List ℕ). Ends g cells order (Ok (Ordered m)) (record { cells = take size (drop size list); order = l })) (sym words_are)
+      (subst (λ (l : List ℕ). Ends g cells order (Ok (Ordered m)) (record { cells = l; order = flat (words_by_cell g) })) (sym cells_are)
+      (subst (λ (n : ℕ). Ends g cells order (Ok (Ordered n)) (record { cells = flat (glued_cells g); order = flat (words_by_cell g) })) many (ends-ordered free (given refl) (omega (arith, long)) (omega (arith, long)))))
   ended cells order b r h given never (unordered x) =
-      subst (λ (l : List ℕ). Ends g cells order (Unordered m) (record { cells = l; order = [] })) (sym cells_are)
-      (subst (λ (n : ℕ). Ends g cells order (Unordered n) (record { cells = flat (glued_cells g); order = [] })) many (ends-unordered free (never refl) (omega (arith, long))))
+      subst (λ (l : List ℕ). Ends g cells order (Ok (Unordered m)) (record { cells = l; order = [] })) (sym cells_are)
+      (subst (λ (n : ℕ). Ends g cells order (Ok (Unordered n)) (record { cells = flat (glued_cells g); order = [] })) many (ends-unordered free (never refl) (omega (arith, long))))
 
 module _ (g : Grid) (at : ℕ) (keys rows₀ spare counts : List ℕ) (w : Working g at keys rows₀ spare counts) where
   pub finding : Finding g keys rows₀ spare counts
@@ -140,7 +142,7 @@ module _ (g : Grid) (at : ℕ) (keys rows₀ spare counts : List ℕ) (w : Worki
           m front rows₂ spare₁ counts₂ refl refl refl refl a₂ len e
 
       -- 7
-      pub worked-crowded : (cells order : List ℕ) → Crowded g.d (cut (suc g.d) m rows₂) → Worked g (Refused crowded_facet 0) cells cells order order
+      pub worked-crowded : (cells order : List ℕ) → Crowded g.d (cut (suc g.d) m rows₂) → Worked g (Err CrowdedFacet) cells cells order order
       worked-crowded cells order x = record { handed = nothing; ends = crowded (subst (λ (cs : List (List ℕ)). Crowded g.d cs) a₂.same x); the_cells = refl; the_order = refl }
 
       pub free : (mates : List ℕ) → MateTable g.d (cut (suc g.d) m rows₂) mates → Crowded g.d (glued_cells g) → ⊥
@@ -304,7 +306,7 @@ module _ (g : Grid) (at : ℕ) (keys rows₀ spare counts : List ℕ) (w : Worki
             list-cells : take (m * (g.d + 1)) (drop (m * (g.d + 1)) list) ≡ flat (glued_cells g)
             list-cells = ap (λ (l : List ℕ). take (m * (g.d + 1)) (drop (m * (g.d + 1)) l)) el ∙ ap (λ (i : ℕ). take i (drop i ys)) size-code ∙ cells-flat
 
-            pub worked-out : (r : Triangulated) (cells cells' order order' : List ℕ) → HandedOut (m * (g.d + 1)) m list o r cells cells' order order' → Worked g r cells cells' order order'
+            pub worked-out : (r : Result Triangulated Refusal) (cells cells' order order' : List ℕ) → HandedOut (m * (g.d + 1)) m list o r cells cells' order order' → Worked g r cells cells' order order'
             worked-out r cells cells' order order' z =
                 record {
                   handed = z.handed;

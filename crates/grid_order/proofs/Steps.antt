@@ -1,4 +1,7 @@
 -- The work of `triangulate_ordered`, step by step: what each call asks follows from what the calls before it gave. Assumes nothing.
+use Rattle.refusal.specs.declared.Refusal.TheVariants.{TooShort}
+use Rattle.refusal.specs.Says.{fine}
+use Rattle.std.specs.Prelude.{Err, Ok}
 use mathlib.Core.Bool.{Bool, true, false}
 use mathlib.Core.List.{List, [], ◌++◌}
 use mathlib.Core.Path.{◌≡◌, refl, sym, ap, ◌∙◌, subst}
@@ -8,9 +11,7 @@ use native.Mathlib.Numerals.{add-one}
 use native.Mathlib.Omega.{arith}
 use lib.ListN.{length, get_or, take, drop, length-append, length-drop}
 use lib.Seq.{length-take-le, take_at, drop_at}
-use Rattle.refusal.specs.declared.Answer.TheVariants.{Fine}
 use Rattle.refusal.specs.Limits.{many_corners}
-use Rattle.refusal.specs.Table.{too_short}
 use Rattle.refusal.specs.Lent.{onto}
 use Rattle.lists.specs.Rows.{row}
 use Rattle.lists.proofs.Rows.{cut-length, cut_at, row-cell-below}
@@ -32,14 +33,14 @@ use Rattle.lists.specs.Words.{without, none}
 use Rattle.ordering_words.specs.Order.{word_of, AgreeOnFacets}
 use Rattle.ordering.specs.WorkAgree.{row_word, AgreesAt, Clash}
 use Rattle.ordering_words.proofs.Orders.{word_first}
-use Rattle.grid_order.specs.declared.Triangulated.TheVariants.{Ordered, Unordered, Refused}
+use Rattle.grid_order.specs.declared.Triangulated.TheVariants.{Ordered, Unordered}
 use Rattle.grid_order.specs.Promise.{own_words, nothing}
 use Rattle.grid_order.specs.Work.{Laying, Laid, Decided, Handing, short, short_order, ordered, unordered, HandedOut}
 
 -- ---- each cell's first word is the one whose number was found
-module _ (g : Grid) (fine : check_of g ≡ Fine) (m : ℕ) (rows₀ reps : List ℕ) (f : Found g m rows₀ reps) where
+module _ (g : Grid) (taken : check_of g ≡ fine) (m : ℕ) (rows₀ reps : List ℕ) (f : Found g m rows₀ reps) where
   words_are : length (flat_words g) / suc g.d ≡ cell_count g
-  words_are = subst (λ (n : ℕ). length (flat_words g) / n ≡ cell_count g) (add-one g.d) (words_count g fine)
+  words_are = subst (λ (n : ℕ). length (flat_words g) / n ≡ cell_count g) (add-one g.d) (words_count g taken)
 
   pub first_word : (c : ℕ) → c < m → word_of (own_words g) (cell_at (glued_cells g) c) ≡ row (flat_words g) (suc g.d) (get_or reps c 0)
   first_word c h =
@@ -173,18 +174,18 @@ module _ (size m : ℕ) (list : List ℕ) (w : Handing size m list) (cells order
       let a : take (size + size - size) (drop size list) ≡ take size (drop size list) = rw (add-sub_cancel_left size size) in
       laid_on p (take size (drop size list)) cells (e ∙ a) (ap length (sym a) ∙ part-long)
 
-  pub out-short : (b : Bool) → length cells < size → HandedOut size m list b (Refused too_short 0) cells cells order order
+  pub out-short : (b : Bool) → length cells < size → HandedOut size m list b (Err TooShort) cells cells order order
   out-short b h = record { handed = nothing; out = short h; the_cells = refl; the_order = refl }
 
-  pub out-short-order : (b : Bool) → b ≡ true → length order < size → HandedOut size m list b (Refused too_short 0) cells cells order order
-  out-short-order b e h = subst (λ (t : Bool). HandedOut size m list t (Refused too_short 0) cells cells order order) (sym e) (record { handed = nothing; out = short_order h; the_cells = refl; the_order = refl })
+  pub out-short-order : (b : Bool) → b ≡ true → length order < size → HandedOut size m list b (Err TooShort) cells cells order order
+  out-short-order b e h = subst (λ (t : Bool). HandedOut size m list t (Err TooShort) cells cells order order) (sym e) (record { handed = nothing; out = short_order h; the_cells = refl; the_order = refl })
 
-  pub out-unordered : (b : Bool) → b ≡ false → size ≤ length cells → (p : List ℕ) → p ≡ take (size + size - size) (drop size list) → HandedOut size m list b (Unordered m) cells (p ++ drop size cells) order order
+  pub out-unordered : (b : Bool) → b ≡ false → size ≤ length cells → (p : List ℕ) → p ≡ take (size + size - size) (drop size list) → HandedOut size m list b (Ok (Unordered m)) cells (p ++ drop size cells) order order
   out-unordered b e h p f =
-      subst (λ (t : Bool). HandedOut size m list t (Unordered m) cells (p ++ drop size cells) order order) (sym e)
+      subst (λ (t : Bool). HandedOut size m list t (Ok (Unordered m)) cells (p ++ drop size cells) order order) (sym e)
       (record { handed = record { cells = take size (drop size list); order = [] }; out = unordered h; the_cells = cells-part p f; the_order = refl })
 
-  pub out-ordered : (b : Bool) → b ≡ true → size ≤ length cells → size ≤ length order → (p q : List ℕ) → p ≡ take (size + size - size) (drop size list) → q ≡ take size list → HandedOut size m list b (Ordered m) cells (p ++ drop size cells) order (q ++ drop size order)
+  pub out-ordered : (b : Bool) → b ≡ true → size ≤ length cells → size ≤ length order → (p q : List ℕ) → p ≡ take (size + size - size) (drop size list) → q ≡ take size list → HandedOut size m list b (Ok (Ordered m)) cells (p ++ drop size cells) order (q ++ drop size order)
   out-ordered b e h k p q f j =
-      subst (λ (t : Bool). HandedOut size m list t (Ordered m) cells (p ++ drop size cells) order (q ++ drop size order)) (sym e)
+      subst (λ (t : Bool). HandedOut size m list t (Ok (Ordered m)) cells (p ++ drop size cells) order (q ++ drop size order)) (sym e)
       (record { handed = record { cells = take size (drop size list); order = take size list }; out = ordered h k; the_cells = cells-part p f; the_order = laid_on q (take size list) order j (length-take-le size list front_fits) })

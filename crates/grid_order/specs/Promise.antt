@@ -1,7 +1,8 @@
 -- What the call `triangulate_ordered` comes to, on every input. Assumes nothing.
-use Rattle.std.specs.Prelude.{List, [], ◌≡◌, ℕ, suc, ◌+◌, ◌*◌, ◌<◌, ◌≤◌, length}
+use Rattle.refusal.specs.declared.Refusal.{Refusal}
+use Rattle.refusal.specs.declared.Refusal.TheVariants.{CrowdedFacet, TooShort}
+use Rattle.std.specs.Prelude.{Err, Ok, Result, List, [], ◌≡◌, ℕ, suc, ◌+◌, ◌*◌, ◌<◌, ◌≤◌, length}
 use Rattle.refusal.specs.declared.Room.{Room}
-use Rattle.refusal.specs.Table.{crowded_facet, too_short}
 use Rattle.refusal.specs.Lent.{onto, lengths, Cleared}
 use Rattle.refusal.specs.Call.{Comes}
 use Rattle.lists.specs.Rows.{rows, flat}
@@ -13,7 +14,7 @@ use Rattle.grid_words.specs.Cells.{flat_words}
 use Rattle.grid_mesh.specs.Words.{glued_cells, corners_of}
 use Rattle.ordering_words.specs.Order.{IsOrder, AgreeOnFacets, by_cell}
 use Rattle.grid_order.specs.declared.Triangulated.{Triangulated}
-use Rattle.grid_order.specs.declared.Triangulated.TheVariants.{Ordered, Unordered, Refused}
+use Rattle.grid_order.specs.declared.Triangulated.TheVariants.{Ordered, Unordered}
 
 -- the grid's words, and the same by cell: the first word that sorts to each cell
 abbrev pub own_words : Grid → List (List ℕ)
@@ -47,23 +48,23 @@ abbrev pub nothing : Handed
 nothing = record { cells = []; order = [] }
 
 -- how the call ends, once the grid is checked and there is room: 7, 12, or the cells with an order or without. `cells` and `order` are the lengths of the result lists.
-pub data Ends (g : Grid) (cells order : ℕ) : Triangulated → Handed → Type 0 where
+pub data Ends (g : Grid) (cells order : ℕ) : Result Triangulated Refusal → Handed → Type 0 where
   -- a facet in three or more cells
-  crowded : Crowded g.d (glued_cells g) → Ends g cells order (Refused crowded_facet 0) nothing
+  crowded : Crowded g.d (glued_cells g) → Ends g cells order (Err CrowdedFacet) nothing
   -- the list of the cells is too short
-  short : (Crowded g.d (glued_cells g) → ⊥) → cells < cells_length g → Ends g cells order (Refused too_short 0) nothing
+  short : (Crowded g.d (glued_cells g) → ⊥) → cells < cells_length g → Ends g cells order (Err TooShort) nothing
   -- an order is to be handed out, and its list is too short
-  short_order : (Crowded g.d (glued_cells g) → ⊥) → HandsOut g → order < cells_length g → Ends g cells order (Refused too_short 0) nothing
+  short_order : (Crowded g.d (glued_cells g) → ⊥) → HandsOut g → order < cells_length g → Ends g cells order (Err TooShort) nothing
   -- the cells and the order
-  ordered : (Crowded g.d (glued_cells g) → ⊥) → HandsOut g → cells_length g ≤ cells → cells_length g ≤ order → Ends g cells order (Ordered (length (glued_cells g))) (record { cells = flat (glued_cells g); order = flat (words_by_cell g) })
+  ordered : (Crowded g.d (glued_cells g) → ⊥) → HandsOut g → cells_length g ≤ cells → cells_length g ≤ order → Ends g cells order (Ok (Ordered (length (glued_cells g)))) (record { cells = flat (glued_cells g); order = flat (words_by_cell g) })
   -- the cells, and no order
-  unordered : (Crowded g.d (glued_cells g) → ⊥) → (HandsOut g → ⊥) → cells_length g ≤ cells → Ends g cells order (Unordered (length (glued_cells g))) (record { cells = flat (glued_cells g); order = [] })
+  unordered : (Crowded g.d (glued_cells g) → ⊥) → (HandsOut g → ⊥) → cells_length g ≤ cells → Ends g cells order (Ok (Unordered (length (glued_cells g)))) (record { cells = flat (glued_cells g); order = [] })
 
 -- the promise: r is what the call says, and a list with ' is what it holds at exit
-pub record TriangulateOrdered (g : Grid) (r : Triangulated) (cells cells' order order' keys keys' rows rows' spare spare' counts counts' : List ℕ) : Type 0 where
+pub record TriangulateOrdered (g : Grid) (r : Result Triangulated Refusal) (cells cells' order order' keys keys' rows rows' spare spare' counts counts' : List ℕ) : Type 0 where
   pub handed : Handed
   pub used : Room
-  pub comes : Comes Refused nothing (check_of g) (order_room g) (lengths keys rows spare counts) (Ends g (length cells) (length order)) r handed used
+  pub comes : Comes Err nothing (check_of g) (order_room g) (lengths keys rows spare counts) (Ends g (length cells) (length order)) r handed used
   pub the_cells : cells' ≡ onto handed.cells cells
   pub the_order : order' ≡ onto handed.order order
   pub room : Cleared used keys keys' rows rows' spare spare' counts counts'

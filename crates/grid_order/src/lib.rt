@@ -11,7 +11,7 @@
 #![tactic(auto)]
 
 ghost use Rattle.std.specs.Prelude.{◌≡◌};
-ghost use Rattle.refusal.specs.declared.Answer.TheVariants.{Fine};
+ghost use Rattle.refusal.specs.Says.{fine};
 ghost use Rattle.lists.specs.Zero.{AllZero};
 ghost use Rattle.quotient.specs.Shape.{check_of};
 ghost use Rattle.grid_order.specs.Promise.{order_room, TriangulateOrdered};
@@ -19,14 +19,13 @@ ghost use Rattle.grid_order.specs.Work.{Laying, Laid, Decided, Handing, HandedOu
 ghost use Rattle.ordering.specs.WorkAgree.{Agreeing};
 
 use quotient::Grid;
-use refusal::{Answer, CROWDED_FACET, Room, TOO_SHORT};
+use refusal::{Refusal, Room};
 
 // What `triangulate_ordered` says: how many cells there are, and whether an order is handed out with them.
-#[derive(Clone, Copy)]
+#[derive(Clone, Copy, Debug, PartialEq, Eq)]
 pub enum Triangulated {
     Ordered(u32),
     Unordered(u32),
-    Refused(u32, u32),
 }
 
 // Writes the words by cell to `list`, and behind them the cells. The cells stay in `rows`; the vertex of each point goes to `table`.
@@ -44,10 +43,10 @@ fn lay_out(
     let n = grid.d as usize + 1;
     let size = m * n;
     let end = size + size;
-    lists::copy(&rows[..size], &mut list[size..end]);
+    list[size..end].copy_from_slice(&rows[..size]);
     grid_words::write_words(grid, rows, table);
     sorting::gather(rows, n, spare, m, list);
-    lists::copy(&list[size..end], &mut rows[..size]);
+    rows[..size].copy_from_slice(&list[size..end]);
 }
 
 // Whether the words are an order that agrees on every facet of two cells: as many cells as words, and no clash by the table of mates.
@@ -69,24 +68,24 @@ fn hand_out(
     list: &[u32],
     cells: &mut [u32],
     order: &mut [u32],
-) -> Triangulated
+) -> Result<Triangulated, Refusal>
     requires { Handing size m list.now }
     ensures { HandedOut size m list.now ordered result cells.old cells.new order.old order.new }
 {
     if cells.len() < size {
-        return Triangulated::Refused(TOO_SHORT, 0);
+        return Err(Refusal::TooShort);
     }
     let end = size + size;
     if !ordered {
-        lists::copy(&list[size..end], &mut cells[..size]);
-        return Triangulated::Unordered(m as u32);
+        cells[..size].copy_from_slice(&list[size..end]);
+        return Ok(Triangulated::Unordered(m as u32));
     }
     if order.len() < size {
-        return Triangulated::Refused(TOO_SHORT, 0);
+        return Err(Refusal::TooShort);
     }
-    lists::copy(&list[size..end], &mut cells[..size]);
-    lists::copy(&list[..size], &mut order[..size]);
-    Triangulated::Ordered(m as u32)
+    cells[..size].copy_from_slice(&list[size..end]);
+    order[..size].copy_from_slice(&list[..size]);
+    Ok(Triangulated::Ordered(m as u32))
 }
 
 // The work of `triangulate_ordered`, in working lists of just the sizes that are needed.
@@ -99,7 +98,7 @@ fn work(
     rows: &mut [u32],
     spare: &mut [u32],
     counts: &mut [u32],
-) -> Triangulated
+) -> Result<Triangulated, Refusal>
     requires { Working grid at keys.old rows.old spare.old counts.old }
     ensures { Worked grid result cells.old cells.new order.old order.new }
 {
@@ -108,7 +107,7 @@ fn work(
     lay_out(grid, m, &mut keys[at..], rows, spare, counts);
     let count = grid_words::cells(grid);
     if !complex_mates::mates(d, m, count * (d + 1), &mut keys[..at], rows, spare, counts) {
-        return Triangulated::Refused(CROWDED_FACET, 0);
+        return Err(Refusal::CrowdedFacet);
     }
     let ordered = decide(d, m, count, rows, &keys[at..]);
     hand_out(m * (d + 1), m, ordered, &keys[at..], cells, order)
@@ -124,7 +123,7 @@ fn cleared(
     rows: &mut [u32],
     spare: &mut [u32],
     counts: &mut [u32],
-) -> Triangulated
+) -> Result<Triangulated, Refusal>
     requires { Working grid at keys.old rows.old spare.old counts.old }
     ensures work { Worked grid result cells.old cells.new order.old order.new }
     ensures room { AllZero keys.old keys.new rows.old rows.new spare.old spare.new counts.old
@@ -137,7 +136,7 @@ fn cleared(
 
 // What the call needs of its working lists.
 fn need(grid: Grid) -> Room
-    requires { check_of grid ≡ Fine }
+    requires { check_of grid ≡ fine }
     ensures { result ≡ order_room grid }
 {
     let d = grid.d as usize;
@@ -162,14 +161,11 @@ pub fn triangulate_ordered(
     rows: &mut [u32],
     spare: &mut [u32],
     counts: &mut [u32],
-) -> Triangulated
+) -> Result<Triangulated, Refusal>
     ensures { TriangulateOrdered grid result cells.old cells.new order.old order.new keys.old keys.new
         rows.old rows.new spare.old spare.new counts.old counts.new }
 {
-    let checked = grid.check();
-    if let Answer::Refused(number, place) = checked {
-        return Triangulated::Refused(number, place);
-    }
+    grid.check()?;
     let need = need(grid);
     let have = Room {
         keys: keys.len(),
@@ -178,7 +174,7 @@ pub fn triangulate_ordered(
         counts: counts.len(),
     };
     if !refusal::has_room(need, have) {
-        return Triangulated::Refused(TOO_SHORT, 0);
+        return Err(Refusal::TooShort);
     }
     let k = need.keys;
     let r = need.rows;

@@ -1,5 +1,5 @@
 -- A side's share of the longest: extent / longest * n, for an extent that is at most the longest, rounds to no more than n. Assumes nothing.
-use Rattle.std.proofs.Common.{◌≡◌, ℕ, zero, suc, ◌+◌, ◌-◌, ◌*◌, ◌/◌, ◌^◌, ◌<◌, ◌≤◌, min, true, false, T, pos, negsuc, sym, refl, ap, ◌∙◌, subst, le_trans, le_of_eq, le_refl, mul-le-mul_right, zero-lt-suc, mul_comm, div-lt_iff_lt-mul, add-mul, mul-le-mul, mul-le-mul_left, mul-pos, one-mul, mul-zero, zero-mul, mul-one, mul_left_comm, arith, lit<}
+use Rattle.std.proofs.Common.{◌≡◌, ℕ, zero, suc, ◌+◌, ◌*◌, ◌/◌, ◌^◌, ◌<◌, ◌≤◌, min, true, false, T, pos, negsuc, sym, refl, ap, ◌∙◌, subst, le_trans, le_of_eq, le_refl, mul-le-mul_right, zero-lt-suc, mul_comm, div-lt_iff_lt-mul, add-mul, mul-le-mul, mul-le-mul_left, mul-pos, one-mul, mul-zero, zero-mul, mul-one, mul_left_comm, arith, lit<}
 use native.Mathlib.Nat.{mul-mul-mul_comm, min-le_left}
 use lib.Dec.{eqb-suc-zero}
 use lib.Count.{count_trailing_zeros}

@@ -159,12 +159,10 @@ impl Sides {
     pub fn bad_side(self, d: u32) -> u32
         ensures { result ≡ first_bad self d }
     {
-        let mut i = 0u32;
-        while i < d {
+        for i in 0..d {
             if self.refuses(i) {
                 return i;
             }
-            i += 1;
         }
         d
     }
@@ -174,10 +172,8 @@ impl Sides {
         ensures { result ≡ longest_of self d }
     {
         let mut x = self.side(0);
-        let mut i = 1u32;
-        while i < d {
+        for i in 1..d {
             x = larger(x, self.side(i));
-            i += 1;
         }
         x
     }
@@ -187,10 +183,8 @@ impl Sides {
         ensures { result ≡ length_sq self step d }
     {
         let mut x = square(step.along(0), self.side(0));
-        let mut i = 1u32;
-        while i < d {
-            x = x + square(step.along(i), self.side(i));
-            i += 1;
+        for i in 1..d {
+            x += square(step.along(i), self.side(i));
         }
         x
     }

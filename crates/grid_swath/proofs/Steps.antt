@@ -1,4 +1,8 @@
 -- One more point reduced, and the ways out of the call. Assumes nothing.
+use Rattle.refusal.specs.declared.Refusal.{Refusal}
+use Rattle.refusal.specs.declared.Refusal.TheVariants.{TooShort}
+use Rattle.refusal.specs.Says.{Answer, fine}
+use Rattle.std.specs.Prelude.{Err}
 use mathlib.Core.List.{List, [], ◌∷◌, ◌++◌, map, map-append}
 use mathlib.Core.Path.{◌≡◌, refl, sym, ap, ◌∙◌}
 use Prim.Native.Nat.{ℕ, ◌+◌, ◌≤◌, ◌<◌}
@@ -8,11 +12,8 @@ use lib.ListN.{length, get_or, take, drop, set, length-map}
 use lib.Seq.{length-take-le}
 use borrow.Author.Tests.{lt-ltb, le-ltb}
 use Rattle.lists.proofs.Front.{put, take_more}
-use Rattle.refusal.specs.declared.Answer.{Answer}
-use Rattle.refusal.specs.declared.Answer.TheVariants.{Fine, Refused}
 use Rattle.refusal.specs.Lent.{onto}
 use Rattle.refusal.specs.Refuse.{refuse}
-use Rattle.refusal.specs.Table.{too_short}
 use Rattle.quotient.specs.declared.Grid.{Grid}
 use Rattle.quotient.specs.Shape.{check_of}
 use Rattle.quotient.specs.Reduce.{vertex_of}
@@ -32,19 +33,19 @@ module _ (g : Grid) (ps glued : List ℕ) where
   ends : (r : Answer) (l : List ℕ) → swath_says g ps (length glued) ≡ r → l ≡ onto (unrefused r (swath_of g ps)) glued → Ends g ps glued r l
   ends r l e h = (sym e, h ∙ ap (λ (a : Answer). onto (unrefused a (swath_of g ps)) glued) (sym e))
 
-  pub out-refused : (n p : ℕ) → check_of g ≡ Refused n p → Ends g ps glued (Refused n p) glued
-  out-refused n p e = ends (Refused n p) glued (ap (λ (a : Answer). after a (refuse (ltb (length glued) (length ps)) too_short 0 Fine)) e) refl
+  pub out-refused : (why : Refusal) → check_of g ≡ Err why → Ends g ps glued (Err why) glued
+  out-refused why e = ends (Err why) glued (ap (λ (a : Answer). after a (refuse (ltb (length glued) (length ps)) TooShort fine)) e) refl
 
-  pub says-short : check_of g ≡ Fine → length glued < length ps → swath_says g ps (length glued) ≡ Refused too_short 0
+  pub says-short : check_of g ≡ fine → length glued < length ps → swath_says g ps (length glued) ≡ Err TooShort
   says-short e h = rw (e, lt-ltb _ _ h)
 
-  pub says-fine : check_of g ≡ Fine → length ps ≤ length glued → swath_says g ps (length glued) ≡ Fine
+  pub says-fine : check_of g ≡ fine → length ps ≤ length glued → swath_says g ps (length glued) ≡ fine
   says-fine e h = rw (e, le-ltb _ _ h)
 
-  pub out-short : check_of g ≡ Fine → length glued < length ps → Ends g ps glued (Refused too_short 0) glued
-  out-short e h = ends (Refused too_short 0) glued (says-short e h) refl
+  pub out-short : check_of g ≡ fine → length glued < length ps → Ends g ps glued (Err TooShort) glued
+  out-short e h = ends (Err TooShort) glued (says-short e h) refl
 
-  pub out-reduced : check_of g ≡ Fine → length ps ≤ length glued → (part : List ℕ) → part ≡ swath_of g ps → Ends g ps glued Fine (part ++ drop (length ps) glued)
+  pub out-reduced : check_of g ≡ fine → length ps ≤ length glued → (part : List ℕ) → part ≡ swath_of g ps → Ends g ps glued fine (part ++ drop (length ps) glued)
   out-reduced e h part q =
-      ends Fine (part ++ drop (length ps) glued) (says-fine e h)
+      ends fine (part ++ drop (length ps) glued) (says-fine e h)
       (ap (λ (l : List ℕ). l ++ drop (length ps) glued) q ∙ ap (λ (n : ℕ). swath_of g ps ++ drop n glued) (sym (length-map ps (vertex_of g))))

@@ -1,7 +1,8 @@
 -- The corners of a cell: each is one step further than the one before it, and all are corners of one box. Assumes nothing.
+use Rattle.refusal.specs.Says.{fine}
 use mathlib.Core.Path.{◌≡◌, refl, sym, ap, subst, ◌∙◌}
 use mathlib.Core.Bool.{Bool, true, false, cond}
-use mathlib.Core.Logic.{◌⊎◌, ⊎_elim}
+use mathlib.Core.Logic.{⊎_elim}
 use mathlib.Core.List.{List, [], ◌∷◌}
 use Prim.Native.Nat.{ℕ, zero, suc, ◌+◌, ◌-◌, ◌*◌, ◌/◌, ◌%◌, ◌≤◌, ◌<◌, suc-le-suc}
 use native.Mathlib.Nat.{mod-lt, mul-suc, one-mul, mul_comm, mul_assoc, le_trans, mul-le-mul_left, mul-le-mul_right, le_refl, le_of_suc-le-suc, div-div-eq-div-mul}
@@ -10,7 +11,6 @@ use native.Mathlib.Omega.{arith}
 use lib.Dec.{eqb, ltb}
 use lib.ListN.{length, get_or, take}
 use borrow.Author.Tests.{eqb-true, ltb-true, ltb-false}
-use Rattle.refusal.specs.declared.Answer.TheVariants.{Fine}
 use Rattle.refusal.specs.Limits.{most_cells}
 use Rattle.lists.specs.Words.{same}
 use Rattle.multiindex.specs.Permutation.{orders, order_of}
@@ -130,12 +130,12 @@ doubled zero = 1
 doubled (suc k) = 2 * doubled k
 
 -- ---- a grid that is taken
-module _ (g : Grid) (fine : check_of g ≡ Fine) where
+module _ (g : Grid) (taken : check_of g ≡ fine) where
   pub dim : g.d ≤ 3
-  dim = taken-high g fine
+  dim = taken-high g taken
 
   pub some-cell : (k : ℕ) → k < g.d → 1 ≤ cells_on g k
-  some-cell k l = by_kind (closed_at g k) (cells_on g k) (ltb-false _ _ (enough g fine k l))
+  some-cell k l = by_kind (closed_at g k) (cells_on g k) (ltb-false _ _ (enough g taken k l))
     where
       by_kind : (b : Bool) (n : ℕ) → cond b closed_floor open_floor ≤ n → 1 ≤ n
       by_kind true n h = omega arith
@@ -145,7 +145,7 @@ module _ (g : Grid) (fine : check_of g ≡ Fine) where
   boxes-few =
       let s : 1 ≤ factorial g.d = rw (orders-factorial g.d dim) at (some-order g.d dim) in
       let m : 1 * boxes_of g ≤ factorial g.d * boxes_of g = mul-le-mul_right (boxes_of g) s in
-      let c : cell_count g ≤ most_cells = taken-cells g fine in
+      let c : cell_count g ≤ most_cells = taken-cells g taken in
       omega (arith, one-mul (boxes_of g))
 
   pub boxes-some : 1 ≤ boxes_of g
@@ -243,20 +243,20 @@ module _ (g : Grid) (fine : check_of g ≡ Fine) where
     -- and have different vertices
     pub corners-apart : (i j : ℕ) → i < j → j ≤ g.d → vertex_of g (corner_of g x i) ≡ vertex_of g (corner_of g x j) → ⊥
     corners-apart i j h l e =
-        let q : corner_of g x i ≡ corner_of g x j = box-one g fine (corner_of g x i) (corner_of g x j) (in-box i j (omega arith) l) e in
+        let q : corner_of g x i ≡ corner_of g x j = box-one g taken (corner_of g x i) (corner_of g x j) (in-box i j (omega arith) l) e in
         omega (arith, corner-rises i j h l)
 
 -- ---- turns of the loops over the axes
-module _ (g : Grid) (fine : check_of g ≡ Fine) where
+module _ (g : Grid) (taken : check_of g ≡ fine) where
   pub boxes-turn : (k p n : ℕ) → k < g.d → p ≡ product (cells_on g) k → n ≡ cells_on g k → (p * n ≡ product (cells_on g) (k + 1)) × (p * n ≤ most_cells)
   boxes-turn k p n h hp hn =
       let e : p * n ≡ product (cells_on g) (k + 1) = product-step (cells_on g) k p n hp hn in
-      (e, rw e (boxes-part g fine (k + 1) (omega arith)))
+      (e, rw e (boxes-part g taken (k + 1) (omega arith)))
 
   pub stride-turn : (k s p : ℕ) → k < g.d → s ≡ product (points_on g) k → p ≡ points_on g k → (s * p ≡ product (points_on g) (k + 1)) × (s * p ≤ 32768)
   stride-turn k s p h hs hp =
       let e : s * p ≡ product (points_on g) (k + 1) = product-step (points_on g) k s p hs hp in
-      (e, rw e (points-few g fine (k + 1) (omega arith)))
+      (e, rw e (points-few g taken (k + 1) (omega arith)))
 
   -- what one axis more adds to the number of a box's origin
   pub origin-more : (b k s x rest n : ℕ) → s ≡ product (points_on g) k → x ≡ from_digits (points_on g) (box_at g b) k → rest ≡ b / product (cells_on g) k → n ≡ cells_on g k →
@@ -267,31 +267,31 @@ module _ (g : Grid) (fine : check_of g ≡ Fine) where
 
   pub origin-room : (k s x rest n p : ℕ) → k < g.d → s ≡ product (points_on g) k → x < s → n ≡ cells_on g k → p ≡ points_on g k → (x + s * (rest % n) < s * p) × (s * p ≤ 32768)
   origin-room k s x rest n p h hs hx hn hp =
-      let m : rest % n < n = mod-lt rest (rw hn (some-cell g fine k h)) in
+      let m : rest % n < n = mod-lt rest (rw hn (some-cell g taken k h)) in
       (place x s (rest % n) p hx (omega arith), (stride-turn k s p h hs hp).1)
 
 -- ---- turns of the loop over the corners of cell x, where n is the number of cells a box has
-module _ (g : Grid) (fine : check_of g ≡ Fine) (x n : ℕ) (e : n ≡ each_box g) where
+module _ (g : Grid) (taken : check_of g ≡ fine) (x n : ℕ) (e : n ≡ each_box g) where
   pub corner-zero : (v : ℕ) → v ≡ point_of g (box_at g (x / n)) → v ≡ corner_of g x 0
   corner-zero v h = h ∙ ap (λ (m : ℕ). point_of g (box_at g (x / m))) e ∙ sym (met-first g (box_at g (x / each_box g)) (order_at g x))
 
   pub some_turn : 0 < n
-  some_turn = rw e (some-order g.d (dim g fine))
+  some_turn = rw e (some-order g.d (dim g taken))
 
   pub turn_below : n - 1 - x % n < length (orders g.d)
   turn_below = omega (arith, some_turn, e)
 
   pub corner-axis : (i a : ℕ) → i < g.d → a ≡ get_or (order_of g.d (n - 1 - x % n)) i 0 → a < g.d
-  corner-axis i a h q = rw q (order_below g.d (n - 1 - x % n) i (dim g fine) turn_below h)
+  corner-axis i a h q = rw q (order_below g.d (n - 1 - x % n) i (dim g taken) turn_below h)
 
   pub corner-turn : (i a s v : ℕ) → i < g.d → a ≡ get_or (order_of g.d (n - 1 - x % n)) i 0 → s ≡ stride_of g a → v ≡ corner_of g x i → (v + s ≡ corner_of g x (i + 1)) × (v + s < 32768)
   corner-turn i a s v h q hs hv =
       let r : a ≡ get_or (order_at g x) i 0 = q ∙ ap (λ (m : ℕ). get_or (order_of g.d (m - 1 - x % m)) i 0) e in
       let t : s ≡ stride_of g (get_or (order_at g x) i 0) = hs ∙ ap (stride_of g) r in
-      let w : v + s ≡ corner_of g x (suc i) = omega (arith, corner-step g fine x i h) in
-      (rw (add-one i) w, omega (arith, corner-lt g fine x (suc i) h, points-few g fine g.d (le_refl g.d)))
+      let w : v + s ≡ corner_of g x (suc i) = omega (arith, corner-step g taken x i h) in
+      (rw (add-one i) w, omega (arith, corner-lt g taken x (suc i) h, points-few g taken g.d (le_refl g.d)))
 
 -- as many cells as orders, in each box
-module _ (g : Grid) (fine : check_of g ≡ Fine) where
+module _ (g : Grid) (taken : check_of g ≡ fine) where
   pub cells-product : (n b : ℕ) → n ≡ each_box g → b ≡ boxes_of g → n * b ≡ cell_count g
-  cells-product n b hn hb = rw (hn, hb, orders-factorial g.d (dim g fine))
+  cells-product n b hn hb = rw (hn, hb, orders-factorial g.d (dim g taken))

@@ -1,4 +1,5 @@
 -- The words of a grid that is taken pass the checks of a cell list: no word names a vertex twice, and no vertex number is left out. Assumes nothing.
+use Rattle.refusal.specs.Says.{fine}
 use mathlib.Core.Path.{◌≡◌, refl, sym, ap, subst, ◌∙◌}
 use mathlib.Core.Bool.{Bool, true, false, ◌||◌}
 use mathlib.Core.Logic.{◌⊎◌, inl, inr}
@@ -12,7 +13,6 @@ use lib.Dec.{eqb}
 use lib.Arith.{digits_div, digits_mod, digits_lt}
 use lib.ListN.{length, get_or, take}
 use borrow.Author.Tests.{eq-eqb, ne_eqb}
-use Rattle.refusal.specs.declared.Answer.TheVariants.{Fine}
 use Rattle.multiindex.specs.Permutation.{orders, order_of}
 use Rattle.lists.specs.Words.{among, has_repeat, largest_of}
 use Rattle.lists.proofs.Members.{Mem, Mem-of, All, All-of, Pairs, Pairs-of}
@@ -114,28 +114,28 @@ reach (suc (suc (suc (suc d)))) e l h b = absurd (let w : ⊥ = omega arith in w
 bit : (x y : ℕ) → x ≤ y → y ≤ x + 1 → Bit (y - x)
 bit x y h l = elim (dec_lt x y) [ yes m ↦ inr (omega arith) | no m ↦ inl (omega arith) ]
 
-module _ (g : Grid) (fine : check_of g ≡ Fine) where
+module _ (g : Grid) (taken : check_of g ≡ fine) where
   -- ---- the flat list by word and place
   pub word_at : (x j : ℕ) → x < cell_count g → j ≤ g.d → get_or (flat_words g) (x * suc g.d + j) 0 ≡ vertex_of g (corner_of g x j)
   word_at x j h l =
       let r : j < suc g.d = omega arith in
-      words-at g fine (x * suc g.d + j) (digits_lt h r)
+      words-at g taken (x * suc g.d + j) (digits_lt h r)
       ∙ ap (λ (n : ℕ). vertex_of g (corner_of g n ((x * suc g.d + j) % suc g.d))) (digits_div x r)
       ∙ ap (λ (n : ℕ). vertex_of g (corner_of g x n)) (digits_mod x r)
 
   -- no number is as large as the number of vertices
   pub words-low : (i : ℕ) → i < length (flat_words g) → get_or (flat_words g) i 0 < vertices_of g
   words-low i h =
-      let b : i < cell_count g * suc g.d = omega (arith, words_long g fine) in
+      let b : i < cell_count g * suc g.d = omega (arith, words_long g taken) in
       let r : i % suc g.d < suc g.d = mod-lt i (omega arith) in
-      rw (words-at g fine i b) (vertex-lt g fine (corner_of g (i / suc g.d) (i % suc g.d)) (corner-lt g fine (i / suc g.d) (i % suc g.d) (omega arith)))
+      rw (words-at g taken i b) (vertex-lt g taken (corner_of g (i / suc g.d) (i % suc g.d)) (corner-lt g taken (i / suc g.d) (i % suc g.d) (omega arith)))
 
   -- ---- 4: no word names a vertex twice
   word_row : (x c : ℕ) → x < cell_count g → c ≤ g.d → get_or (row (flat_words g) (suc g.d) x) c 0 ≡ vertex_of g (corner_of g x c)
   word_row x c h l = row-cell (flat_words g) (suc g.d) x c (omega arith) ∙ word_at x c h l
 
   row_in : (x : ℕ) → x < cell_count g → x * suc g.d + suc g.d ≤ length (flat_words g)
-  row_in x h = omega (arith, words_long g fine, suc-mul x (suc g.d), mul-le-mul_right (suc g.d) h)
+  row_in x h = omega (arith, words_long g taken, suc-mul x (suc g.d), mul-le-mul_right (suc g.d) h)
 
   pub row_apart : (x : ℕ) → x < cell_count g → has_repeat (row (flat_words g) (suc g.d) x) ≡ false
   row_apart x h =
@@ -143,16 +143,16 @@ module _ (g : Grid) (fine : check_of g ≡ Fine) where
       (Pairs-of (λ x y. x ≡ y → ⊥) (row (flat_words g) (suc g.d) x)
       (λ i j l m e.
       let k : j ≤ g.d = omega (arith, row-length (flat_words g) (suc g.d) x (row_in x h)) in
-      corners-apart g fine x i j l k (sym (word_row x i h (omega arith)) ∙ e ∙ word_row x j h k)))
+      corners-apart g taken x i j l k (sym (word_row x i h (omega arith)) ∙ e ∙ word_row x j h k)))
 
   -- ---- 5: every vertex is a corner of a cell
   box_of : (c : ℕ → ℕ) → ((k : ℕ) → k < g.d → c k < cells_on g k) → (k : ℕ) → k < g.d → box_at g (from_digits (cells_on g) c g.d) k ≡ c k
   box_of c h k l =
-      number-one (cells_on g) (digit_of (cells_on g) (from_digits (cells_on g) c g.d)) c g.d (λ i m. digit_lt (cells_on g) (from_digits (cells_on g) c g.d) i (some-cell g fine i m)) h
+      number-one (cells_on g) (digit_of (cells_on g) (from_digits (cells_on g) c g.d)) c g.d (λ i m. digit_lt (cells_on g) (from_digits (cells_on g) c g.d) i (some-cell g taken i m)) h
       (number_digits (cells_on g) (from_digits (cells_on g) c g.d) g.d (number_lt (cells_on g) c g.d h)) k l
 
   cells_count : cell_count g ≡ boxes_of g * each_box g
-  cells_count = rw (orders-factorial g.d (dim g fine)) (mul_comm _ (boxes_of g))
+  cells_count = rw (orders-factorial g.d (dim g taken)) (mul_comm _ (boxes_of g))
 
   -- a corner of a box is a corner of one of its cells
   pub record Met (q : ℕ) : Type 0 where
@@ -167,8 +167,8 @@ module _ (g : Grid) (fine : check_of g ≡ Fine) where
       let n = each_box g in
       let b = from_digits (cells_on g) (coord_at g o) g.d in
       let hb : b < boxes_of g = number_lt (cells_on g) (coord_at g o) g.d begins in
-      let r = reach g.d (λ k. coord_at g q k - coord_at g o k) (taken-low g fine) (dim g fine) (λ k l. bit (coord_at g o k) (coord_at g q k) (box.rising k l) (box.near k l)) in
-      let s : n - 1 - r.turn < n = let z : 0 < n = some-order g.d (dim g fine) in omega arith in
+      let r = reach g.d (λ k. coord_at g q k - coord_at g o k) (taken-low g taken) (dim g taken) (λ k l. bit (coord_at g o k) (coord_at g q k) (box.rising k l) (box.near k l)) in
+      let s : n - 1 - r.turn < n = let z : 0 < n = some-order g.d (dim g taken) in omega arith in
       let x = b * n + (n - 1 - r.turn) in
       let ex : x / n ≡ b = digits_div b s in
       let et : n - 1 - x % n ≡ r.turn = let w : x % n ≡ n - 1 - r.turn = digits_mod b s in let i : r.turn < n = r.turn_in in omega arith in
@@ -178,8 +178,8 @@ module _ (g : Grid) (fine : check_of g ≡ Fine) where
         cell_in = rw cells_count (digits_lt hb s);
         place_in = r.steps-in;
         is =
-            corner-point g fine x r.steps r.steps-in
-            ∙ number_same (points_on g) (at g fine x r.steps) (coord_at g q) g.d
+            corner-point g taken x r.steps r.steps-in
+            ∙ number_same (points_on g) (at g taken x r.steps) (coord_at g q) g.d
             (λ k l.
             let u : times_in k (take r.steps (order_at g x)) ≡ coord_at g q k - coord_at g o k = ap (λ (t : ℕ). times_in k (take r.steps (order_of g.d t))) et ∙ r.reached k l in
             let v : box_at g (x / n) k ≡ coord_at g o k = ap (λ (y : ℕ). box_at g y k) ex ∙ box_of (coord_at g o) begins k l in
@@ -190,42 +190,42 @@ module _ (g : Grid) (fine : check_of g ≡ Fine) where
 
   pub words-all : (v : ℕ) → v < vertices_of g → among v (flat_words g) ≡ true
   words-all v h =
-      let c = every-corner g fine v h in
+      let c = every-corner g taken v h in
       let m = meets c.origin c.corner c.box c.begins in
       let e : get_or (flat_words g) (m.cell * suc g.d + m.place) 0 ≡ v = word_at m.cell m.place m.cell_in m.place_in ∙ ap (vertex_of g) m.is ∙ c.vertex in
       let p : m.place < suc g.d = let z : m.place ≤ g.d = m.place_in in omega arith in
-      mem-among v (flat_words g) (subst (λ (u : ℕ). Mem u (flat_words g)) e (Mem-of (flat_words g) (m.cell * suc g.d + m.place) (rw (words_long g fine) (digits_lt m.cell_in p))))
+      mem-among v (flat_words g) (subst (λ (u : ℕ). Mem u (flat_words g)) e (Mem-of (flat_words g) (m.cell * suc g.d + m.place) (rw (words_long g taken) (digits_lt m.cell_in p))))
 
   -- ---- the checks
   pub words_count : length (flat_words g) / (g.d + 1) ≡ cell_count g
   words_count =
-      let e : length (flat_words g) ≡ cell_count g * (g.d + 1) + 0 = omega (arith, words_long g fine, ap (λ (n : ℕ). cell_count g * n) (add-one g.d)) in
+      let e : length (flat_words g) ≡ cell_count g * (g.d + 1) + 0 = omega (arith, words_long g taken, ap (λ (n : ℕ). cell_count g * n) (add-one g.d)) in
       ap (λ (l : ℕ). l / (g.d + 1)) e ∙ digits_div (cell_count g) (omega arith)
 
   words-whole : length (flat_words g) % (g.d + 1) ≡ 0
   words-whole =
-      let e : length (flat_words g) ≡ cell_count g * (g.d + 1) + 0 = omega (arith, words_long g fine, ap (λ (n : ℕ). cell_count g * n) (add-one g.d)) in
+      let e : length (flat_words g) ≡ cell_count g * (g.d + 1) + 0 = omega (arith, words_long g taken, ap (λ (n : ℕ). cell_count g * n) (add-one g.d)) in
       ap (λ (l : ℕ). l % (g.d + 1)) e ∙ digits_mod (cell_count g) (omega arith)
 
   pub some-cells : 1 ≤ cell_count g
   some-cells =
-      let b : from_digits (cells_on g) (λ k. 0) g.d < boxes_of g = number_lt (cells_on g) (λ k. 0) g.d (λ k l. some-cell g fine k l) in
+      let b : from_digits (cells_on g) (λ k. 0) g.d < boxes_of g = number_lt (cells_on g) (λ k. 0) g.d (λ k l. some-cell g taken k l) in
       let c : 1 ≤ boxes_of g = omega arith in
-      rw cells_count (omega (arith, mul-le-mul_right (each_box g) c, some-order g.d (dim g fine)))
+      rw cells_count (omega (arith, mul-le-mul_right (each_box g) c, some-order g.d (dim g taken)))
 
   some-vertex : 0 < vertices_of g
-  some-vertex = let l : get_or (flat_words g) 0 0 < vertices_of g = words-low 0 (omega (arith, words_long g fine, some-cells, mul-suc (cell_count g) g.d)) in omega arith
+  some-vertex = let l : get_or (flat_words g) 0 0 < vertices_of g = words-low 0 (omega (arith, words_long g taken, some-cells, mul-suc (cell_count g) g.d)) in omega arith
 
   -- the words of a grid that is taken pass 1, 2, 3, 4, 6 and 5
   pub words-pass : Passed g.d (flat_words g)
   words-pass =
       let low : largest_of (flat_words g) < vertices_of g = largest-below (vertices_of g) (flat_words g) some-vertex (All-of (λ x. x < vertices_of g) (flat_words g) (λ i h. words-low i h)) in
       record {
-        small = dim g fine;
-        some_words = λ e. omega (arith, words_long g fine, some-cells, mul-suc (cell_count g) g.d);
+        small = dim g taken;
+        some_words = λ e. omega (arith, words_long g taken, some-cells, mul-suc (cell_count g) g.d);
         whole = words-whole;
-        few = rw words_count (taken-cells g fine);
+        few = rw words_count (taken-cells g taken);
         apart = λ k h. subst (λ (n : ℕ). has_repeat (row (flat_words g) n k) ≡ false) (sym (add-one g.d)) (row_apart k (rw words_count at h));
-        low = omega (arith, low, taken-vertices g fine);
+        low = omega (arith, low, taken-vertices g taken);
         used = λ v h. words-all v (omega (arith, low));
       }

@@ -1,7 +1,8 @@
 -- The cells by number are the cells of the grid in colex order: boxes in the order of their numbers have rising last corners, and inside a box the later order comes
 -- first (proofs/Inside). A rising list is determined by its members. Assumes nothing.
+use Rattle.refusal.specs.Says.{fine}
 use mathlib.Core.Path.{◌≡◌, refl, sym, ap, subst, ◌∙◌}
-use mathlib.Core.Logic.{◌⊎◌, inl, ⊎_elim}
+use mathlib.Core.Logic.{inl, ⊎_elim}
 use mathlib.Core.List.{List, [], ◌∷◌, map}
 use Prim.Native.Nat.{ℕ, zero, suc, ◌+◌, ◌-◌, ◌*◌, ◌/◌, ◌%◌, ◌≤◌, ◌<◌}
 use native.Mathlib.Nat.{mul-suc, mul_comm, suc-mul, mul-le-mul_left, mul-le-mul_right, mod-lt, div-add-mod, div-lt_iff_lt-mul, le_refl}
@@ -11,7 +12,6 @@ use lib.Arith.{digits_div, digits_mod}
 use lib.ListN.{length, get_or, take, length-map}
 use lib.Seq.{take_all}
 use borrow.Author.Tests.{le-ltb}
-use Rattle.refusal.specs.declared.Answer.TheVariants.{Fine}
 use Rattle.lists.specs.Rows.{flat}
 use Rattle.lists.proofs.Laws.{map_at}
 use Rattle.lists.specs.Tables.{tab}
@@ -101,18 +101,18 @@ module _ (g : Grid) where
       ap (λ (w : List ℕ). point_of g c ∷ w)
       (met-plain (step_along o c) os a.1 ∙ ap (λ (p : ℕ). plain (stride_of g) p os) (step_after (points_on g) c o g.d a.0))
 
-module _ (g : Grid) (fine : check_of g ≡ Fine) where
+module _ (g : Grid) (taken : check_of g ≡ fine) where
   pub cell-length : (x : ℕ) → length (cell_no g x) ≡ suc g.d
-  cell-length x = met-length g (box_at g (x / each_box g)) (order_at g x) ∙ ap suc (order_long g.d (each_box g - 1 - x % each_box g) (dim g fine) (turn-lt g fine x))
+  cell-length x = met-length g (box_at g (x / each_box g)) (order_at g x) ∙ ap suc (order_long g.d (each_box g - 1 - x % each_box g) (dim g taken) (turn-lt g taken x))
 
   pub cell-rising : (x : ℕ) → Pairs (λ a b. a < b) (cell_no g x)
-  cell-rising x = Pairs-of (λ a b. a < b) (cell_no g x) (λ i j h l. corner-rises g fine x i j h (omega (arith, cell-length x)))
+  cell-rising x = Pairs-of (λ a b. a < b) (cell_no g x) (λ i j h l. corner-rises g taken x i j h (omega (arith, cell-length x)))
 
   some-each : 0 < each_box g
-  some-each = some-order g.d (dim g fine)
+  some-each = some-order g.d (dim g taken)
 
   cells_count : cell_count g ≡ boxes_of g * each_box g
-  cells_count = rw (orders-factorial g.d (dim g fine)) (mul_comm _ (boxes_of g))
+  cells_count = rw (orders-factorial g.d (dim g taken)) (mul_comm _ (boxes_of g))
 
   box-below : (x : ℕ) → x < cell_count g → x / each_box g < boxes_of g
   box-below x h = (div-lt_iff_lt-mul some-each).1 (rw cells_count at h)
@@ -122,29 +122,29 @@ module _ (g : Grid) (fine : check_of g ≡ Fine) where
   unfolding product
   strides-rise k h =
       let s : 1 ≤ product (points_on g) k = product-pos (points_on g) k (λ i. omega arith) in
-      let n : 1 ≤ cells_on g k = some-cell g fine k (omega arith) in
+      let n : 1 ≤ cells_on g k = some-cell g taken k (omega arith) in
       let m : product (points_on g) k * 2 ≤ product (points_on g) k * points_on g k = mul-le-mul_left (product (points_on g) k) (omega arith) in
       omega arith
 
   axes-below : (t : ℕ) → t < each_box g → All (λ a. a < g.d) (order_of g.d t)
-  axes-below t h = All-of (λ a. a < g.d) (order_of g.d t) (λ i l. order_below g.d t i (dim g fine) h (omega (arith, order_long g.d t (dim g fine) h)))
+  axes-below t h = All-of (λ a. a < g.d) (order_of g.d t) (λ i l. order_below g.d t i (dim g taken) h (omega (arith, order_long g.d t (dim g taken) h)))
 
   one-box : (x y : ℕ) → x / each_box g ≡ y / each_box g → x % each_box g < y % each_box g → Colex (suc g.d) (cell_no g x) (cell_no g y)
   one-box x y e h =
       let t = each_box g - 1 - x % each_box g in
       let u = each_box g - 1 - y % each_box g in
       let b : y % each_box g < each_box g = mod-lt y some-each in
-      rw (met-plain g (box_at g (x / each_box g)) (order_of g.d t) (axes-below t (turn-lt g fine x)), met-plain g (box_at g (y / each_box g)) (order_of g.d u) (axes-below u (turn-lt g fine y)), e)
-      (inside-before g.d (stride_of g) (point_of g (box_at g (y / each_box g))) (dim g fine) strides-rise t u (omega arith) (turn-lt g fine x))
+      rw (met-plain g (box_at g (x / each_box g)) (order_of g.d t) (axes-below t (turn-lt g taken x)), met-plain g (box_at g (y / each_box g)) (order_of g.d u) (axes-below u (turn-lt g taken y)), e)
+      (inside-before g.d (stride_of g) (point_of g (box_at g (y / each_box g))) (dim g taken) strides-rise t u (omega arith) (turn-lt g taken x))
 
   -- the last corner has one more on every axis
   last-corner : (x : ℕ) → corner_of g x g.d ≡ point_of g (λ k. box_at g (x / each_box g) k + 1)
   last-corner x =
-      corner-point g fine x g.d (le_refl g.d)
-      ∙ number_same (points_on g) (at g fine x g.d) (λ k. box_at g (x / each_box g) k + 1) g.d
+      corner-point g taken x g.d (le_refl g.d)
+      ∙ number_same (points_on g) (at g taken x g.d) (λ k. box_at g (x / each_box g) k + 1) g.d
       (λ k l.
-      let w : take g.d (order_at g x) ≡ order_at g x = take_all g.d (order_at g x) (omega (arith, order_long g.d (each_box g - 1 - x % each_box g) (dim g fine) (turn-lt g fine x))) in
-      let o : times_in k (take g.d (order_at g x)) ≡ 1 = ap (times_in k) w ∙ order-once g.d (each_box g - 1 - x % each_box g) k (dim g fine) (turn-lt g fine x) l in
+      let w : take g.d (order_at g x) ≡ order_at g x = take_all g.d (order_at g x) (omega (arith, order_long g.d (each_box g - 1 - x % each_box g) (dim g taken) (turn-lt g taken x))) in
+      let o : times_in k (take g.d (order_at g x)) ≡ 1 = ap (times_in k) w ∙ order-once g.d (each_box g - 1 - x % each_box g) k (dim g taken) (turn-lt g taken x) l in
       omega arith)
 
   box-number : (b : ℕ) → b < boxes_of g → from_digits (cells_on g) (box_at g b) g.d ≡ b
@@ -154,7 +154,7 @@ module _ (g : Grid) (fine : check_of g ≡ Fine) where
   later-box x y h l =
       let b : y / each_box g < boxes_of g = box-below y h in
       rw (last-corner x, last-corner y)
-      (later (cells_on g) (points_on g) (box_at g (x / each_box g)) (box_at g (y / each_box g)) (λ k. refl) g.d (λ k m. box-lt g fine (x / each_box g) k m) (λ k m. box-lt g fine (y / each_box g) k m)
+      (later (cells_on g) (points_on g) (box_at g (x / each_box g)) (box_at g (y / each_box g)) (λ k. refl) g.d (λ k m. box-lt g taken (x / each_box g) k m) (λ k m. box-lt g taken (y / each_box g) k m)
       (rw (box-number (x / each_box g) (omega arith), box-number (y / each_box g) b) l))
 
   pub cell-before : (x y : ℕ) → x < y → y < cell_count g → Colex (suc g.d) (cell_no g x) (cell_no g y)
@@ -201,14 +201,14 @@ module _ (g : Grid) (fine : check_of g ≡ Fine) where
       (λ w m.
       let b = of-gather (λ b. map (met g (box_at g b)) (orders g.d)) w (boxes_of g) (λ i. i) m in
       let t = of_map (met g (box_at g b.0)) (orders g.d) w b.2 in
-      ap length (sym t.2) ∙ met-length g (box_at g b.0) (order_of g.d t.0) ∙ ap suc (order_long g.d t.0 (dim g fine) t.1))
+      ap length (sym t.2) ∙ met-length g (box_at g b.0) (order_of g.d t.0) ∙ ap suc (order_long g.d t.0 (dim g taken) t.1))
 
   in-listed : (v : Word) → In v (tab (cell_count g) (cell_no g)) → In v (grid_cells g)
   unfolding grid_cells
   in-listed v m =
       let x = of-tab (cell_no g) (cell_count g) v m in
       subst (λ (w : Word). In w (in_order (suc g.d) (chains g))) (sort-rising (cell_no g x.0) (cell-rising x.0) ∙ x.2)
-      (order-has (suc g.d) (chains g) (cell_no g x.0) chains-long (chain-in (x.0 / each_box g) (each_box g - 1 - x.0 % each_box g) (box-below x.0 x.1) (turn-lt g fine x.0)))
+      (order-has (suc g.d) (chains g) (cell_no g x.0) chains-long (chain-in (x.0 / each_box g) (each_box g - 1 - x.0 % each_box g) (box-below x.0 x.1) (turn-lt g taken x.0)))
 
   cells-rise : Rising (Colex (suc g.d)) (tab (cell_count g) (cell_no g))
   cells-rise =

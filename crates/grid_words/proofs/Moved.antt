@@ -1,5 +1,6 @@
 -- Every box is the first box, moved to its origin: a corner lies as far from its box's origin as the same corner of box 0 lies from point 0. And the origin of the next box in
 -- a row of axis 0 is the next point. Assumes nothing.
+use Rattle.refusal.specs.Says.{fine}
 use mathlib.Core.Path.{◌≡◌, refl, sym, ap, subst, ◌∙◌}
 use mathlib.Core.List.{List, ◌++◌}
 use Prim.Native.Nat.{ℕ, zero, suc, ◌+◌, ◌-◌, ◌*◌, ◌/◌, ◌%◌, ◌≤◌, ◌<◌}
@@ -10,7 +11,6 @@ use lib.Arith.{digits_div, digits_mod}
 use lib.ListN.{length, get_or, take, drop, set, length-set}
 use lib.Seq.{length-take-le, take_all}
 use Rattle.lists.proofs.Laws.{store, copied, front-part, back-length}
-use Rattle.refusal.specs.declared.Answer.TheVariants.{Fine}
 use Rattle.lists.specs.Tables.{tab}
 use Rattle.lists.specs.Words.{same}
 use Rattle.multiindex.specs.Permutation.{order_of}
@@ -40,9 +40,9 @@ unfolding from_digits
 number-zero f c zero h = refl
 number-zero f c (suc k) h = rw (number-zero f c k (λ i l. h i (omega arith)), h k (omega arith), mul-zero (product f k))
 
-module _ (g : Grid) (fine : check_of g ≡ Fine) where
+module _ (g : Grid) (passed : check_of g ≡ fine) where
   each-some : 0 < each_box g
-  each-some = some-order g.d (dim g fine)
+  each-some = some-order g.d (dim g passed)
 
   -- box 0 begins at point 0
   box-zero : (k : ℕ) → box_at g 0 k ≡ 0
@@ -56,7 +56,7 @@ module _ (g : Grid) (fine : check_of g ≡ Fine) where
   pub corner-first : (x j : ℕ) → x < each_box g → j ≤ g.d → corner_of g x j ≡ point_of g (λ k. times_in k (take j (order_at g x)))
   corner-first x j h l =
       let t : ℕ → ℕ = λ k. times_in k (take j (order_at g x)) in
-      corner-point g fine x j l
+      corner-point g passed x j l
       ∙ number_same (points_on g) (λ k. box_at g (x / each_box g) k + t k) t g.d
       (λ k m. let z : x / each_box g ≡ 0 = div-eq_of_lt h in omega (arith, ap (λ (y : ℕ). box_at g y k) z, box-zero k))
 
@@ -68,7 +68,7 @@ module _ (g : Grid) (fine : check_of g ≡ Fine) where
       let r : (b * n + x) % n ≡ x % n = digits_mod b h ∙ sym (mod-eq_of_lt h) in
       let t : ℕ → ℕ = λ k. times_in k (take j (order_at g x)) in
       let here : corner_of g (b * n + x) j ≡ point_of g (λ k. box_at g b k + t k) =
-      corner-point g fine (b * n + x) j l
+      corner-point g passed (b * n + x) j l
       ∙ ap (λ (m : ℕ). point_of g (λ k. box_at g m k + times_in k (take j (order_at g (b * n + x))))) q
       ∙ ap (λ (os : List ℕ). point_of g (λ k. box_at g b k + times_in k (take j os))) (order_same (b * n + x) x r) in
       here ∙ number-add (points_on g) (box_at g b) t g.d ∙ ap (λ (p : ℕ). point_of g (box_at g b) + p) (sym (corner-first x j h l))
@@ -81,7 +81,7 @@ module _ (g : Grid) (fine : check_of g ≡ Fine) where
       let o : order_at g X ≡ order_at g x = order_same X x (digits_mod b h ∙ sym (mod-eq_of_lt h)) in
       let tj : times_in k (take j (order_at g X)) ≡ times_in k (take j (order_at g x)) = ap (λ (os : List ℕ). times_in k (take j os)) o in
       let ti : times_in k (take i (order_at g X)) ≡ times_in k (take i (order_at g x)) = ap (λ (os : List ℕ). times_in k (take i os)) o in
-      omega (arith, corner-coord g fine X j k lj lk, corner-coord g fine X i k li lk, corner-coord g fine x j k lj lk, corner-coord g fine x i k li lk, tj, ti)
+      omega (arith, corner-coord g passed X j k lj lk, corner-coord g passed X i k li lk, corner-coord g passed x j k lj lk, corner-coord g passed x i k li lk, tj, ti)
 
   -- ---- the origin of the next box
   parts_same : (b c : ℕ) → b / cells_on g 0 ≡ c / cells_on g 0 → (k : ℕ) → b / product (cells_on g) (suc k) ≡ c / product (cells_on g) (suc k)
@@ -100,7 +100,7 @@ module _ (g : Grid) (fine : check_of g ≡ Fine) where
       let c : ℕ = q * n + suc x in
       let l : x < n = omega arith in
       number_same (points_on g) (box_at g c) (step_along 0 (box_at g b)) g.d (each q x h)
-      ∙ step_after (points_on g) (box_at g b) 0 g.d (taken-low g fine)
+      ∙ step_after (points_on g) (box_at g b) 0 g.d (taken-low g passed)
     where
       each : (q x : ℕ) → suc x < cells_on g 0 → (k : ℕ) → k < g.d → box_at g (q * cells_on g 0 + suc x) k ≡ box_at g (q * cells_on g 0 + x) k + same 0 k
       each q x h zero m =
@@ -234,12 +234,12 @@ module _ (g : Grid) (table reach to₀ : List ℕ) (m : Moving g table reach to�
 pub in_cells : (r m n : ℕ) → 0 < n → r < m * n → r / n < m
 in_cells r m n h l = (div-lt_iff_lt-mul h).1 l
 
-module _ (g : Grid) (fine : check_of g ≡ Fine) where
+module _ (g : Grid) (passed : check_of g ≡ fine) where
   pub reach-length : length (reach_of g) ≡ reach_long g
   reach-length = length-tab (reach_long g) _
 
   pub reach-some : 0 < reach_long g
-  reach-some = omega (arith, mul-le-mul_right (suc g.d) (some-order g.d (dim g fine)), one-mul (suc g.d))
+  reach-some = omega (arith, mul-le-mul_right (suc g.d) (some-order g.d (dim g passed)), one-mul (suc g.d))
 
   reach-at : (r : ℕ) → r < reach_long g → get_or (reach_of g) r 0 ≡ corner_of g (r / suc g.d) (r % suc g.d)
   reach-at r h = get_or-tab (reach_long g) _ r 0 h
@@ -251,18 +251,18 @@ module _ (g : Grid) (fine : check_of g ≡ Fine) where
   reach-within b r h =
       let l : r < reach_long g = omega (arith, reach-length) in
       let j : r % suc g.d ≤ g.d = (let z : r % suc g.d < suc g.d = mod-lt r (omega arith) in omega arith) in
-      subst (λ (p : ℕ). p < points_of g) (corner-moved g fine b (r / suc g.d) (r % suc g.d) (in-each r l) j ∙ ap (λ (p : ℕ). point_of g (box_at g b) + p) (sym (reach-at r l)))
-      (corner-lt g fine (b * each_box g + r / suc g.d) (r % suc g.d) j)
+      subst (λ (p : ℕ). p < points_of g) (corner-moved g passed b (r / suc g.d) (r % suc g.d) (in-each r l) j ∙ ap (λ (p : ℕ). point_of g (box_at g b) + p) (sym (reach-at r l)))
+      (corner-lt g passed (b * each_box g + r / suc g.d) (r % suc g.d) j)
 
   pub corners-many : boxes_of g * reach_long g ≡ cell_count g * suc g.d
-  corners-many = sym (mul_assoc (boxes_of g) (each_box g) (suc g.d)) ∙ ap (λ (n : ℕ). n * suc g.d) (mul_comm (boxes_of g) (each_box g) ∙ cells-product g fine (each_box g) (boxes_of g) refl refl)
+  corners-many = sym (mul_assoc (boxes_of g) (each_box g) (suc g.d)) ∙ ap (λ (n : ℕ). n * suc g.d) (mul_comm (boxes_of g) (each_box g) ∙ cells-product g passed (each_box g) (boxes_of g) refl refl)
 
   pub words-moved : moved_by g (reach_of g) ≡ flat_words g
   words-moved =
       ap (λ (n : ℕ). tab (boxes_of g * n) (moved_to g (reach_of g))) reach-length
       ∙ ap (λ (n : ℕ). tab n (moved_to g (reach_of g))) corners-many
       ∙ tab-ext (cell_count g * suc g.d) (moved_to g (reach_of g)) (λ i. vertex_of g (corner_of g (i / suc g.d) (i % suc g.d))) each
-      ∙ sym (flat-words g fine)
+      ∙ sym (flat-words g passed)
     where
       each : (i : ℕ) → i < cell_count g * suc g.d → moved_to g (reach_of g) i ≡ vertex_of g (corner_of g (i / suc g.d) (i % suc g.d))
       each i h =
@@ -276,7 +276,7 @@ module _ (g : Grid) (fine : check_of g ≡ Fine) where
           let over : i / n ≡ b * each_box g + r / n = ap (λ (y : ℕ). y / n) whole ∙ digits_div (b * each_box g + r / n) j in
           let left : i % n ≡ r % n = ap (λ (y : ℕ). y % n) whole ∙ digits_mod (b * each_box g + r / n) j in
           ap (λ (y : ℕ). vertex_of g (point_of g (box_at g (i / y)) + get_or (reach_of g) (i % y) 0)) reach-length
-          ∙ ap (vertex_of g) (ap (λ (p : ℕ). point_of g (box_at g b) + p) (reach-at r l) ∙ sym (corner-moved g fine b (r / n) (r % n) (in-each r l) (omega arith)))
+          ∙ ap (vertex_of g) (ap (λ (p : ℕ). point_of g (box_at g b) + p) (reach-at r l) ∙ sym (corner-moved g passed b (r / n) (r % n) (in-each r l) (omega arith)))
           ∙ ap (λ (y : ℕ). vertex_of g (corner_of g y (r % n))) (sym over)
           ∙ ap (λ (y : ℕ). vertex_of g (corner_of g (i / n) y)) (sym left)
         where
@@ -293,7 +293,7 @@ module _ (g : Grid) (fine : check_of g ≡ Fine) where
       let n : ℕ = cells_on g k in
       let A : ℕ = factorial k * suc k in
       let C : ℕ = product (cells_on g) k in
-      let s : 1 ≤ n = some-cell g fine k (omega arith) in
+      let s : 1 ≤ n = some-cell g passed k (omega arith) in
       let a : product (points_on g) k * (n + 1) ≤ A * C * (n + 1) = mul-le-mul_right (n + 1) (points-under k (omega arith)) in
       let d : suc (suc k) * n ≡ 2 * n + k * n = omega (arith, suc-mul (suc k) n, suc-mul k n) in
       let b : A * C * (n + 1) ≤ A * C * (suc (suc k) * n) = mul-le-mul_left (A * C) (omega (arith, d)) in
@@ -304,7 +304,7 @@ module _ (g : Grid) (fine : check_of g ≡ Fine) where
 
   -- a box has few corners
   pub reach_few : reach_long g ≤ 24
-  reach_few = omega (arith, dim g fine, few-orders g.d (dim g fine), mul-le-mul_right (suc g.d) (le_of_suc-le-suc (few-orders g.d (dim g fine))))
+  reach_few = omega (arith, dim g passed, few-orders g.d (dim g passed), mul-le-mul_right (suc g.d) (le_of_suc-le-suc (few-orders g.d (dim g passed))))
 
 -- ---- the lists that are lent
 pub front-is : (n : ℕ) (room p x : List ℕ) → n ≤ length room → length p ≡ length (take n room) → p ≡ x → take n (p ++ drop n room) ≡ x
@@ -315,13 +315,13 @@ front-is n room p x h e q =
 pub front_fits : (n : ℕ) (room p : List ℕ) → n ≤ length room → length p ≡ length (take n room) → n ≤ length (p ++ drop n room)
 front_fits n room p h e = omega (arith, back-length n room p e)
 
-pub moving-words : (g : Grid) → check_of g ≡ Fine → (table reach to : List ℕ) → table ≡ vertex_table g → reach ≡ reach_of g → length to ≡ cell_count g * suc g.d → Moving g table reach to
-moving-words g fine table reach to e f h =
+pub moving-words : (g : Grid) → check_of g ≡ fine → (table reach to : List ℕ) → table ≡ vertex_table g → reach ≡ reach_of g → length to ≡ cell_count g * suc g.d → Moving g table reach to
+moving-words g passed table reach to e f h =
     subst (λ (l : List ℕ). Moving g table l to) (sym f)
     (record {
-      taken = fine;
+      taken = passed;
       of_points = e;
-      some = omega (arith, reach-length g fine, reach-some g fine);
-      within = reach-within g fine;
-      to_long = h ∙ sym (corners-many g fine) ∙ ap (λ (n : ℕ). boxes_of g * n) (sym (reach-length g fine));
+      some = omega (arith, reach-length g passed, reach-some g passed);
+      within = reach-within g passed;
+      to_long = h ∙ sym (corners-many g passed) ∙ ap (λ (n : ℕ). boxes_of g * n) (sym (reach-length g passed));
     })

@@ -1,6 +1,6 @@
 -- What the loops that write the words ask of their lists, and what they hand on. Assumes nothing.
+use Rattle.refusal.specs.Says.{fine}
 use Rattle.std.specs.Prelude.{Bool, List, ◌≡◌, ℕ, suc, ◌+◌, ◌*◌, ◌/◌, ◌%◌, ◌≤◌, ◌<◌, eqb, length, get_or}
-use Rattle.refusal.specs.declared.Answer.TheVariants.{Fine}
 use Rattle.lists.specs.Tables.{tab}
 use Rattle.quotient.specs.declared.Grid.{Grid}
 use Rattle.quotient.specs.Fold.{product, some}
@@ -46,13 +46,13 @@ abbrev pub touches_at : Grid → ℕ → ℕ → Bool
 touches_at g b v = some (λ m. eqb (vertex_of g (point_of g (box_at g b) + offset_of g m)) v) (box_corners g)
 
 pub record Moving (g : Grid) (table reach to : List ℕ) : Type 0 where
-  pub taken : check_of g ≡ Fine
+  pub taken : check_of g ≡ fine
   pub of_points : table ≡ vertex_table g
   pub some : 0 < length reach
   pub within : (b r : ℕ) → r < length reach → point_of g (box_at g b) + get_or reach r 0 < points_of g
   pub to_long : length to ≡ boxes_of g * length reach
 
 pub record Writing (g : Grid) (words table : List ℕ) : Type 0 where
-  pub taken : check_of g ≡ Fine
+  pub taken : check_of g ≡ fine
   pub words_long : length words ≡ cell_count g * suc g.d
   pub table_long : points_of g ≤ length table

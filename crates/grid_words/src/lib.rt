@@ -9,7 +9,7 @@
 #![tactic(auto)]
 
 ghost use Rattle.std.specs.Prelude.{◌≡◌, ℕ, suc, ◌+◌, ◌*◌, ◌<◌, ◌≤◌, length};
-ghost use Rattle.refusal.specs.declared.Answer.TheVariants.{Fine};
+ghost use Rattle.refusal.specs.Says.{fine};
 ghost use Rattle.quotient.specs.Fold.{product};
 ghost use Rattle.quotient.specs.Shape.{cells_on, points_on, check_of, cell_count};
 ghost use Rattle.quotient.specs.Points.{points_of, point_of};
@@ -25,23 +25,20 @@ const MOST_REACH: usize = 24;
 
 // How many boxes a grid has that is taken.
 pub fn boxes(grid: Grid) -> usize
-    requires { check_of grid ≡ Fine }
+    requires { check_of grid ≡ fine }
     ensures { result ≡ product (cells_on grid) grid.d }
 {
-    let d = grid.d;
     let mut p = 1usize;
-    let mut k = 0u32;
-    while k < d {
+    for k in 0..grid.d {
         let a = grid.axis(k);
-        p = p * (a.count as usize);
-        k += 1;
+        p *= a.count as usize;
     }
     p
 }
 
 // How many cells a grid has that is taken.
 pub fn cells(grid: Grid) -> usize
-    requires { check_of grid ≡ Fine }
+    requires { check_of grid ≡ fine }
     ensures { result ≡ cell_count grid }
 {
     let d = grid.d as usize;
@@ -50,21 +47,19 @@ pub fn cells(grid: Grid) -> usize
 
 // How much a point's number grows with a step along axis a.
 fn stride(grid: Grid, a: u32) -> usize
-    requires { (check_of grid ≡ Fine) × (a ≤ grid.d) }
+    requires { (check_of grid ≡ fine) × (a ≤ grid.d) }
     ensures { result ≡ stride_of grid a }
 {
     let mut s = 1usize;
-    let mut k = 0u32;
-    while k < a {
-        s = s * grid.points_on(k);
-        k += 1;
+    for k in 0..a {
+        s *= grid.points_on(k);
     }
     s
 }
 
 // How many points a grid has that is taken.
 pub fn points(grid: Grid) -> usize
-    requires { check_of grid ≡ Fine }
+    requires { check_of grid ≡ fine }
     ensures { result ≡ points_of grid }
 {
     stride(grid, grid.d)
@@ -72,120 +67,103 @@ pub fn points(grid: Grid) -> usize
 
 // The point at which box b begins.
 fn origin(grid: Grid, b: usize) -> usize
-    requires { check_of grid ≡ Fine }
+    requires { check_of grid ≡ fine }
     ensures { result ≡ point_of grid (box_at grid b) }
 {
-    let d = grid.d;
     let mut s = 1usize;
     let mut x = 0usize;
     let mut rest = b;
-    let mut k = 0u32;
-    while k < d {
+    for k in 0..grid.d {
         let a = grid.axis(k);
         let n = a.count as usize;
-        x = x + s * (rest % n);
-        s = s * grid.points_on(k);
-        rest = rest / n;
-        k += 1;
+        x += s * (rest % n);
+        s *= grid.points_on(k);
+        rest /= n;
     }
     x
 }
 
 // How many corners a box has.
 fn box_corners(grid: Grid) -> usize
-    requires { check_of grid ≡ Fine }
+    requires { check_of grid ≡ fine }
     ensures { result ≡ box_corners grid }
 {
-    let d = grid.d;
     let mut n = 1usize;
-    let mut k = 0u32;
-    while k < d {
-        n = n + n;
-        k += 1;
+    for _k in 0..grid.d {
+        n += n;
     }
     n
 }
 
 // How far from its box's origin corner m of a box lies: a step along each axis whose binary digit of m is 1.
 fn offset(grid: Grid, m: usize) -> usize
-    requires { check_of grid ≡ Fine }
+    requires { check_of grid ≡ fine }
     ensures { result ≡ offset_of grid m }
 {
-    let d = grid.d;
     let mut s = 1usize;
     let mut x = 0usize;
     let mut rest = m;
-    let mut k = 0u32;
-    while k < d {
-        x = x + s * (rest % 2);
-        s = s * grid.points_on(k);
-        rest = rest / 2;
-        k += 1;
+    for k in 0..grid.d {
+        x += s * (rest % 2);
+        s *= grid.points_on(k);
+        rest /= 2;
     }
     x
 }
 
 // Whether a corner of box b is vertex v.
 pub fn touches(grid: Grid, b: usize, v: GluedVertex) -> bool
-    requires { check_of grid ≡ Fine }
+    requires { check_of grid ≡ fine }
     ensures { result ≡ touches_at grid b v.0 }
 {
     let n = box_corners(grid);
     let from = origin(grid, b);
-    let mut m = 0usize;
-    while m < n {
+    for m in 0..n {
         let c = grid.crossed(GridVertex((from + offset(grid, m)) as u32));
         let p = c.vertex;
         if p.0 == v.0 {
             return true;
         }
-        m += 1;
     }
     false
 }
 
 // The grid point of corner j of cell x.
 pub fn corner(grid: Grid, x: usize, j: usize) -> usize
-    requires { (check_of grid ≡ Fine) × (j ≤ grid.d) }
+    requires { (check_of grid ≡ fine) × (j ≤ grid.d) }
     ensures { result ≡ corner_of grid x j }
 {
     let d = grid.d as usize;
     let n = permutation::count(d);
     let t = n - 1 - x % n;
     let mut v = origin(grid, x / n);
-    let mut i = 0;
-    while i < j {
+    for i in 0..j {
         let a = permutation::axis(d, t, i);
-        v = v + stride(grid, a as u32);
-        i += 1;
+        v += stride(grid, a as u32);
     }
     v
 }
 
 // Writes the vertex of each grid point, by its number.
 pub fn vertices(grid: Grid, table: &mut [u32])
-    requires { (check_of grid ≡ Fine) × (length table.old ≡ points_of grid) }
+    requires { (check_of grid ≡ fine) × (length table.old ≡ points_of grid) }
     ensures { table.new ≡ vertex_table grid }
 {
-    let mut v = 0;
-    while v < table.len() {
+    for v in 0..table.len() {
         let c = grid.crossed(GridVertex(v as u32));
         let p = c.vertex;
         table[v] = p.0;
-        v += 1;
     }
 }
 
 // Writes how far from its box's origin each corner of the box's cells lies: the corners of the first box.
 fn reaches(grid: Grid, reach: &mut [u32])
-    requires { (check_of grid ≡ Fine) × (length reach.old ≡ reach_long grid) }
+    requires { (check_of grid ≡ fine) × (length reach.old ≡ reach_long grid) }
     ensures { reach.new ≡ reach_of grid }
 {
     let n = grid.d as usize + 1;
-    let mut i = 0;
-    while i < reach.len() {
+    for i in 0..reach.len() {
         reach[i] = corner(grid, i / n, i % n) as u32;
-        i += 1;
     }
 }
 
@@ -202,10 +180,8 @@ pub fn write_boxes(grid: Grid, table: &[u32], reach: &[u32], to: &mut [u32])
     let mut b = 0usize;
     let mut x = 0usize;
     let mut r = 0usize;
-    let mut i = 0usize;
-    while i < to.len() {
+    for i in 0..to.len() {
         to[i] = table[origin_at + reach[r] as usize];
-        i += 1;
         r += 1;
         if r < e {
             continue;

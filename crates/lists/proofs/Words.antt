@@ -10,16 +10,19 @@ use native.Mathlib.Omega.{arith}
 use lib.Dec.{eqb}
 use lib.ListN.{length, get_or, take, drop, set, drop_of_length-le, length-drop, length-replicate, replicate, get_or-replicate}
 use lib.Seq.{drop-cons, take_all, get_or-set_same, get_or-set_other, lt-length-set}
-use borrow.Author.Tests.{eq-eqb, ne_eqb, eqb-true, eqb-false}
+use borrow.Author.Tests.{eq-eqb, lt-ltb, le-ltb, eqb-true, eqb-false}
+use native.Mathlib.Decide.{dec_lt}
+use lib.Seq.{length-take-le, get_or-take}
+use Rattle.std.specs.Prelude.{unwrap_or}
+use Rattle.std.specs.List.{fold, list_any, position, position_or_len}
+use Rattle.std.proofs.lemmas.List.Sums.{fails_before_first, passes_at_first}
 use Rattle.lists.specs.Words.{same_word, same, among, has_repeat, largest_of, found_at, first_where, marked}
 
-pub among-step : (v : ℕ) (ws : List ℕ) (i : ℕ) → i < length ws → among v (drop i ws) ≡ (eqb (get_or ws i 0) v || among v (drop (i + 1) ws))
+-- the same as std's words
+pub among_any : (v : ℕ) (ws : List ℕ) → list_any (λ y. eqb y v) ws ≡ among v ws
 unfolding among
-among-step v ws i h = rw add-one (ap (among v) (drop-cons ws i 0 h))
-
-pub among-end : (v : ℕ) (ws : List ℕ) (i : ℕ) → length ws ≤ i → among v (drop i ws) ≡ false
-unfolding among
-among-end v ws i h = ap (among v) (drop_of_length-le ws h)
+among_any v [] = refl
+among_any v (x ∷ ws) = ap (λ (b : Bool). eqb x v || b) (among_any v ws)
 
 pub repeat-step : (ws : List ℕ) (i : ℕ) → i < length ws → has_repeat (drop i ws) ≡ (among (get_or ws i 0) (drop (i + 1) ws) || has_repeat (drop (i + 1) ws))
 unfolding has_repeat
@@ -36,6 +39,15 @@ largest_step ws i h = rw add-one (ap largest_of (drop-cons ws i 0 h))
 pub largest-end : (ws : List ℕ) (i : ℕ) → length ws ≤ i → largest_of (drop i ws) ≡ 0
 unfolding largest_of
 largest-end ws i h = ap largest_of (drop_of_length-le ws h)
+
+-- the largest as a fold of `max`
+pub folded_from : (a : ℕ) (ws : List ℕ) → fold max a ws ≡ max a (largest_of ws)
+unfolding largest_of
+folded_from a [] = omega arith
+folded_from a (x ∷ ws) = omega (arith, folded_from (max a x) ws)
+
+pub largest_folded : (ws : List ℕ) → fold max 0 ws ≡ largest_of ws
+largest_folded ws = omega (arith, folded_from 0 ws)
 
 pub marked_step : (l ws : List ℕ) (i : ℕ) → i < length ws → marked l (drop i ws) ≡ marked (set l (get_or ws i 0) 1) (drop (i + 1) ws)
 unfolding marked
@@ -64,6 +76,29 @@ unfolding first_where found_at
 first-at p zero k l h t = omega arith
 first-at p (suc m) zero l h t = rw t
 first-at p (suc m) (suc k) l h t = rw (h 0 (suc-le-suc zero-le)) (ap suc (first-at (λ k. p (suc k)) m k (omega arith) (λ j q. h (suc j) (suc-le-suc q)) t))
+
+-- a search through the first m numbers of a list is std's search
+pub first_position : (p : ℕ → Bool) (l : List ℕ) (m : ℕ) → m ≤ length l → first_where (λ v. p (get_or l v 0)) m ≡ unwrap_or (position p (take m l)) m
+first_position p l m h = go (position_or_len p (take m l)) refl (dec_lt (position_or_len p (take m l)) m)
+  where
+    long : length (take m l) ≡ m
+    long = length-take-le m l h
+
+    at : (j : ℕ) → j < m → get_or (take m l) j 0 ≡ get_or l j 0
+    at j q = get_or-take m l j 0 q
+
+    misses : (j : ℕ) → j < m → j < position_or_len p (take m l) → p (get_or l j 0) ≡ false
+    misses j q r = rw (at j q) at (fails_before_first p (take m l) j 0 r)
+
+    hits : position_or_len p (take m l) < m → p (get_or l (position_or_len p (take m l)) 0) ≡ true
+    hits q = rw (at (position_or_len p (take m l)) q) at (passes_at_first p (take m l) 0 (omega (arith, long)))
+
+    go : (i : ℕ) → position_or_len p (take m l) ≡ i → Dec (i < m) → first_where (λ v. p (get_or l v 0)) m ≡ unwrap_or (position p (take m l)) m
+    go i e (yes q) =
+        rw (lt-ltb (position_or_len p (take m l)) (length (take m l)) (omega (arith, long)))
+        (first-at _ m (position_or_len p (take m l)) (omega arith) (λ j r. misses j (omega arith) r) (hits (omega arith)))
+    go i e (no q) =
+        rw (le-ltb (position_or_len p (take m l)) (length (take m l)) (omega (arith, long))) (first-none _ m (λ j r. misses j r (omega arith)))
 
 -- a search ends at its bound or before it
 pub first-most : (p : ℕ → Bool) (m : ℕ) → first_where p m ≤ m
@@ -105,13 +140,6 @@ first-before p (suc m) k h = go (p zero) refl k h (first-before (λ j. p (suc j)
     go true e k h r = absurd (omega arith)
     go false e zero h r = e
     go false e (suc k) h r = r k (omega arith)
-
--- v stands at i, or it does not
-pub among-hit : (v : ℕ) (ws : List ℕ) (i : ℕ) → i < length ws → get_or ws i 0 ≡ v → among v (drop i ws) ≡ true
-among-hit v ws i h e = among-step v ws i h ∙ rw (eq-eqb _ _ e)
-
-pub among-miss : (v : ℕ) (ws : List ℕ) (i : ℕ) → i < length ws → (get_or ws i 0 ≡ v → ⊥) → among v (drop i ws) ≡ among v (drop (i + 1) ws)
-among-miss v ws i h e = among-step v ws i h ∙ rw (ne_eqb _ _ e)
 
 -- the number at i stands again after i, or it does not
 pub repeat-hit : (ws : List ℕ) (i : ℕ) → i < length ws → among (get_or ws i 0) (drop (i + 1) ws) ≡ true → has_repeat (drop i ws) ≡ true

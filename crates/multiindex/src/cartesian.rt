@@ -8,15 +8,13 @@ pub fn next(digits: &mut [u32], n: u32)
     requires { (j : ℕ) → j < length digits.old → get_or digits.old j 0 < n }
     ensures { digits.new ≡ raised n digits.old }
 {
-    let mut j = 0;
-    while j < digits.len() {
-        let x = digits[j] + 1;
+    for digit in digits.iter_mut() {
+        let x = *digit + 1;
         if x < n {
-            digits[j] = x;
+            *digit = x;
             return;
         }
-        digits[j] = 0;
-        j += 1;
+        *digit = 0;
     }
 }
 
@@ -25,11 +23,5 @@ pub fn count(d: usize, n: usize) -> usize
     requires { (d ≤ most_dimension) × (n ≤ most_base) }
     ensures { result ≡ n ^ d }
 {
-    let mut total = 1;
-    let mut j = 0;
-    while j < d {
-        total = total * n;
-        j += 1;
-    }
-    total
+    n.pow(d as u32)
 }

@@ -14,7 +14,7 @@ use Rattle.lists.specs.Rows.{rows, flat, row}
 use Rattle.lists.proofs.Flat.{each_long, flat-length, flat-at}
 use Rattle.lists.proofs.Laws.{front-part}
 use Rattle.multiindex.specs.Sort.{inversions}
-use Rattle.multiindex.specs.Sign.{Sign, plus, minus, opposite, induced}
+use Rattle.multiindex.specs.Sign.{plus, minus, opposite, induced}
 use Rattle.multiindex.proofs.SortLaws.{sort-length}
 use Rattle.complex.specs.Facets.{cell_at, slots}
 use Rattle.lists.proofs.Rows.{row-cell-below}

@@ -1,14 +1,14 @@
 -- The ways out of `induced_orientation`; its promise determines what it says and every list, and yes is said exactly of coherent signs. Assumes nothing.
+use Rattle.std.specs.Prelude.{true}
+use Rattle.refusal.specs.declared.Refusal.{Refusal}
+use Rattle.refusal.specs.declared.Refusal.TheVariants.{TooShort}
+use Rattle.refusal.specs.Says.{Verdict, fine}
+use Rattle.std.specs.Prelude.{Err, Ok}
 use mathlib.Core.List.{List, ◌++◌}
 use mathlib.Core.Path.{◌≡◌, refl, subst}
 use Prim.Native.Nat.{ℕ, ◌<◌}
-use native.Mathlib.Omega.{arith}
 use lib.ListN.{length, take, drop}
-use Rattle.refusal.specs.declared.Answer.TheVariants as Answer
 use Rattle.refusal.specs.declared.Room.{Room}
-use Rattle.refusal.specs.declared.Verdict.{Verdict}
-use Rattle.refusal.specs.declared.Verdict.TheVariants.{Yes, Refused}
-use Rattle.refusal.specs.Table.{too_short}
 use Rattle.refusal.specs.Lent.{untouched, lengths, Roomy}
 use Rattle.refusal.specs.Call.{Comes, refused, cramped, ended}
 use Rattle.refusal.proofs.Parts.{parts-cleared}
@@ -23,11 +23,11 @@ use Rattle.ordering.specs.Promise.{order_need, word_sign, Wound, Induced}
 use Rattle.ordering.specs.Promise.Wound.{crowded as wound-crowded, unordered as wound-unordered, coherent as wound-coherent, incoherent as wound-incoherent}
 
 module _ (d : ℕ) (ws order keys rows spare counts : List ℕ) where
-  pub wound-out-refused : (n p : ℕ) → answer_of d ws ≡ Answer.Refused n p → Induced d ws order (Refused n p) keys keys rows rows spare spare counts counts
-  wound-out-refused n p e =
+  pub wound-out-refused : (why : Refusal) → answer_of d ws ≡ Err why → Induced d ws order (Err why) keys keys rows rows spare spare counts counts
+  wound-out-refused why e =
       record { used = untouched; comes = refused e; room = record { of_keys = refl; of_rows = refl; of_spare = refl; of_counts = refl } }
 
-  pub wound-out-cramped : answer_of d ws ≡ Answer.Fine → (n : Room) → n ≡ order_need (length ws) → (Roomy n (lengths keys rows spare counts) → ⊥) → Induced d ws order (Refused too_short 0) keys keys rows rows spare spare counts counts
+  pub wound-out-cramped : answer_of d ws ≡ fine → (n : Room) → n ≡ order_need (length ws) → (Roomy n (lengths keys rows spare counts) → ⊥) → Induced d ws order (Err TooShort) keys keys rows rows spare spare counts counts
   wound-out-cramped e n q f =
       record {
         used = untouched;
@@ -35,13 +35,13 @@ module _ (d : ℕ) (ws order keys rows spare counts : List ℕ) where
         room = record { of_keys = refl; of_rows = refl; of_spare = refl; of_counts = refl };
       }
 
-  module _ (e : answer_of d ws ≡ Answer.Fine) (n : Room) (q : n ≡ order_need (length ws)) (h : Roomy n (lengths keys rows spare counts)) where
+  module _ (e : answer_of d ws ≡ fine) (n : Room) (q : n ≡ order_need (length ws)) (h : Roomy n (lengths keys rows spare counts)) where
     pub wound-out-ended : (r : Verdict) (k o s c : List ℕ) → Wound d (cells_of d ws) order r tt → AllZero (take n.keys keys) k (take n.rows rows) o (take n.spare spare) s (take n.counts counts) c →
         Induced d ws order r keys (k ++ drop n.keys keys) rows (o ++ drop n.rows rows) spare (s ++ drop n.spare spare) counts (c ++ drop n.counts counts)
     wound-out-ended r k o s c w z =
         record {
           used = n;
-          comes = subst (λ (m : Room). Comes Refused tt (answer_of d ws) m (lengths keys rows spare counts) (Wound d (cells_of d ws) order) r tt n) q (ended e h w);
+          comes = subst (λ (m : Room). Comes Err tt (answer_of d ws) m (lengths keys rows spare counts) (Wound d (cells_of d ws) order) r tt n) q (ended e h w);
           room = parts-cleared n keys k rows o spare s counts c h z;
         }
 
@@ -66,16 +66,16 @@ module _ (d : ℕ) (cs : List (List ℕ)) (order : List ℕ) where
 
 -- where nothing is refused, yes is said exactly of words with coherent signs, above dimension 0
 module _ (d : ℕ) (cs : List (List ℕ)) (order : List ℕ) (free : Crowded d cs → ⊥) (ordered : Orders d cs order) where
-  pub induced-exactly : (r : Verdict) (h : Unit {0}) → Wound d cs order r h → (r ≡ Yes → (0 < d) × Coherent d cs (λ c. word_sign (cell_at (words_by d cs order) c))) × ((0 < d) × Coherent d cs (λ c. word_sign (cell_at (words_by d cs order) c)) → r ≡ Yes)
+  pub induced-exactly : (r : Verdict) (h : Unit {0}) → Wound d cs order r h → (r ≡ Ok true → (0 < d) × Coherent d cs (λ c. word_sign (cell_at (words_by d cs order) c))) × ((0 < d) × Coherent d cs (λ c. word_sign (cell_at (words_by d cs order) c)) → r ≡ Ok true)
   induced-exactly r h (wound-crowded x) = absurd (free x)
   induced-exactly r h (wound-unordered n f) = absurd (f ordered)
   induced-exactly r h (wound-coherent n o l a) = (λ e. (l, a), λ q. refl)
-  induced-exactly r h (wound-incoherent n o g) = (λ e. let z : ◌≡◌ {A = ℕ} 0 1 = cc in absurd (omega arith), λ q. absurd (g q.0 q.1))
+  induced-exactly r h (wound-incoherent n o g) = (λ e. cc, λ q. absurd (g q.0 q.1))
 
 -- two exits of one call agree in everything
 pub induced-one : (d : ℕ) (ws order : List ℕ) (r r' : Verdict) (keys k k' rows o o' spare p p' counts c c' : List ℕ) → Induced d ws order r keys k rows o spare p counts c → Induced d ws order r' keys k' rows o' spare p' counts c' → (r ≡ r') × ((k ≡ k') × (o ≡ o') × (p ≡ p') × (c ≡ c'))
 induced-one d ws order r r' keys k k' rows o o' spare p p' counts c c' x y =
-    let w = comes-one Refused tt (answer_of d ws) (order_need (length ws)) (lengths keys rows spare counts) (Wound d (cells_of d ws) order) (wound-one d (cells_of d ws) order) x.comes y.comes in (
+    let w = comes-one Err tt (answer_of d ws) (order_need (length ws)) (lengths keys rows spare counts) (Wound d (cells_of d ws) order) (wound-one d (cells_of d ws) order) x.comes y.comes in (
       w.0,
       cleared-one x.used y.used keys k k' rows o o' spare p p' counts c c' w.2 x.room y.room,
     )

@@ -1,4 +1,6 @@
 -- The work on an order, step by step: what each call asks follows from what the calls before it gave. Assumes nothing.
+use Rattle.refusal.specs.declared.Refusal.TheVariants.{BadOrder, CrowdedFacet}
+use Rattle.std.specs.Prelude.{Err, Ok}
 use mathlib.Core.Bool.{Bool, true, false}
 use mathlib.Core.List.{List, ◌++◌, append-nil}
 use mathlib.Core.Path.{◌≡◌, refl, sym, ap, ◌∙◌, subst}
@@ -6,8 +8,6 @@ use Prim.Native.Nat.{ℕ, suc, ◌+◌, ◌-◌, ◌*◌, ◌≤◌}
 use native.Mathlib.Omega.{arith}
 use lib.ListN.{length, take, drop, length-append, length-drop, drop_of_length-le}
 use lib.Seq.{length-take-le, drop_at}
-use Rattle.refusal.specs.declared.Counted.TheVariants as Counted
-use Rattle.refusal.specs.Table.{crowded_facet, bad_order}
 use Rattle.lists.specs.Rows.{cut, flat}
 use Rattle.lists.proofs.Flat.{flat-cut}
 use Rattle.lists.proofs.Rows.{cut-length}
@@ -85,7 +85,7 @@ module _ (d at : ℕ) (ws keys rows₀ spare counts : List ℕ) (w : Preparing d
 
       module _ (p rows''' : List ℕ) (lp : length p ≡ length (take at (take at keys' ++ (ys ++ drop (length keys' - at) (drop at keys'))))) where
         -- 7
-        pub prepared-crowded : (keys''' : List ℕ) → Crowded d (cut (suc d) m rows'') → Prepared d at (length ws) (cells_of d ws) order keys''' rows''' (Counted.Refused crowded_facet 0)
+        pub prepared-crowded : (keys''' : List ℕ) → Crowded d (cut (suc d) m rows'') → Prepared d at (length ws) (cells_of d ws) order keys''' rows''' (Err CrowdedFacet)
         prepared-crowded keys''' x = crowded (subst (λ (cs : List (List ℕ)). Crowded d cs) a''.same x)
 
         module _ (t : MateTable d (cut (suc d) m rows'') rows''') where
@@ -93,7 +93,7 @@ module _ (d at : ℕ) (ws keys rows₀ spare counts : List ℕ) (w : Preparing d
           free x = not-crowded d m (cut (suc d) m rows'') (cut-length (suc d) m rows'') rows''' t (omega (arith, a.most, a.corners)) (subst (λ (cs : List (List ℕ)). Crowded d cs) (sym a''.same) x)
 
           -- 16
-          pub prepared-unordered : (keys''' : List ℕ) → ok ≡ false → Prepared d at (length ws) (cells_of d ws) order keys''' rows''' (Counted.Refused bad_order 0)
+          pub prepared-unordered : (keys''' : List ℕ) → ok ≡ false → Prepared d at (length ws) (cells_of d ws) order keys''' rows''' (Err BadOrder)
           prepared-unordered keys''' e = unordered free (λ o. b.none e (subst (λ (cs : List (List ℕ)). Orders d cs order) (sym a.same) o))
 
           last-part : drop at (p ++ drop at (take at keys' ++ (ys ++ drop (length keys' - at) (drop at keys')))) ≡ ys
@@ -109,9 +109,9 @@ module _ (d at : ℕ) (ws keys rows₀ spare counts : List ℕ) (w : Preparing d
           the_cells : ok ≡ true → take (m * suc d) (drop (m * suc d) (drop at (p ++ drop at (take at keys' ++ (ys ++ drop (length keys' - at) (drop at keys')))))) ≡ flat (cells_of d ws)
           the_cells e = ap (λ (l : List ℕ). take (m * suc d) (drop (m * suc d) l)) last-part ∙ b.behind e ∙ sym (flat-cut (suc d) m rows') ∙ ap flat a.same
 
-          pub prepared-ready : ok ≡ true → Prepared d at (length ws) (cells_of d ws) order (p ++ drop at (take at keys' ++ (ys ++ drop (length keys' - at) (drop at keys')))) rows''' (Counted.Count m)
+          pub prepared-ready : ok ≡ true → Prepared d at (length ws) (cells_of d ws) order (p ++ drop at (take at keys' ++ (ys ++ drop (length keys' - at) (drop at keys')))) rows''' (Ok m)
           prepared-ready e =
-              subst (λ (n : ℕ). Prepared d at (length ws) (cells_of d ws) order (p ++ drop at (take at keys' ++ (ys ++ drop (length keys' - at) (drop at keys')))) rows''' (Counted.Count n)) cells-many
+              subst (λ (n : ℕ). Prepared d at (length ws) (cells_of d ws) order (p ++ drop at (take at keys' ++ (ys ++ drop (length keys' - at) (drop at keys')))) rows''' (Ok n)) cells-many
               (ready (record {
                 free = free;
                 ordered = subst (λ (cs : List (List ℕ)). Orders d cs order) a.same (b.ordered e);
@@ -124,20 +124,20 @@ module _ (d at : ℕ) (ws keys rows₀ spare counts : List ℕ) (w : Preparing d
 
       -- the same by the cell across each row
       module _ (p other flip : List ℕ) (lp : length p ≡ length (take at (take at keys' ++ (ys ++ drop (length keys' - at) (drop at keys'))))) where
-        pub joined-crowded : (keys''' : List ℕ) → Crowded d (cut (suc d) m rows'') → Joined d at (length ws) (cells_of d ws) order keys''' other flip (Counted.Refused crowded_facet 0)
+        pub joined-crowded : (keys''' : List ℕ) → Crowded d (cut (suc d) m rows'') → Joined d at (length ws) (cells_of d ws) order keys''' other flip (Err CrowdedFacet)
         joined-crowded keys''' x =
-            record { mates = other; prepared = prepared-crowded p other lp keys''' x; linked = λ n e. let z : ◌≡◌ {A = ℕ} 0 1 = cc in absurd (omega arith) }
+            record { mates = other; prepared = prepared-crowded p other lp keys''' x; linked = λ n e. cc }
 
         module _ (t : Linked d (cut (suc d) m rows'') other flip) where
-          pub joined-unordered : (keys''' : List ℕ) → ok ≡ false → Joined d at (length ws) (cells_of d ws) order keys''' other flip (Counted.Refused bad_order 0)
+          pub joined-unordered : (keys''' : List ℕ) → ok ≡ false → Joined d at (length ws) (cells_of d ws) order keys''' other flip (Err BadOrder)
           joined-unordered keys''' e =
               record {
                 mates = t.mates;
                 prepared = prepared-unordered p t.mates lp t.table keys''' e;
-                linked = λ n f. let z : ◌≡◌ {A = ℕ} 0 1 = cc in absurd (omega arith);
+                linked = λ n f. cc;
               }
 
-          pub joined-ready : ok ≡ true → Joined d at (length ws) (cells_of d ws) order (p ++ drop at (take at keys' ++ (ys ++ drop (length keys' - at) (drop at keys')))) other flip (Counted.Count m)
+          pub joined-ready : ok ≡ true → Joined d at (length ws) (cells_of d ws) order (p ++ drop at (take at keys' ++ (ys ++ drop (length keys' - at) (drop at keys')))) other flip (Ok m)
           joined-ready e =
               record {
                 mates = t.mates;

@@ -1,4 +1,8 @@
 -- The ends of the work of `induced_orientation`: the marks are the words' signs, and they are tested by the cell across each facet. Assumes nothing.
+use Rattle.refusal.specs.declared.Refusal.{Refusal}
+use Rattle.refusal.specs.declared.Refusal.TheVariants.{BadOrder, CrowdedFacet}
+use Rattle.refusal.specs.Says.{Counted}
+use Rattle.std.specs.Prelude.{Err, Ok}
 use mathlib.Core.Bool.{Bool, true, false}
 use mathlib.Core.List.{List}
 use mathlib.Core.Path.{◌≡◌, refl, sym, ap, ◌∙◌, subst}
@@ -7,10 +11,6 @@ use native.Mathlib.Nat.{mul-le-mul_left, mul-suc}
 use native.Mathlib.Numerals.{add-one}
 use native.Mathlib.Omega.{arith}
 use lib.ListN.{length, get_or, drop, length-drop}
-use Rattle.refusal.specs.declared.Counted.{Counted}
-use Rattle.refusal.specs.declared.Counted.TheVariants as Counted
-use Rattle.refusal.specs.declared.Verdict.TheVariants.{Yes, No, Refused}
-use Rattle.refusal.specs.Table.{crowded_facet, bad_order}
 use Rattle.refusal.specs.Limits.{many_corners}
 use Rattle.lists.specs.Rows.{row}
 use Rattle.multiindex.specs.Sort.{inversions}
@@ -32,18 +32,17 @@ use Rattle.ordering.proofs.Agreeing.{mark-fits, mark-word}
 use Rattle.ordering.proofs.Ends.{count-ready}
 
 -- 7 and 16
-moved : (d : ℕ) (cs : List (List ℕ)) (order : List ℕ) (a b n pl : ℕ) → Counted.Refused a b ≡ Counted.Refused n pl → Wound d cs order (Refused a b) tt → Wound d cs order (Refused n pl) tt
-moved d cs order a b n pl e x =
-    let f : a ≡ n = cc in
-    let g : b ≡ pl = cc in
-    subst (λ (z : ℕ). Wound d cs order (Refused n z) tt) g (subst (λ (z : ℕ). Wound d cs order (Refused z b) tt) f x)
+moved : (d : ℕ) (cs : List (List ℕ)) (order : List ℕ) (told why : Refusal) → ◌≡◌ {A = Counted} (Err told) (Err why) → Wound d cs order (Err told) tt → Wound d cs order (Err why) tt
+moved d cs order told why e x =
+    let f : told ≡ why = cc in
+    subst (λ (z : Refusal). Wound d cs order (Err z) tt) f x
 
-pub wound-refused : (d at n : ℕ) (cs : List (List ℕ)) (order keys mates : List ℕ) (p : Counted) → Prepared d at n cs order keys mates p → (a b : ℕ) → p ≡ Counted.Refused a b → Wound d cs order (Refused a b) tt
-wound-refused d at n cs order keys mates p (prepared-crowded x) a b e = moved d cs order crowded_facet 0 a b e (wound-crowded x)
-wound-refused d at n cs order keys mates p (prepared-unordered x y) a b e = moved d cs order bad_order 0 a b e (wound-unordered x y)
-wound-refused d at n cs order keys mates p (prepared-ready x) a b e = let z : ◌≡◌ {A = ℕ} 0 1 = cc in absurd (omega arith)
+pub wound-refused : (d at n : ℕ) (cs : List (List ℕ)) (order keys mates : List ℕ) (p : Counted) → Prepared d at n cs order keys mates p → (why : Refusal) → p ≡ Err why → Wound d cs order (Err why) tt
+wound-refused d at n cs order keys mates p (prepared-crowded x) why e = moved d cs order CrowdedFacet why e (wound-crowded x)
+wound-refused d at n cs order keys mates p (prepared-unordered x y) why e = moved d cs order BadOrder why e (wound-unordered x y)
+wound-refused d at n cs order keys mates p (prepared-ready x) why e = cc
 
-module _ (d at : ℕ) (ws keys₀ rows₀ spare₀ counts₀ : List ℕ) (w : Preparing d at ws keys₀ rows₀ spare₀ counts₀) (order keys other flip : List ℕ) (lk : length keys ≡ length keys₀) (lo : length other ≡ length rows₀) (lf : length flip ≡ length spare₀) (p : Counted) (j : Joined d at (length ws) (cells_of d ws) order keys other flip p) (m : ℕ) (e : p ≡ Counted.Count m) (count : ℕ) (ec : count ≡ m) where
+module _ (d at : ℕ) (ws keys₀ rows₀ spare₀ counts₀ : List ℕ) (w : Preparing d at ws keys₀ rows₀ spare₀ counts₀) (order keys other flip : List ℕ) (lk : length keys ≡ length keys₀) (lo : length other ≡ length rows₀) (lf : length flip ≡ length spare₀) (p : Counted) (j : Joined d at (length ws) (cells_of d ws) order keys other flip p) (m : ℕ) (e : p ≡ Ok m) (count : ℕ) (ec : count ≡ m) where
   ready : Ready d at (length ws) (cells_of d ws) order keys j.mates
   ready = (count-ready d at (length ws) (cells_of d ws) order keys j.mates p j.prepared m e).1
 
@@ -106,12 +105,13 @@ module _ (d at : ℕ) (ws keys₀ rows₀ spare₀ counts₀ : List ℕ) (w : Pr
       told : Tested d (cells_of d ws) ok (λ c. sign_of (get_or marks c 0))
       told = t (cells_of d ws) (sym many) (j.linked m e)
 
-      pub wound-yes : ok ≡ true → Wound d (cells_of d ws) order Yes tt
-      wound-yes g =
+      either : (b : Bool) → ok ≡ b → Wound d (cells_of d ws) order (Ok b) tt
+      either true g =
           wound-coherent ready.free ready.ordered (told.yes g).0
           (coherent-same d (cells_of d ws) (λ c. sign_of (get_or marks c 0)) (λ c. word_sign (cell_at (words_by d (cells_of d ws) order) c)) same-signs (told.yes g).1)
-
-      pub wound-no : ok ≡ false → Wound d (cells_of d ws) order No tt
-      wound-no g =
+      either false g =
           wound-incoherent ready.free ready.ordered
           (λ l x. told.no g l (coherent-same d (cells_of d ws) (λ c. word_sign (cell_at (words_by d (cells_of d ws) order) c)) (λ c. sign_of (get_or marks c 0)) (λ c h. sym (same-signs c h)) x))
+
+      pub wound-tested : Wound d (cells_of d ws) order (Ok ok) tt
+      wound-tested = either ok refl

@@ -8,14 +8,7 @@ ghost use Rattle.ordering.specs.WorkAgree.{row_word, Reading, Agreeing, AgreesAt
 fn only(u: &[u32], t: u32) -> bool
     ensures { result ≡ same_word [] (without t u.now) }
 {
-    let mut j = 0;
-    while j < u.len() {
-        if u[j] != t {
-            return false;
-        }
-        j += 1;
-    }
-    true
+    u.iter().all(|&x| x == t)
 }
 
 // Whether w without v and u without t are one sequence.
@@ -24,6 +17,7 @@ fn same_without(w: &[u32], v: u32, u: &[u32], t: u32) -> bool
 {
     let mut i = 0;
     let mut j = 0;
+    // Kept: i and j rise each at a pace of its own.
     while i < w.len() {
         let x = w[i];
         if x == v {
@@ -71,17 +65,14 @@ pub fn agree(d: usize, m: usize, mates: &[u32], list: &[u32]) -> bool
 {
     let k = complex_mates::slots(d);
     let total = m * k;
-    let mut x = 0;
-    while x < total {
+    for x in 0..total {
         let y = mates[x];
         if y == complex_mates::NONE {
-            x += 1;
             continue;
         }
-        if !row_agrees(d, k, m, list, x, lists::wide(y)) {
+        if !row_agrees(d, k, m, list, x, y as usize) {
             return false;
         }
-        x += 1;
     }
     true
 }
@@ -91,12 +82,10 @@ pub fn word_marks(n: usize, m: usize, list: &[u32], marks: &mut [u32])
     requires { Marking n m list.now marks.old }
     ensures { (c : ℕ) → c < m → get_or marks.new c 0 ≡ mark_at n list.now c }
 {
-    let mut c = 0;
-    while c < m {
+    for c in 0..m {
         let at = c * n;
         let end = at + n;
         let odd = multiindex::word::odd_pairs(&list[at..end]);
-        marks[c] = odd as u32 + 1;
-        c += 1;
+        marks[c] = if odd { 2 } else { 1 };
     }
 }

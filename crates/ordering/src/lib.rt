@@ -17,16 +17,15 @@ ghost use Rattle.lists.specs.Zero.{AllZero};
 ghost use Rattle.complex.specs.Cells.{cells_of};
 ghost use Rattle.ordering.specs.Promise.{order_need, Preparing, Prepared, Joined, Worked, Wound, Ordering, Induced};
 
-use refusal::{Answer, BAD_ORDER, CROWDED_FACET, Counted, Room, TOO_SHORT, Verdict};
+use refusal::{Refusal, Room};
 
 pub mod agreement;
 
 // What a call on an order says: how many cells there are, and whether the order agrees on every facet of two of them.
-#[derive(Clone, Copy)]
+#[derive(Clone, Copy, Debug, PartialEq, Eq)]
 pub enum Ordered {
     Agree(u32),
     Differ(u32),
-    Refused(u32, u32),
 }
 
 // The cells, the order's words by cell and the mates: how many cells, or 7 or 16.
@@ -39,7 +38,7 @@ fn prepare(
     rows: &mut [u32],
     spare: &mut [u32],
     counts: &mut [u32],
-) -> Counted
+) -> Result<u32, Refusal>
     requires { Preparing d at words.now keys.old rows.old spare.old counts.old }
     ensures { Prepared d at (length words.now) (cells_of d words.now) order.now keys.new rows.new result }
 {
@@ -47,12 +46,12 @@ fn prepare(
     let m = complex_cells::cells(d, words, keys, rows, spare, counts);
     let fits = ordering_words::arrange(d, m, len, order, &mut keys[at..], rows, spare, counts);
     if !complex_mates::mates(d, m, len, &mut keys[..at], rows, spare, counts) {
-        return Counted::Refused(CROWDED_FACET, 0);
+        return Err(Refusal::CrowdedFacet);
     }
     if !fits {
-        return Counted::Refused(BAD_ORDER, 0);
+        return Err(Refusal::BadOrder);
     }
-    Counted::Count(m as u32)
+    Ok(m as u32)
 }
 
 // The work of `ordering`, in working lists of just the sizes that are needed. Nothing is promised of them.
@@ -66,27 +65,22 @@ fn order_work(
     rows: &mut [u32],
     spare: &mut [u32],
     counts: &mut [u32],
-) -> Ordered
+) -> Result<Ordered, Refusal>
     requires { Preparing d at words.now keys.old rows.old spare.old counts.old }
     ensures { Worked d words.now order.now result listed.old listed.new }
 {
-    let prepared = prepare(d, at, words, order, keys, rows, spare, counts);
-    match prepared {
-        Counted::Refused(number, place) => Ordered::Refused(number, place),
-        Counted::Count(m) => {
-            let count = lists::wide(m);
-            let size = count * (d + 1);
-            if listed.len() < size {
-                return Ordered::Refused(TOO_SHORT, 0);
-            }
-            let end = at + size;
-            lists::copy(&keys[at..end], &mut listed[..size]);
-            if !agreement::agree(d, count, rows, &keys[at..]) {
-                return Ordered::Differ(m);
-            }
-            Ordered::Agree(m)
-        }
+    let m = prepare(d, at, words, order, keys, rows, spare, counts)?;
+    let count = m as usize;
+    let size = count * (d + 1);
+    if listed.len() < size {
+        return Err(Refusal::TooShort);
     }
+    let end = at + size;
+    listed[..size].copy_from_slice(&keys[at..end]);
+    if !agreement::agree(d, count, rows, &keys[at..]) {
+        return Ok(Ordered::Differ(m));
+    }
+    Ok(Ordered::Agree(m))
 }
 
 // The work of `ordering`, and then the working lists are all zero.
@@ -100,7 +94,7 @@ fn order_cleared(
     rows: &mut [u32],
     spare: &mut [u32],
     counts: &mut [u32],
-) -> Ordered
+) -> Result<Ordered, Refusal>
     requires { Preparing d at words.now keys.old rows.old spare.old counts.old }
     ensures work { Worked d words.now order.now result listed.old listed.new }
     ensures room { AllZero keys.old keys.new rows.old rows.new spare.old spare.new counts.old
@@ -137,14 +131,11 @@ pub fn ordering(
     rows: &mut [u32],
     spare: &mut [u32],
     counts: &mut [u32],
-) -> Ordered
+) -> Result<Ordered, Refusal>
     ensures { Ordering d words.now order.now result listed.old listed.new keys.old keys.new
         rows.old rows.new spare.old spare.new counts.old counts.new }
 {
-    let checked = complex::check_cells(d, words);
-    if let Answer::Refused(number, place) = checked {
-        return Ordered::Refused(number, place);
-    }
+    complex::check_cells(d, words)?;
     let dim = d as usize;
     let len = words.len();
     let base = complex_facets::need(len);
@@ -157,7 +148,7 @@ pub fn ordering(
         counts: counts.len(),
     };
     if !refusal::has_room(need, have) {
-        return Ordered::Refused(TOO_SHORT, 0);
+        return Err(Refusal::TooShort);
     }
     let k = need.keys;
     let r = need.rows;
@@ -186,7 +177,7 @@ fn join(
     rows: &mut [u32],
     spare: &mut [u32],
     counts: &mut [u32],
-) -> Counted
+) -> Result<u32, Refusal>
     requires { Preparing d at words.now keys.old rows.old spare.old counts.old }
     ensures { Joined d at (length words.now) (cells_of d words.now) order.now keys.new rows.new spare.new result }
 {
@@ -194,12 +185,12 @@ fn join(
     let m = complex_cells::cells(d, words, keys, rows, spare, counts);
     let fits = ordering_words::arrange(d, m, len, order, &mut keys[at..], rows, spare, counts);
     if !complex_facets::links(d, m, len, &mut keys[..at], rows, spare, counts) {
-        return Counted::Refused(CROWDED_FACET, 0);
+        return Err(Refusal::CrowdedFacet);
     }
     if !fits {
-        return Counted::Refused(BAD_ORDER, 0);
+        return Err(Refusal::BadOrder);
     }
-    Counted::Count(m as u32)
+    Ok(m as u32)
 }
 
 // The work of `induced_orientation`, in working lists of just the sizes that are needed. Nothing is promised of them.
@@ -212,22 +203,14 @@ fn wound_work(
     rows: &mut [u32],
     spare: &mut [u32],
     counts: &mut [u32],
-) -> Verdict
+) -> Result<bool, Refusal>
     requires { Preparing d at words.now keys.old rows.old spare.old counts.old }
     ensures { Wound d (cells_of d words.now) order.now result tt }
 {
-    let joined = join(d, at, words, order, keys, rows, spare, counts);
-    match joined {
-        Counted::Refused(number, place) => Verdict::Refused(number, place),
-        Counted::Count(m) => {
-            let count = lists::wide(m);
-            agreement::word_marks(d + 1, count, &keys[at..], counts);
-            if !orientation_by::coherent_over(d, count, rows, spare, counts) {
-                return Verdict::No;
-            }
-            Verdict::Yes
-        }
-    }
+    let m = join(d, at, words, order, keys, rows, spare, counts)?;
+    let count = m as usize;
+    agreement::word_marks(d + 1, count, &keys[at..], counts);
+    Ok(orientation_by::coherent_over(d, count, rows, spare, counts))
 }
 
 // The work of `induced_orientation`, and then the working lists are all zero.
@@ -240,7 +223,7 @@ fn wound_cleared(
     rows: &mut [u32],
     spare: &mut [u32],
     counts: &mut [u32],
-) -> Verdict
+) -> Result<bool, Refusal>
     requires { Preparing d at words.now keys.old rows.old spare.old counts.old }
     ensures work { Wound d (cells_of d words.now) order.now result tt }
     ensures room { AllZero keys.old keys.new rows.old rows.new spare.old spare.new counts.old
@@ -261,14 +244,11 @@ pub fn induced_orientation(
     rows: &mut [u32],
     spare: &mut [u32],
     counts: &mut [u32],
-) -> Verdict
+) -> Result<bool, Refusal>
     ensures { Induced d words.now order.now result keys.old keys.new rows.old rows.new spare.old
         spare.new counts.old counts.new }
 {
-    let checked = complex::check_cells(d, words);
-    if let Answer::Refused(number, place) = checked {
-        return Verdict::Refused(number, place);
-    }
+    complex::check_cells(d, words)?;
     let dim = d as usize;
     let len = words.len();
     let base = complex_facets::need(len);
@@ -281,7 +261,7 @@ pub fn induced_orientation(
         counts: counts.len(),
     };
     if !refusal::has_room(need, have) {
-        return Verdict::Refused(TOO_SHORT, 0);
+        return Err(Refusal::TooShort);
     }
     let k = need.keys;
     let r = need.rows;

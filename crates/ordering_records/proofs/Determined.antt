@@ -1,9 +1,9 @@
 -- The promise determines what is said and every list: two calls on equal inputs end alike. Assumes nothing.
+use Rattle.refusal.specs.Says.{Counted}
 use mathlib.Core.List.{List, []}
 use mathlib.Core.Path.{◌≡◌, refl, sym, ap, ◌∙◌}
 use Prim.Native.Nat.{ℕ}
 use lib.ListN.{length}
-use Rattle.refusal.specs.declared.Counted.{Counted}
 use Rattle.refusal.specs.Lent.{onto}
 use Rattle.complex.specs.Cells.{cells_of}
 use Rattle.complex.specs.Skeleton.{facets_of}

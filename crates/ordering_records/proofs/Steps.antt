@@ -1,4 +1,7 @@
 -- The work step by step: the facets that one pass found, their records, and what the order's words say of them. Assumes nothing.
+use Rattle.refusal.specs.declared.Refusal.TheVariants.{BadOrder, CrowdedFacet, TooShort}
+use Rattle.refusal.specs.Says.{Counted}
+use Rattle.std.specs.Prelude.{Err, Ok, Option, Some, None}
 use mathlib.Core.Bool.{Bool, true, false}
 use mathlib.Core.List.{List, [], ◌++◌}
 use mathlib.Core.Path.{◌≡◌, refl, sym, ap, ◌∙◌, subst}
@@ -10,9 +13,6 @@ use native.Mathlib.Omega.{arith}
 use lib.ListN.{length, get_or, take, drop, length-append, length-drop}
 use lib.Seq.{length-take-le, take_at}
 use borrow.Author.Tests.{eq-eqb, ne_eqb}
-use Rattle.refusal.specs.declared.Counted.{Counted}
-use Rattle.refusal.specs.declared.Counted.TheVariants as Counted
-use Rattle.refusal.specs.Table.{crowded_facet, bad_order, too_short}
 use Rattle.refusal.specs.Limits.{many_corners}
 use Rattle.refusal.specs.Lent.{onto}
 use Rattle.lists.specs.Rows.{cut, flat}
@@ -147,11 +147,11 @@ module _ (d at m f : ℕ) (keys reps others : List ℕ) (w : Handing d at m f ke
   records-long : length (records_of d cs ks) ≡ f * 5
   records-long = each_long d cs ks (facets_of d cs) ∙ ap (λ (n : ℕ). n * 5) many
 
-  pub facets-short : (facets records : List ℕ) → length facets < f * d → WorkedWith d w.ws w.order (Counted.Refused too_short 0) facets facets records records
+  pub facets-short : (facets records : List ℕ) → length facets < f * d → WorkedWith d w.ws w.order (Err TooShort) facets facets records records
   facets-short facets records h =
       record { handed = ([], []); ends = rest w.ready.free (ordered w.ready.ordered (words_short (omega (arith, facets-long)))); result = refl; sides = refl }
 
-  pub records_short : (facets records : List ℕ) → length records < f * 5 → WorkedWith d w.ws w.order (Counted.Refused too_short 0) facets facets records records
+  pub records_short : (facets records : List ℕ) → length records < f * 5 → WorkedWith d w.ws w.order (Err TooShort) facets facets records records
   records_short facets records h =
       record { handed = ([], []); ends = rest w.ready.free (ordered w.ready.ordered (table_short (omega (arith, records-long)))); result = refl; sides = refl }
 
@@ -173,14 +173,14 @@ module _ (d at m f : ℕ) (keys reps others : List ℕ) (w : Handing d at m f ke
         ∙ set_all d cs ks (facets_of d cs) (λ i. agree_at d k m list (get_or reps i 0) (get_or others i 0)) says (drop (f * 5) records)
         ∙ ap (λ (n : ℕ). records_of d cs ks ++ drop n records) (sym records-long)
 
-    pub all-handed : (facets facets' : List ℕ) → f * d ≤ length facets → f * 5 ≤ length records → facets' ≡ rows_of (take at keys) d (take f reps) ++ drop (f * d) facets → WorkedWith d w.ws w.order (Counted.Count f) facets facets' records records₂
+    pub all-handed : (facets facets' : List ℕ) → f * d ≤ length facets → f * 5 ≤ length records → facets' ≡ rows_of (take at keys) d (take f reps) ++ drop (f * d) facets → WorkedWith d w.ws w.order (Ok f) facets facets' records records₂
     all-handed facets facets' h l o =
         record {
           handed = (flat (facets_of d cs), records_of d cs ks);
           ends =
               rest w.ready.free
               (ordered w.ready.ordered
-              (subst (λ (n : ℕ). GivesBoth (facets_of d cs) (records_of d cs ks) (length facets) (length records) (Counted.Count n) (flat (facets_of d cs), records_of d cs ks)) many
+              (subst (λ (n : ℕ). GivesBoth (facets_of d cs) (records_of d cs ks) (length facets) (length records) (Ok n) (flat (facets_of d cs), records_of d cs ks)) many
               (both_listed (omega (arith, facets-long)) (omega (arith, records-long)))));
           result = rw (facets-long, facets-flat) o;
           sides = tagged_is;
@@ -204,18 +204,18 @@ module _ (d at : ℕ) (ws keys rows₀ spare counts : List ℕ) (w : Preparing d
       let k = steps.keeps d at ws keys rows₀ spare counts w m keys' rows' spare' counts' lk lr ls lc a order fits ys rows'' spare'' counts'' ly lr'' ls'' lc'' b in
       (k.meeting, k.narrow)
 
-  module _ (ok : Bool) (f : ℕ) (p rows''' spare''' counts''' : List ℕ) (lp : length p ≡ length (take at keys'')) (c : Found d (cut (suc d) m rows'') ok f p spare''' counts''' rows''') where
+  module _ (said : Option ℕ) (f : ℕ) (p rows''' spare''' counts''' : List ℕ) (lp : length p ≡ length (take at keys'')) (c : Found d (cut (suc d) m rows'') said p spare''' counts''' rows''') where
     -- 7
-    pub work-crowded : ok ≡ false → (facets records : List ℕ) → WorkedWith d ws order (Counted.Refused crowded_facet 0) facets facets records records
+    pub work-crowded : said ≡ None → (facets records : List ℕ) → WorkedWith d ws order (Err CrowdedFacet) facets facets records records
     work-crowded e facets records =
         record { handed = ([], []); ends = crowded (subst (λ (cs : List Word). Crowded d cs) a''.same (c.no e)); result = refl; sides = refl }
 
-    module _ (e : ok ≡ true) where
+    module _ (e : said ≡ Some f) where
       free : Crowded d (cells_of d ws) → ⊥
-      free x = not-crowded d m (cut (suc d) m rows'') (cut-length (suc d) m rows'') rows''' (c.yes e).mates (omega (arith, a.most, a.corners)) (subst (λ (cs : List Word). Crowded d cs) (sym a''.same) x)
+      free x = not-crowded d m (cut (suc d) m rows'') (cut-length (suc d) m rows'') rows''' (c.yes f e).mates (omega (arith, a.most, a.corners)) (subst (λ (cs : List Word). Crowded d cs) (sym a''.same) x)
 
       -- 16
-      pub work-unordered : fits ≡ false → (facets records : List ℕ) → WorkedWith d ws order (Counted.Refused bad_order 0) facets facets records records
+      pub work-unordered : fits ≡ false → (facets records : List ℕ) → WorkedWith d ws order (Err BadOrder) facets facets records records
       work-unordered n facets records =
           record { handed = ([], []); ends = rest free (unordered (λ o. b.none n (subst (λ (cs : List Word). Orders d cs order) (sym a.same) o))); result = refl; sides = refl }
 
@@ -227,8 +227,8 @@ module _ (d at : ℕ) (ws keys rows₀ spare counts : List ℕ) (w : Preparing d
 
       the-ready : fits ≡ true → Ready d at (length ws) (cells_of d ws) order (p ++ drop at keys'') rows'''
       the-ready y =
-          (count-ready d at (length ws) (cells_of d ws) order (p ++ drop at keys'') rows''' (Counted.Count m)
-          (steps.prepared-ready d at ws keys rows₀ spare counts w m keys' rows' spare' counts' lk lr ls lc a order fits ys rows'' spare'' counts'' ly lr'' ls'' lc'' b p rows''' lp (c.yes e).mates y) m refl).1
+          (count-ready d at (length ws) (cells_of d ws) order (p ++ drop at keys'') rows''' (Ok m)
+          (steps.prepared-ready d at ws keys rows₀ spare counts w m keys' rows' spare' counts' lk lr ls lc a order fits ys rows'' spare'' counts'' ly lr'' ls'' lc'' b p rows''' lp (c.yes f e).mates y) m refl).1
 
       pub keys_long : length (p ++ drop at keys'') ≡ length keys
       keys_long =
@@ -245,11 +245,11 @@ module _ (d at : ℕ) (ws keys rows₀ spare counts : List ℕ) (w : Preparing d
             passed = w.passed;
             many = sym (ap length (sym a.same) ∙ cut-length (suc d) m rows');
             good = subst (λ (cs : List Word). Cells d cs) a.same a.cells;
-            most = omega (arith, (c.yes e).classes.most, facet-rows, a.most);
+            most = omega (arith, (c.yes f e).classes.most, facet-rows, a.most);
             start = omega (arith, keys_long, w.keys_long, w.start);
             small = omega (arith, w.start, a.corners);
             long = omega (arith, keys_long, w.keys_long, w.start, ap (λ (x : ℕ). m * x) (add-one d), a.most);
-            pass = subst (λ (l : List ℕ). Pass d (cells_of d ws) f l spare''' counts''' rows''') (sym (take_at p (drop at keys'') at p-long)) (subst (λ (cs : List Word). Pass d cs f p spare''' counts''' rows''') a''.same (c.yes e));
+            pass = subst (λ (l : List ℕ). Pass d (cells_of d ws) f l spare''' counts''' rows''') (sym (take_at p (drop at keys'') at p-long)) (subst (λ (cs : List Word). Pass d cs f p spare''' counts''' rows''') a''.same (c.yes f e));
             ready = the-ready y;
           }
         where

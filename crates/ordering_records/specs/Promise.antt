@@ -1,8 +1,8 @@
 -- What the call `facet_records_with` comes to, on every input. Assumes nothing.
+use Rattle.refusal.specs.declared.Refusal.TheVariants.{BadOrder}
+use Rattle.refusal.specs.Says.{Counted}
+use Rattle.std.specs.Prelude.{Err}
 use Rattle.std.specs.Prelude.{List, [], ◌≡◌, ℕ, length}
-use Rattle.refusal.specs.declared.Counted.{Counted}
-use Rattle.refusal.specs.declared.Counted.TheVariants.{Refused}
-use Rattle.refusal.specs.Table.{bad_order}
 use Rattle.refusal.specs.Lent.{onto}
 use Rattle.complex.specs.Cells.{cells_of}
 use Rattle.complex.specs.Skeleton.{facets_of}
@@ -13,7 +13,7 @@ use Rattle.ordering.specs.Promise.{order_need}
 
 -- how a call with an order goes on after 7: 16 where the order's words are not one for each cell, or `Rest`
 pub data Along {H : Type 0} (nothing : H) (d : ℕ) (cs : List (List ℕ)) (order : List ℕ) (Rest : Counted → H → Type 0) : Counted → H → Type 0 where
-  unordered : (Orders d cs order → ⊥) → Along nothing d cs order Rest (Refused bad_order 0) nothing
+  unordered : (Orders d cs order → ⊥) → Along nothing d cs order Rest (Err BadOrder) nothing
   ordered : {r : Counted} {h : H} → Orders d cs order → Rest r h → Along nothing d cs order Rest r h
 
 -- the facets and their records by the order's words, or 16, or 12 where either list is too short

@@ -15,7 +15,7 @@ ghost use Rattle.ordering.specs.Promise.{Preparing};
 ghost use Rattle.ordering_records.specs.Promise.{RecordsWith};
 ghost use Rattle.ordering_records.specs.Work.{agree_at, tagged, Asking, Tagging, Handing, WorkedWith};
 
-use refusal::{Answer, BAD_ORDER, CROWDED_FACET, Counted, Room, TOO_SHORT};
+use refusal::{Refusal, Room};
 
 // No row: a facet in one cell has no other row.
 const NONE: u32 = 4294967295;
@@ -28,7 +28,7 @@ fn agree_at(d: usize, k: usize, m: usize, list: &[u32], x: u32, y: u32) -> u32
     if y == NONE {
         return 1;
     }
-    if ordering::agreement::row_agrees(d, k, m, list, lists::wide(x), lists::wide(y)) {
+    if ordering::agreement::row_agrees(d, k, m, list, x as usize, y as usize) {
         return 1;
     }
     0
@@ -48,11 +48,9 @@ fn tag(
     requires { Tagging d k m list.now f reps.now others.now records.old }
     ensures { records.new ≡ tagged (λ i. agree_at d k m list.now (get_or reps.now i 0) (get_or others.now i 0)) f records.old }
 {
-    let mut i = 0;
-    while i < f {
+    for i in 0..f {
         let last = i * 5 + 4;
         records[last] = agree_at(d, k, m, list, reps[i], others[i]);
-        i += 1;
     }
 }
 
@@ -67,22 +65,22 @@ fn hand_out(
     others: &[u32],
     facets: &mut [u32],
     records: &mut [u32],
-) -> Counted
+) -> Result<u32, Refusal>
     requires { Handing d at m f keys.now reps.now others.now }
     ensures { (w : Handing d at m f keys.now reps.now others.now) → WorkedWith d w.ws w.order result facets.old
         facets.new records.old records.new }
 {
     if facets.len() < f * d {
-        return Counted::Refused(TOO_SHORT, 0);
+        return Err(Refusal::TooShort);
     }
     if records.len() < f * 5 {
-        return Counted::Refused(TOO_SHORT, 0);
+        return Err(Refusal::TooShort);
     }
     sorting::gather(&keys[..at], d, reps, f, facets);
     let k = complex_mates::slots(d);
     complex_facets::write_records(d, k, f, reps, others, records);
     tag(d, k, m, &keys[at..], f, reps, others, records);
-    Counted::Count(f as u32)
+    Ok(f as u32)
 }
 
 // The facets and their records, or 7 or 16, in working lists of just the sizes that are needed. Nothing is promised of these.
@@ -97,21 +95,20 @@ fn work(
     rows: &mut [u32],
     spare: &mut [u32],
     counts: &mut [u32],
-) -> Counted
+) -> Result<u32, Refusal>
     requires { Preparing d at words.now keys.old rows.old spare.old counts.old }
     ensures { WorkedWith d words.now order.now result facets.old facets.new records.old records.new }
 {
     let len = words.len();
     let m = complex_cells::cells(d, words, keys, rows, spare, counts);
     let fits = ordering_words::arrange(d, m, len, order, &mut keys[at..], rows, spare, counts);
-    let found = complex_facets::facets(d, m, len, &mut keys[..at], rows, spare, counts);
-    if !found.sound {
-        return Counted::Refused(CROWDED_FACET, 0);
-    }
+    let Some(f) = complex_facets::facets(d, m, len, &mut keys[..at], rows, spare, counts) else {
+        return Err(Refusal::CrowdedFacet);
+    };
     if !fits {
-        return Counted::Refused(BAD_ORDER, 0);
+        return Err(Refusal::BadOrder);
     }
-    hand_out(d, at, m, found.count, keys, spare, counts, facets, records)
+    hand_out(d, at, m, f, keys, spare, counts, facets, records)
 }
 
 // The work, and then the working lists are all zero.
@@ -126,7 +123,7 @@ fn cleared(
     rows: &mut [u32],
     spare: &mut [u32],
     counts: &mut [u32],
-) -> Counted
+) -> Result<u32, Refusal>
     requires { Preparing d at words.now keys.old rows.old spare.old counts.old }
     ensures work { WorkedWith d words.now order.now result facets.old facets.new records.old records.new }
     ensures room { AllZero keys.old keys.new rows.old rows.new spare.old spare.new counts.old
@@ -153,15 +150,12 @@ pub fn facet_records_with(
     rows: &mut [u32],
     spare: &mut [u32],
     counts: &mut [u32],
-) -> Counted
+) -> Result<u32, Refusal>
     ensures { RecordsWith d words.now order.now result facets.old facets.new records.old records.new
         keys.old keys.new rows.old rows.new spare.old spare.new counts.old
         counts.new }
 {
-    let checked = complex::check_cells(d, words);
-    if let Answer::Refused(number, place) = checked {
-        return Counted::Refused(number, place);
-    }
+    complex::check_cells(d, words)?;
     let dim = d as usize;
     let len = words.len();
     let base = complex_facets::need(len);
@@ -174,7 +168,7 @@ pub fn facet_records_with(
         counts: counts.len(),
     };
     if !refusal::has_room(need, have) {
-        return Counted::Refused(TOO_SHORT, 0);
+        return Err(Refusal::TooShort);
     }
     let k = need.keys;
     let r = need.rows;

@@ -11,14 +11,7 @@ fn all_below(ws: &[u32], b: usize) -> bool
     ensures low { result ≡ true → (i : ℕ) → i < length ws.now → get_or ws.now i 0 < b }
     ensures high { result ≡ false → (i : ℕ) × (i < length ws.now) × (b ≤ get_or ws.now i 0) }
 {
-    let mut i = 0;
-    while i < ws.len() {
-        if b <= lists::wide(ws[i]) {
-            return false;
-        }
-        i += 1;
-    }
-    true
+    ws.iter().all(|&w| (w as usize) < b)
 }
 
 // Writes the m order words of n numbers, each sorted, and behind them the cells.
@@ -28,8 +21,8 @@ fn lay_out(n: usize, m: usize, order: &[u32], cells: &[u32], keys: &mut [u32])
 {
     let len = order.len();
     let end = len + len;
-    lists::copy(order, &mut keys[..len]);
-    lists::copy(&cells[..len], &mut keys[len..end]);
+    keys[..len].copy_from_slice(order);
+    keys[len..end].copy_from_slice(&cells[..len]);
     multiindex::word::sort_words(keys, n, m);
 }
 
@@ -56,7 +49,7 @@ fn matched(
     if classes != m {
         return false;
     }
-    lists::same(&cells[..len], &keys[len..end])
+    cells[..len] == keys[len..end]
 }
 
 // Whether `order` is an order of the m cells in `cells`, whose numbers are below b. If it is, its words by cell stand in `keys`, and behind them the cells.
@@ -84,7 +77,7 @@ pub fn arrange(
     }
     let fits = matched(n, m, b, order, keys, cells, spare, counts);
     let end = len + len;
-    lists::copy(&keys[len..end], &mut cells[..len]);
+    cells[..len].copy_from_slice(&keys[len..end]);
     if !fits {
         return false;
     }

@@ -1,15 +1,16 @@
 -- The ways out of the entry. Assumes nothing.
+use Rattle.refusal.specs.declared.Refusal.{Refusal}
+use Rattle.refusal.specs.declared.Refusal.TheVariants.{TooShort}
+use Rattle.refusal.specs.Says.{fine}
+use Rattle.std.specs.Prelude.{Err, Result}
 use mathlib.Core.List.{List, [], ◌++◌}
 use mathlib.Core.Path.{◌≡◌, refl, ap, ◌∙◌, subst}
 use Prim.Native.Nat.{ℕ}
 use lib.IntN.{ℤ}
 use lib.ListN.{length, take, drop}
 use lib.Seq.{length-take-le}
-use Rattle.refusal.specs.declared.Answer.TheVariants as Answer
 use Rattle.refusal.specs.declared.Room.{Room}
 use Rattle.orientation.specs.declared.Coherence.{Coherence}
-use Rattle.orientation.specs.declared.Coherence.TheVariants.{Refused}
-use Rattle.refusal.specs.Table.{too_short}
 use Rattle.refusal.specs.Lent.{untouched, lengths, Roomy}
 use Rattle.refusal.specs.Call.{Comes, refused, cramped, ended}
 use Rattle.refusal.proofs.Parts.{parts-cleared}
@@ -22,11 +23,11 @@ use Rattle.orientation.specs.Promise.{Ends, Orientation}
 use Rattle.orientation.specs.Work.{Furnished, Worked}
 
 module _ (d : ℕ) (ws : List ℕ) (out : List ℤ) (keys rows spare counts : List ℕ) where
-  pub out-refused : (n p : ℕ) → answer_of d ws ≡ Answer.Refused n p → Orientation d ws (Refused n p) out out keys keys rows rows spare spare counts counts
-  out-refused n p e =
+  pub out-refused : (why : Refusal) → answer_of d ws ≡ Err why → Orientation d ws (Err why) out out keys keys rows rows spare spare counts counts
+  out-refused why e =
       record { handed = []; used = untouched; comes = refused e; result = refl; room = record { of_keys = refl; of_rows = refl; of_spare = refl; of_counts = refl } }
 
-  pub out-cramped : answer_of d ws ≡ Answer.Fine → (n : Room) → n ≡ record_need (length ws) → (Roomy n (lengths keys rows spare counts) → ⊥) → Orientation d ws (Refused too_short 0) out out keys keys rows rows spare spare counts counts
+  pub out-cramped : answer_of d ws ≡ fine → (n : Room) → n ≡ record_need (length ws) → (Roomy n (lengths keys rows spare counts) → ⊥) → Orientation d ws (Err TooShort) out out keys keys rows rows spare spare counts counts
   out-cramped e n q f =
       record {
         handed = [];
@@ -36,7 +37,7 @@ module _ (d : ℕ) (ws : List ℕ) (out : List ℤ) (keys rows spare counts : Li
         room = record { of_keys = refl; of_rows = refl; of_spare = refl; of_counts = refl };
       }
 
-  module _ (e : answer_of d ws ≡ Answer.Fine) (n : Room) (q : n ≡ record_need (length ws)) (h : Roomy n (lengths keys rows spare counts)) where
+  module _ (e : answer_of d ws ≡ fine) (n : Room) (q : n ≡ record_need (length ws)) (h : Roomy n (lengths keys rows spare counts)) where
     pub working : Furnished d ws (take n.keys keys) (take n.rows rows) (take n.spare spare) (take n.counts counts)
     working =
         record {
@@ -47,13 +48,13 @@ module _ (d : ℕ) (ws : List ℕ) (out : List ℤ) (keys rows spare counts : Li
           counts_long = length-take-le n.counts counts h.in_counts ∙ ap (λ (m : Room). m.counts) q;
         }
 
-    pub out-ended : (r : Coherence) (out' : List ℤ) (k o s c : List ℕ) → Worked d ws r out out' → AllZero (take n.keys keys) k (take n.rows rows) o (take n.spare spare) s (take n.counts counts) c →
+    pub out-ended : (r : Result Coherence Refusal) (out' : List ℤ) (k o s c : List ℕ) → Worked d ws r out out' → AllZero (take n.keys keys) k (take n.rows rows) o (take n.spare spare) s (take n.counts counts) c →
         Orientation d ws r out out' keys (k ++ drop n.keys keys) rows (o ++ drop n.rows rows) spare (s ++ drop n.spare spare) counts (c ++ drop n.counts counts)
     out-ended r out' k o s c w z =
         record {
           handed = w.handed;
           used = n;
-          comes = subst (λ (m : Room). Comes Refused [] (answer_of d ws) m (lengths keys rows spare counts) (Ends d (cells_of d ws) (length out)) r w.handed n) q (ended e h w.ends);
+          comes = subst (λ (m : Room). Comes Err [] (answer_of d ws) m (lengths keys rows spare counts) (Ends d (cells_of d ws) (length out)) r w.handed n) q (ended e h w.ends);
           result = w.result;
           room = parts-cleared n keys k rows o spare s counts c h z;
         }

@@ -1,15 +1,16 @@
 -- The work of `orientation`, step by step: what each call asks follows from what the calls before it gave. Assumes nothing.
+use Rattle.refusal.specs.declared.Refusal.TheVariants.{CrowdedFacet, TooShort}
+use Rattle.std.specs.Prelude.{Err, Ok}
 use mathlib.Core.Bool.{Bool, true, false}
 use mathlib.Core.List.{List, [], ◌∷◌, ◌++◌}
 use mathlib.Core.Path.{◌≡◌, refl, sym, ap, ◌∙◌, subst}
-use Prim.Native.Nat.{ℕ, zero, suc, ◌+◌, ◌*◌, ◌<◌, ◌≤◌}
+use Prim.Native.Nat.{ℕ, zero, suc, ◌*◌, ◌<◌, ◌≤◌}
 use native.Mathlib.Nat.{mul_comm, mul-zero, suc-mul, mul-suc, mul-le-mul_left, mul-le-mul_right}
 use native.Mathlib.Omega.{arith}
 use lib.IntN.{ℤ}
 use lib.ListN.{length, get_or, take, drop}
 use lib.Seq.{length-take-le}
-use Rattle.orientation.specs.declared.Coherence.TheVariants.{Signs, OneSided, Refused}
-use Rattle.refusal.specs.Table.{crowded_facet, too_short}
+use Rattle.orientation.specs.declared.Coherence.TheVariants.{Signs, OneSided}
 use Rattle.lists.specs.Rows.{cut}
 use Rattle.complex.specs.Cells.{cells_of}
 use Rattle.lists.proofs.Rows.{cut-length}
@@ -116,7 +117,7 @@ module _ (d : ℕ) (ws keys rows spare counts : List ℕ) (w : Furnished d ws ke
     cells-many = ap length (sym a.same) ∙ cut-length (suc d) m rows'
 
     -- 7
-    pub worked-crowded : (out : List ℤ) → Crowded d (cut (suc d) m rows') → Worked d ws (Refused crowded_facet 0) out out
+    pub worked-crowded : (out : List ℤ) → Crowded d (cut (suc d) m rows') → Worked d ws (Err CrowdedFacet) out out
     worked-crowded out x = record { handed = []; ends = crowded (subst (λ (cs : List (List ℕ)). Crowded d cs) a.same x); result = refl }
 
     module _ (keys'' rows'' spare'' counts'' : List ℕ) (lk'' : length keys'' ≡ length keys') (lr'' : length rows'' ≡ length rows') (ls'' : length spare'' ≡ length spare') (lc'' : length counts'' ≡ length counts') (t : Linked d (cut (suc d) m rows') rows'' spare'') where
@@ -145,28 +146,28 @@ module _ (d : ℕ) (ws keys rows spare counts : List ℕ) (w : Furnished d ws ke
         looks-made = f'.made ∙ ap (looks_of d) a.same
 
         -- 13
-        pub worked-one-sided : (out : List ℤ) → ok ≡ false → Worked d ws (OneSided looks) out out
+        pub worked-one-sided : (out : List ℤ) → ok ≡ false → Worked d ws (Ok (OneSided looks)) out out
         worked-one-sided out e =
-            subst (λ (n : ℕ). Worked d ws (OneSided n) out out) (sym looks-made)
+            subst (λ (n : ℕ). Worked d ws (Ok (OneSided n)) out out) (sym looks-made)
             (record { handed = []; ends = one_sided free (λ σ p. f'.no e σ (subst (λ (cs : List (List ℕ)). Coherent d cs σ) (sym a.same) p)); result = refl })
 
         signs_are : ok ≡ true → Oriented d (cells_of d ws) (λ c. sign_of (get_or marks c 0))
         signs_are e = subst (λ (cs : List (List ℕ)). Oriented d cs (λ c. sign_of (get_or marks c 0))) a.same (f'.yes e)
 
         -- 12
-        pub worked-short : (out : List ℤ) → ok ≡ true → length out < m → Worked d ws (Refused too_short 0) out out
+        pub worked-short : (out : List ℤ) → ok ≡ true → length out < m → Worked d ws (Err TooShort) out out
         worked-short out e h = record { handed = []; ends = short free (λ c. sign_of (get_or marks c 0)) (signs_are e) (omega (arith, cells-many)); result = refl }
 
         pub marks_long : m ≤ length marks
         marks_long = omega (arith, a.most, mul-suc m d, w.counts_long)
 
         -- the signs
-        pub worked-signed : (out part : List ℤ) → ok ≡ true → m ≤ length out → part ≡ handed_out (take (length (take m out)) marks) → Worked d ws (Signs m looks) out (part ++ drop m out)
+        pub worked-signed : (out part : List ℤ) → ok ≡ true → m ≤ length out → part ≡ handed_out (take (length (take m out)) marks) → Worked d ws (Ok (Signs m looks)) out (part ++ drop m out)
         worked-signed out part e h p =
-            subst (λ (n : ℕ). Worked d ws (Signs m n) out (part ++ drop m out)) (sym (looks-made ∙ looks-whole d (cells_of d ws) (λ c. sign_of (get_or marks c 0)) (signs_are e) free))
+            subst (λ (n : ℕ). Worked d ws (Ok (Signs m n)) out (part ++ drop m out)) (sym (looks-made ∙ looks-whole d (cells_of d ws) (λ c. sign_of (get_or marks c 0)) (signs_are e) free))
             (record {
               handed = sign_list (λ c. sign_of (get_or marks c 0)) (length (cells_of d ws));
-              ends = subst (λ (n : ℕ). Ends d (cells_of d ws) (length out) (Signs n (length (cells_of d ws) * slots d)) (sign_list (λ c. sign_of (get_or marks c 0)) (length (cells_of d ws)))) cells-many
+              ends = subst (λ (n : ℕ). Ends d (cells_of d ws) (length out) (Ok (Signs n (length (cells_of d ws) * slots d))) (sign_list (λ c. sign_of (get_or marks c 0)) (length (cells_of d ws)))) cells-many
                   (signed free (λ c. sign_of (get_or marks c 0)) (signs_are e) (omega (arith, cells-many)));
               result = rw (cells-many, length-signs (λ c. sign_of (get_or marks c 0)) m, p, length-take-le m out h, handed-signs marks m marks_long);
             })

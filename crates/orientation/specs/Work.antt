@@ -1,4 +1,6 @@
 -- What the work of `orientation` asks of its lists, of just the lengths that are needed, and what it gives. Assumes nothing.
+use Rattle.refusal.specs.declared.Refusal.{Refusal}
+use Rattle.std.specs.Prelude.{Result}
 use Rattle.std.specs.Prelude.{List, ◌≡◌, ℕ, ◌*◌, ℤ, length}
 use Rattle.refusal.specs.Lent.{onto}
 use Rattle.complex.specs.Check.{Passed}
@@ -24,7 +26,7 @@ pub record Working (d : ℕ) (ws keys rows spare counts : List ℕ) : Type 0 whe
   pub counts_long : length counts ≡ length ws
 
 -- the call on the cells, and the sign list afterwards
-pub record Worked (d : ℕ) (ws : List ℕ) (r : Coherence) (signs signs' : List ℤ) : Type 0 where
+pub record Worked (d : ℕ) (ws : List ℕ) (r : Result Coherence Refusal) (signs signs' : List ℤ) : Type 0 where
   pub handed : List ℤ
   pub ends : Ends d (cells_of d ws) (length signs) r handed
   pub result : signs' ≡ onto handed signs

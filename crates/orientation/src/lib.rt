@@ -14,24 +14,22 @@ ghost use Rattle.lists.specs.Zero.{AllZero};
 ghost use Rattle.orientation.specs.Promise.{Orientation, counted_of};
 ghost use Rattle.orientation.specs.Work.{Furnished, Worked};
 
-use refusal::{Answer, CROWDED_FACET, Counted, NO_SIGNS, Room, TOO_SHORT};
+use refusal::{Refusal, Room};
 
-// What the call says: how many cells got signs, or that there are no coherent signs, each with the facet looks of the walk; or another refusal, with its number and place.
-#[derive(Clone, Copy)]
+// What the call says: how many cells got signs, or that there are no coherent signs, each with the facet looks of the walk.
+#[derive(Clone, Copy, Debug, PartialEq, Eq)]
 pub enum Coherence {
     Signs(u32, u32),
     OneSided(u32),
-    Refused(u32, u32),
 }
 
-// The same without the looks: no coherent signs is refusal 13 at place 0.
-pub fn counted(said: Coherence) -> Counted
+// The same without the looks: no coherent signs is a refusal.
+pub fn counted(said: Result<Coherence, Refusal>) -> Result<u32, Refusal>
     ensures { result ≡ counted_of said }
 {
-    match said {
-        Coherence::Signs(cells, _) => Counted::Count(cells),
-        Coherence::OneSided(_) => Counted::Refused(NO_SIGNS, 0),
-        Coherence::Refused(number, place) => Counted::Refused(number, place),
+    match said? {
+        Coherence::Signs(cells, _) => Ok(cells),
+        Coherence::OneSided(_) => Err(Refusal::NoSigns),
     }
 }
 
@@ -44,24 +42,24 @@ fn work(
     rows: &mut [u32],
     spare: &mut [u32],
     counts: &mut [u32],
-) -> Coherence
+) -> Result<Coherence, Refusal>
     requires { Furnished d words.now keys.old rows.old spare.old counts.old }
     ensures { Worked d words.now result signs.old signs.new }
 {
     let m = complex_cells::cells(d, words, keys, rows, spare, counts);
     if !complex_facets::links(d, m, words.len(), keys, rows, spare, counts) {
-        return Coherence::Refused(CROWDED_FACET, 0);
+        return Err(Refusal::CrowdedFacet);
     }
     let searched = orientation_signs::coherent(d, m, rows, spare, counts, keys);
     if !searched.found {
-        return Coherence::OneSided(searched.looks);
+        return Ok(Coherence::OneSided(searched.looks));
     }
     if signs.len() < m {
-        return Coherence::Refused(TOO_SHORT, 0);
+        return Err(Refusal::TooShort);
     }
     orientation_signs::hand_out(counts, &mut signs[..m]);
     let count = m as u32;
-    Coherence::Signs(count, searched.looks)
+    Ok(Coherence::Signs(count, searched.looks))
 }
 
 // The work, and then the working lists are all zero.
@@ -73,7 +71,7 @@ fn cleared(
     rows: &mut [u32],
     spare: &mut [u32],
     counts: &mut [u32],
-) -> Coherence
+) -> Result<Coherence, Refusal>
     requires { Furnished d words.now keys.old rows.old spare.old counts.old }
     ensures work { Worked d words.now result signs.old signs.new }
     ensures room { AllZero keys.old keys.new rows.old rows.new spare.old spare.new counts.old
@@ -94,14 +92,11 @@ pub fn orientation(
     rows: &mut [u32],
     spare: &mut [u32],
     counts: &mut [u32],
-) -> Coherence
+) -> Result<Coherence, Refusal>
     ensures { Orientation d words.now result signs.old signs.new keys.old keys.new rows.old rows.new
         spare.old spare.new counts.old counts.new }
 {
-    let checked = complex::check_cells(d, words);
-    if let Answer::Refused(number, place) = checked {
-        return Coherence::Refused(number, place);
-    }
+    complex::check_cells(d, words)?;
     let dim = d as usize;
     let need = complex_facets::need(words.len());
     let have = Room {
@@ -111,7 +106,7 @@ pub fn orientation(
         counts: counts.len(),
     };
     if !refusal::has_room(need, have) {
-        return Coherence::Refused(TOO_SHORT, 0);
+        return Err(Refusal::TooShort);
     }
     let k = need.keys;
     let r = need.rows;

@@ -1,5 +1,7 @@
 -- The promise of `orient_by` determines what it says and every list, yes is said exactly of coherent signs above dimension 0, and reversing the signs of a whole
 -- facet-connected piece keeps coherence. Assumes nothing.
+use Rattle.refusal.specs.Says.{Verdict}
+use Rattle.std.specs.Prelude.{Err, Ok}
 use mathlib.Core.List.{List}
 use mathlib.Core.Path.{◌≡◌, refl, sym, ap, ◌∙◌}
 use mathlib.Core.Bool.{Bool, true, false}
@@ -7,8 +9,6 @@ use Prim.Native.Nat.{ℕ, ◌<◌}
 use native.Mathlib.Omega.{arith}
 use lib.IntN.{ℤ}
 use lib.ListN.{length}
-use Rattle.refusal.specs.declared.Verdict.{Verdict}
-use Rattle.refusal.specs.declared.Verdict.TheVariants.{Yes, Refused}
 use Rattle.refusal.specs.Lent.{lengths}
 use Rattle.refusal.proofs.Determined.{comes-one, cleared-one}
 use Rattle.complex.specs.Check.{answer_of}
@@ -49,13 +49,13 @@ module _ (d : ℕ) (cs : List (List ℕ)) (signs : List ℤ) where
   ends-one r r' h h' (differs n σ g f) (differs n' τ g' f') = (refl, refl)
 
   -- yes exactly where the signs are coherent, above dimension 0
-  pub yes-exactly : (σ : ℕ → Sign) → (Crowded d cs → ⊥) → Given signs (length cs) σ → (r : Verdict) → Ends d cs signs r tt → ((r ≡ Yes → (0 < d) × Coherent d cs σ) × ((0 < d) × Coherent d cs σ → r ≡ Yes))
+  pub yes-exactly : (σ : ℕ → Sign) → (Crowded d cs → ⊥) → Given signs (length cs) σ → (r : Verdict) → Ends d cs signs r tt → ((r ≡ Ok true → (0 < d) × Coherent d cs σ) × ((0 < d) × Coherent d cs σ → r ≡ Ok true))
   yes-exactly σ n g r e = (
     λ q. told r e q,
-    λ w. (ends-one r Yes tt tt e (agreed n σ g w.0 w.1)).0,
+    λ w. (ends-one r (Ok true) tt tt e (agreed n σ g w.0 w.1)).0,
   )
     where
-      told : (r : Verdict) → Ends d cs signs r tt → r ≡ Yes → (0 < d) × Coherent d cs σ
+      told : (r : Verdict) → Ends d cs signs r tt → r ≡ Ok true → (0 < d) × Coherent d cs σ
       told r (crowded x) q = absurd (n x)
       told r (unfit n' f) q = absurd (f σ g)
       told r (agreed n' τ g' l p) q = (l, coherent-same d cs τ σ (given-one signs (length cs) τ σ g' g) p)
@@ -65,7 +65,7 @@ module _ (d : ℕ) (cs : List (List ℕ)) (signs : List ℤ) where
 pub orient-by-one : (d : ℕ) (ws : List ℕ) (signs : List ℤ) (r r' : Verdict) (keys k k' rows o o' spare p p' counts c c' : List ℕ) → OrientBy d ws signs r keys k rows o spare p counts c → OrientBy d ws signs r' keys k' rows o' spare p' counts c' →
     (r ≡ r') × ((k ≡ k') × (o ≡ o') × (p ≡ p') × (c ≡ c'))
 orient-by-one d ws signs r r' keys k k' rows o o' spare p p' counts c c' a b =
-    let w = comes-one Refused tt (answer_of d ws) (record_need (length ws)) (lengths keys rows spare counts) (Ends d (cells_of d ws) signs) (ends-one d (cells_of d ws) signs) a.comes b.comes in (
+    let w = comes-one Err tt (answer_of d ws) (record_need (length ws)) (lengths keys rows spare counts) (Ends d (cells_of d ws) signs) (ends-one d (cells_of d ws) signs) a.comes b.comes in (
       w.0,
       cleared-one a.used b.used keys k k' rows o o' spare p p' counts c c' w.2 a.room b.room,
     )

@@ -1,14 +1,14 @@
 -- The work of `orient_by`, step by step: what each call asks follows from what the calls before it gave. Assumes nothing.
+use Rattle.refusal.specs.declared.Refusal.TheVariants.{BadSigns, CrowdedFacet}
+use Rattle.std.specs.Prelude.{Err, Ok}
 use mathlib.Core.Bool.{Bool, true, false}
 use mathlib.Core.List.{List}
-use mathlib.Core.Path.{◌≡◌, sym, ap, ◌∙◌, subst}
+use mathlib.Core.Path.{refl, ◌≡◌, sym, ap, ◌∙◌, subst}
 use Prim.Native.Nat.{ℕ, suc, ◌≤◌}
 use native.Mathlib.Nat.{mul-suc}
 use native.Mathlib.Omega.{arith}
 use lib.IntN.{ℤ}
 use lib.ListN.{length, get_or}
-use Rattle.refusal.specs.declared.Verdict.TheVariants.{Yes, No, Refused}
-use Rattle.refusal.specs.Table.{crowded_facet, bad_signs}
 use Rattle.lists.specs.Rows.{cut}
 use Rattle.lists.proofs.Rows.{cut-length}
 use Rattle.complex.specs.Cells.{cells_of}
@@ -28,7 +28,7 @@ module _ (d : ℕ) (ws keys rows spare counts : List ℕ) (w : Furnished d ws ke
   cells-many = ap length (sym a.same) ∙ cut-length (suc d) m rows'
 
   -- 7
-  pub ended-crowded : Crowded d (cut (suc d) m rows') → Ends d (cells_of d ws) signs (Refused crowded_facet 0) tt
+  pub ended-crowded : Crowded d (cut (suc d) m rows') → Ends d (cells_of d ws) signs (Err CrowdedFacet) tt
   ended-crowded x = crowded (subst (λ (cs : List (List ℕ)). Crowded d cs) a.same x)
 
   pub marks-fit : m ≤ length counts'
@@ -39,7 +39,7 @@ module _ (d : ℕ) (ws keys rows spare counts : List ℕ) (w : Furnished d ws ke
     free x = not-crowded d m (cut (suc d) m rows') (cut-length (suc d) m rows') t.mates t.table (omega (arith, a.most, a.corners)) (subst (λ (cs : List (List ℕ)). Crowded d cs) (sym a.same) x)
 
     -- 14
-    pub ended-unfit : ((σ : ℕ → Sign) → Given signs m σ → ⊥) → Ends d (cells_of d ws) signs (Refused bad_signs 0) tt
+    pub ended-unfit : ((σ : ℕ → Sign) → Given signs m σ → ⊥) → Ends d (cells_of d ws) signs (Err BadSigns) tt
     ended-unfit f = unfit free (λ σ g. f σ (subst (λ (n : ℕ). Given signs n σ) cells-many g))
 
     module _ (o : TakenOver m signs counts'') where
@@ -69,8 +69,9 @@ module _ (d : ℕ) (ws keys rows spare counts : List ℕ) (w : Furnished d ws ke
         f' : Tested d (cells_of d ws) ok (λ c. sign_of (get_or counts'' c 0))
         f' = subst (λ (cs : List (List ℕ)). Tested d cs ok (λ c. sign_of (get_or counts'' c 0))) a.same (f (cut (suc d) m rows') (cut-length (suc d) m rows') t)
 
-        pub ended-yes : ok ≡ true → Ends d (cells_of d ws) signs Yes tt
-        ended-yes e = agreed free (λ c. sign_of (get_or counts'' c 0)) given (f'.yes e).0 (f'.yes e).1
+        either : (b : Bool) → ok ≡ b → Ends d (cells_of d ws) signs (Ok b) tt
+        either true e = agreed free (λ c. sign_of (get_or counts'' c 0)) given (f'.yes e).0 (f'.yes e).1
+        either false e = differs free (λ c. sign_of (get_or counts'' c 0)) given (f'.no e)
 
-        pub ended-no : ok ≡ false → Ends d (cells_of d ws) signs No tt
-        ended-no e = differs free (λ c. sign_of (get_or counts'' c 0)) given (f'.no e)
+        pub ended-tested : Ends d (cells_of d ws) signs (Ok ok) tt
+        ended-tested = either ok refl

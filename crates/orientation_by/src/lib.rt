@@ -19,7 +19,7 @@ ghost use Rattle.orientation.specs.Work.{Furnished};
 ghost use Rattle.orientation_by.specs.Promise.{Given, Ends, OrientBy};
 ghost use Rattle.orientation_by.specs.WorkTest.{mark_of, AgreesAt, Clash, Looking, Weighing, Testing, Tested, TakenOver};
 
-use refusal::{Answer, BAD_SIGNS, CROWDED_FACET, Room, TOO_SHORT, Verdict};
+use refusal::{Refusal, Room};
 
 // Whether the marks across each slot are as its flip says.
 fn all_agree(k: usize, total: usize, other: &[u32], flip: &[u32], marks: &[u32]) -> bool
@@ -27,19 +27,16 @@ fn all_agree(k: usize, total: usize, other: &[u32], flip: &[u32], marks: &[u32])
     ensures all { result ≡ true → (x : ℕ) → x < total → AgreesAt k other.now flip.now marks.now x }
     ensures clash { result ≡ false → Clash k total other.now flip.now marks.now }
 {
-    let mut x = 0;
-    while x < total {
+    for x in 0..total {
         let o = other[x];
         if o == complex_mates::NONE {
-            x += 1;
             continue;
         }
-        let there = marks[lists::wide(o)];
+        let there = marks[o as usize];
         let here = marks[x / k];
         if there != orientation_walk::turn(flip[x], here) {
             return false;
         }
-        x += 1;
     }
     true
 }
@@ -95,14 +92,12 @@ fn take_over(m: usize, signs: &[i32], marks: &mut [u32]) -> bool
     if signs.len() != m {
         return false;
     }
-    let mut c = 0;
-    while c < signs.len() {
+    for c in 0..signs.len() {
         let mark = mark_of(signs[c]);
         if mark == 0 {
             return false;
         }
         marks[c] = mark;
-        c += 1;
     }
     true
 }
@@ -116,21 +111,18 @@ fn work(
     rows: &mut [u32],
     spare: &mut [u32],
     counts: &mut [u32],
-) -> Verdict
+) -> Result<bool, Refusal>
     requires { Furnished d words.now keys.old rows.old spare.old counts.old }
     ensures { Ends d (cells_of d words.now) signs.now result tt }
 {
     let m = complex_cells::cells(d, words, keys, rows, spare, counts);
     if !complex_facets::links(d, m, words.len(), keys, rows, spare, counts) {
-        return Verdict::Refused(CROWDED_FACET, 0);
+        return Err(Refusal::CrowdedFacet);
     }
     if !take_over(m, signs, counts) {
-        return Verdict::Refused(BAD_SIGNS, 0);
+        return Err(Refusal::BadSigns);
     }
-    if !coherent_over(d, m, rows, spare, counts) {
-        return Verdict::No;
-    }
-    Verdict::Yes
+    Ok(coherent_over(d, m, rows, spare, counts))
 }
 
 // The work, and then the working lists are all zero.
@@ -142,7 +134,7 @@ fn cleared(
     rows: &mut [u32],
     spare: &mut [u32],
     counts: &mut [u32],
-) -> Verdict
+) -> Result<bool, Refusal>
     requires { Furnished d words.now keys.old rows.old spare.old counts.old }
     ensures work { Ends d (cells_of d words.now) signs.now result tt }
     ensures room { AllZero keys.old keys.new rows.old rows.new spare.old spare.new counts.old
@@ -163,14 +155,11 @@ pub fn orient_by(
     rows: &mut [u32],
     spare: &mut [u32],
     counts: &mut [u32],
-) -> Verdict
+) -> Result<bool, Refusal>
     ensures { OrientBy d words.now signs.now result keys.old keys.new rows.old rows.new spare.old
         spare.new counts.old counts.new }
 {
-    let checked = complex::check_cells(d, words);
-    if let Answer::Refused(number, place) = checked {
-        return Verdict::Refused(number, place);
-    }
+    complex::check_cells(d, words)?;
     let dim = d as usize;
     let need = complex_facets::need(words.len());
     let have = Room {
@@ -180,7 +169,7 @@ pub fn orient_by(
         counts: counts.len(),
     };
     if !refusal::has_room(need, have) {
-        return Verdict::Refused(TOO_SHORT, 0);
+        return Err(Refusal::TooShort);
     }
     let k = need.keys;
     let r = need.rows;

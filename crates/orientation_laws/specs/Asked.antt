@@ -1,6 +1,8 @@
 -- Calls of `orient_by` and of `orientation`, by their promises, whatever stands in the lists that they are lent. Assumes nothing.
+use Rattle.refusal.specs.declared.Refusal.{Refusal}
+use Rattle.refusal.specs.Says.{Verdict}
+use Rattle.std.specs.Prelude.{Result}
 use Rattle.std.specs.Prelude.{List, ℕ, ℤ, length}
-use Rattle.refusal.specs.declared.Verdict.{Verdict}
 use Rattle.refusal.specs.Lent.{lengths, Roomy}
 use Rattle.complex_facets.specs.Records.{record_need}
 use Rattle.orientation.specs.declared.Coherence.{Coherence}
@@ -21,7 +23,7 @@ pub record OrientByCalled (d : ℕ) (ws : List ℕ) (signs : List ℤ) (r : Verd
   pub roomy : Roomy (record_need (length ws)) (lengths keys rows spare counts)
 
 -- a call of `orientation` that says r
-pub record OrientationCalled (d : ℕ) (ws : List ℕ) (r : Coherence) : Type 0 where
+pub record OrientationCalled (d : ℕ) (ws : List ℕ) (r : Result Coherence Refusal) : Type 0 where
   pub signs : List ℤ
   pub signs' : List ℤ
   pub keys : List ℕ

@@ -7,6 +7,7 @@ ghost use Rattle.complex_facets.specs.WorkAcross.{Linked};
 ghost use Rattle.orientation_signs.specs.WorkFound.{Searching, Found, mark_number, handed_out};
 
 // What a search for coherent signs comes to: whether it found them, and its facet looks.
+// Kept: the looks are told in either case, so neither value hides behind the other.
 #[derive(Clone, Copy)]
 pub struct Searched {
     pub found: bool,
@@ -40,10 +41,8 @@ pub fn hand_out(marks: &[u32], signs: &mut [i32])
     requires { length signs.old ≤ length marks.now }
     ensures { signs.new ≡ handed_out (take (length signs.old) marks.now) }
 {
-    let mut c = 0;
-    while c < signs.len() {
-        signs[c] = sign_of(marks[c]);
-        c += 1;
+    for (c, sign) in signs.iter_mut().enumerate() {
+        *sign = sign_of(marks[c]);
     }
 }
 

@@ -2,17 +2,19 @@
 use Prim.Native.Nat.{ℕ, zero, suc, ◌+◌, ◌-◌, ◌*◌, ◌^◌, ◌<◌, ◌≤◌}
 use mir.Syntax.{w64}
 use mir.Val.{Fits}
-use mathlib.Core.Path.{◌≡◌, refl, sym, ap, subst, ◌∙◌}
-use mathlib.Core.Bool.{Bool, true, false}
-use mathlib.Core.Logic.{◌⊎◌, ⊎_elim}
+use mathlib.Core.Path.{◌≡◌, refl, ap, subst, ◌∙◌}
+use mathlib.Core.Bool.{true, false}
+use mathlib.Core.Logic.{⊎_elim}
 use mathlib.Core.List.{List, ◌++◌}
 use native.Mathlib.Omega.{arith}
 use native.Mathlib.Nat.{mul-le-mul_right, suc-mul}
 use native.Mathlib.Decide.{ℕ_discrete}
 use lib.ListN.{length, get_or, set, length-set, replicate, drop}
 use lib.Seq.{get_or-set_same, get_or-set_other}
+use Rattle.std.specs.Prelude.{Option, Some, None, Result, Ok, Err}
+use Rattle.orientation_walk.specs.declared.Stop.{Stop}
 use Rattle.orientation_walk.specs.WorkSigns.{turned, Sign, Table}
-use Rattle.orientation_walk.specs.WorkSteps.{blank, zeros, Fit, Look, Slots, Drain, Pieces, Ready, Looked, Taking, Took, Draining, Drained, Starting, Walking, Spread, wiped}
+use Rattle.orientation_walk.specs.WorkSteps.{blank, zeros, Fit, Look, Slots, Stuck, Drain, Broken, Pieces, Refused, Ready, Looked, Taking, Took, Draining, Drained, Starting, Walking, Spread, wiped}
 use Rattle.orientation_walk.specs.WorkSteps.Look.{edge, fresh, fits}
 use Rattle.orientation_walk.specs.WorkSteps.Slots.{none_yet, one_more}
 use Rattle.orientation_walk.specs.WorkSteps.Pieces.{signed, begun}
@@ -67,28 +69,12 @@ scaled i n a b = record { fits = omega arith }
 
 -- the look's four ways out
 module _ {n : ℕ} {o fl : List ℕ} {c p : ℕ} {g t : List ℕ} {h : ℕ} (ready : Ready n o fl c p g t h) where
-  -- the height is below 4294967295
-  h-small : h < 4294967295
-  h-small = omega (arith, ready.few, ready.fit.room)
-
-  pub looked-edge : get_or o p 0 ≡ 4294967295 → Looked o fl c p g t h g t h
-  looked-edge e =
-      record {
-        goes = λ _. Look.edge e refl refl refl;
-        stops = λ q. absurd (omega (arith, h-small));
-        same = λ _. refl;
-        same_stack = λ _. refl;
-      }
+  pub looked-edge : get_or o p 0 ≡ 4294967295 → Looked o fl c p g t h g t (Some h)
+  looked-edge e = Looked.goes (Look.edge e refl refl refl)
 
   module _ {at want : ℕ} (some : get_or o p 0 ≡ 4294967295 → ⊥) where
-    pub looked-fits : at ≡ get_or o p 0 → want ≡ turned (get_or fl p 0) (get_or g c 0) → (get_or g at 0 ≡ 0 → ⊥) → get_or g at 0 ≡ want → Looked o fl c p g t h g t h
-    looked-fits ea ew nz e =
-        record {
-          goes = λ _. Look.fits some (rw ea at nz) (rw ea at (e ∙ ew)) refl refl refl;
-          stops = λ q. absurd (omega (arith, h-small));
-          same = λ _. refl;
-          same_stack = λ _. refl;
-        }
+    pub looked-fits : at ≡ get_or o p 0 → want ≡ turned (get_or fl p 0) (get_or g c 0) → (get_or g at 0 ≡ 0 → ⊥) → get_or g at 0 ≡ want → Looked o fl c p g t h g t (Some h)
+    looked-fits ea ew nz e = Looked.goes (Look.fits some (rw ea at nz) (rw ea at (e ∙ ew)) refl refl refl)
 
   -- a cell with no sign leaves room on the stack
   module _ {at : ℕ} (cell : get_or o p 0 < n) (ea : at ≡ get_or o p 0) (z : get_or g at 0 ≡ 0) where
@@ -100,24 +86,18 @@ module _ {n : ℕ} {o fl : List ℕ} {c p : ℕ} {g t : List ℕ} {h : ℕ} (rea
     room_for = omega (arith, some-zero, ready.fit.room, ready.fit.stack)
 
   pub looked-fresh : {at want : ℕ} → (get_or o p 0 ≡ 4294967295 → ⊥) → get_or o p 0 < n → at ≡ get_or o p 0 → want ≡ turned (get_or fl p 0) (get_or g c 0) →
-      get_or g at 0 ≡ 0 → Looked o fl c p g t h (set g at want) (set t h (get_or o p 0)) (h + 1)
-  looked-fresh {at} {want} some cell ea ew z =
-      record {
-        goes = λ _. Look.fresh some (rw ea at z) (cc) refl refl;
-        stops = λ q. absurd (omega (arith, some-zero cell ea z, ready.fit.room, ready.few));
-        same = λ q. absurd (omega (arith, some-zero cell ea z, ready.fit.room, ready.few));
-        same_stack = λ q. absurd (omega (arith, some-zero cell ea z, ready.fit.room, ready.few));
-      }
+      get_or g at 0 ≡ 0 → Looked o fl c p g t h (set g at want) (set t h (get_or o p 0)) (Some (h + 1))
+  looked-fresh {at} {want} some cell ea ew z = Looked.goes (Look.fresh some (rw ea at z) (cc) refl refl)
 
 pub looked-clash : {o fl : List ℕ} {c p : ℕ} {g t : List ℕ} {h : ℕ} {at want : ℕ} → (get_or o p 0 ≡ 4294967295 → ⊥) → at ≡ get_or o p 0 →
-    want ≡ turned (get_or fl p 0) (get_or g c 0) → (get_or g at 0 ≡ 0 → ⊥) → (get_or g at 0 ≡ want → ⊥) → Looked o fl c p g t h g t 4294967295
-looked-clash {h = h} some ea ew nz ne =
-    record {
-      goes = λ f. absurd (f refl);
-      stops = λ _. record { some = some; signed = rw ea at nz; wrong = rw (ea, ew) at ne };
-      same = λ _. refl;
-      same_stack = λ _. refl;
-    }
+    want ≡ turned (get_or fl p 0) (get_or g c 0) → (get_or g at 0 ≡ 0 → ⊥) → (get_or g at 0 ≡ want → ⊥) → Looked o fl c p g t h g t None
+looked-clash some ea ew nz ne = Looked.stops (record { some = some; signed = rw ea at nz; wrong = rw (ea, ew) at ne }) refl refl
+
+-- a look that goes on
+pub look-goes : {o fl : List ℕ} {c p : ℕ} {g t : List ℕ} {h : ℕ} {g' t' : List ℕ} {r : Option ℕ} {h' : ℕ} → Looked o fl c p g t h g' t' r → r ≡ Some h' → Look o fl c p g t h g' t' h'
+look-goes {o} {fl} {c} {p} {g} {t} {h} {g'} {t'} {h' = h'} (Looked.goes {h' = x} w) e =
+    subst (λ (z : ℕ). Look o fl c p g t h g' t' z) (let q : x ≡ h' = cc in q) w
+look-goes {h' = h'} (Looked.stops w a b) e = absurd (let q : ◌≡◌ {A = Option ℕ} None (Some h') = e in cc)
 
 pub slot-in : (n k c s : ℕ) → c < n → s < k → c * k + s < n * k
 slot-in n k c s a b = omega (arith, mul-le-mul_right k a, suc-mul c k)
@@ -237,19 +217,25 @@ module _ {n k : ℕ} {o fl : List ℕ} {c : ℕ} {g t : List ℕ} {h : ℕ} (a :
   pub slots-ready : {s : ℕ} {g1 t1 : List ℕ} {h1 : ℕ} → s < k → Slots k o fl c g t h s g1 t1 h1 → Ready n o fl c (c * k + s) g1 t1 h1
   slots-ready {s} l w = ready s a.table a.cell (moved-slots a (omega arith) w).fit l
 
-pub took-stops : {k : ℕ} {o fl : List ℕ} {c : ℕ} {g t : List ℕ} {h s : ℕ} {g1 t1 : List ℕ} {h1 : ℕ} {g' t' : List ℕ} {r : ℕ} → s < k →
-    Slots k o fl c g t h s g1 t1 h1 → Looked o fl c (c * k + s) g1 t1 h1 g' t' r → r ≡ 4294967295 → Took k o fl c g t h g' t' true 0 s
-took-stops {h1 = h1} l w q e =
-    record {
-      goes = λ f. absurd (not-both (sym f));
-      stops = λ _. rw (q.same e, q.same_stack e) (record { height = h1; below = l; slots = w; clash = q.stops e });
-    }
+pub took-stops : {k : ℕ} {o fl : List ℕ} {c : ℕ} {g t : List ℕ} {h s : ℕ} {g1 t1 : List ℕ} {h1 : ℕ} {g' t' : List ℕ} {r : Option ℕ} → s < k →
+    Slots k o fl c g t h s g1 t1 h1 → Looked o fl c (c * k + s) g1 t1 h1 g' t' r → r ≡ None → Took k o fl c g t h g' t' (Err s)
+took-stops l w (Looked.goes {h' = x} q) e = absurd (let z : ◌≡◌ {A = Option ℕ} (Some x) None = e in cc)
+took-stops {h1 = h1} l w (Looked.stops q a b) e = rw (a, b) (Took.stops (record { height = h1; below = l; slots = w; clash = q }))
 
 pub took-goes : {k : ℕ} {o fl : List ℕ} {c : ℕ} {g t : List ℕ} {h s : ℕ} {g1 t1 : List ℕ} {h1 : ℕ} → s ≤ k → k ≤ s →
-    Slots k o fl c g t h s g1 t1 h1 → Took k o fl c g t h g1 t1 false h1 0
+    Slots k o fl c g t h s g1 t1 h1 → Took k o fl c g t h g1 t1 (Ok h1)
 took-goes {k} {o} {fl} {c} {g} {t} {h} {s} {g1} {t1} {h1} a b w =
     let e : s ≡ k = omega arith in
-    record { goes = λ _. subst (λ x. Slots k o fl c g t h x g1 t1 h1) e w; stops = λ f. absurd (not-both f) }
+    Took.goes (subst (λ x. Slots k o fl c g t h x g1 t1 h1) e w)
+
+-- the looks at a cell's slots that go on, and those that stop
+pub took-all : {k : ℕ} {o fl : List ℕ} {c : ℕ} {g t : List ℕ} {h : ℕ} {g' t' : List ℕ} {r : Result ℕ ℕ} {h' : ℕ} → Took k o fl c g t h g' t' r → r ≡ Ok h' → Slots k o fl c g t h k g' t' h'
+took-all {k} {o} {fl} {c} {g} {t} {h} {g'} {t'} {h' = h'} (Took.goes {top = x} w) e = subst (λ (z : ℕ). Slots k o fl c g t h k g' t' z) (let q : x ≡ h' = cc in q) w
+took-all {h' = h'} (Took.stops {slot = x} w) e = absurd (let q : ◌≡◌ {A = Result ℕ ℕ} (Err x) (Ok h') = e in cc)
+
+pub took-part : {k : ℕ} {o fl : List ℕ} {c : ℕ} {g t : List ℕ} {h : ℕ} {g' t' : List ℕ} {r : Result ℕ ℕ} {s : ℕ} → Took k o fl c g t h g' t' r → r ≡ Err s → Stuck k o fl c g t h s g' t'
+took-part {s = s} (Took.goes {top = x} w) e = absurd (let q : ◌≡◌ {A = Result ℕ ℕ} (Ok x) (Err s) = e in cc)
+took-part {k} {o} {fl} {c} {g} {t} {h} {g'} {t'} {s = s} (Took.stops {slot = x} w) e = subst (λ (z : ℕ). Stuck k o fl c g t h z g' t') (let q : x ≡ s = cc in q) w
 
 -- the cell on top is taken off
 pub taking-top : {n k : ℕ} {o fl : List ℕ} {g t : List ℕ} {h : ℕ} → Table n k o fl → Fit n g t h → 0 < h → Taking n k o fl (get_or t (h - 1) 0) g t (h - 1)
@@ -295,28 +281,33 @@ module _ {n k : ℕ} {o fl : List ℕ} {g t : List ℕ} {h : ℕ} (a : Draining 
   pub drain-taking : 0 < h1 → {x : ℕ} → x ≡ get_or t1 (h1 - 1) 0 → Taking n k o fl x g1 t1 (h1 - 1)
   drain-taking l e = rw e (taking-top a.table (spent-drain a w).fit l)
 
-  module _ (l : 0 < h1) {x : ℕ} (e : x ≡ get_or t1 (h1 - 1) 0) {g2 t2 : List ℕ} {b : Bool} {h2 s : ℕ} (q : Took k o fl x g1 t1 (h1 - 1) g2 t2 b h2 s) where
-    pub drain-more : b ≡ false → Drain k o fl g t h (m + 1) g2 t2 h2
-    drain-more f = Drain.one_more w l (rw e at (q.goes f))
+  module _ (l : 0 < h1) {x : ℕ} (e : x ≡ get_or t1 (h1 - 1) 0) {g2 t2 : List ℕ} {r : Result ℕ ℕ} (q : Took k o fl x g1 t1 (h1 - 1) g2 t2 r) where
+    pub drain-more : {h2 : ℕ} → r ≡ Ok h2 → Drain k o fl g t h (m + 1) g2 t2 h2
+    drain-more f = Drain.one_more w l (rw e at (took-all q f))
 
-    pub drain-stops : b ≡ true → Drained k o fl g t h g2 t2 true m s
-    drain-stops f =
-        record {
-          goes = λ r. absurd (not-both (sym r));
-          stops = λ _. record { g1 = g1; t1 = t1; h1 = h1; drain = w; more = l; stuck = rw e at (q.stops f) };
-        }
+    pub drain-stops : {s : ℕ} → r ≡ Err s → Drained k o fl g t h g2 t2 (Err (record { taken = m; slot = s }))
+    drain-stops f = Drained.stops (record { g1 = g1; t1 = t1; h1 = h1; drain = w; more = l; stuck = rw e at (took-part q f) })
 
-    pub drain-falls : b ≡ false → h2 + zeros n g2 < h1 + zeros n g1
+    pub drain-falls : {h2 : ℕ} → r ≡ Ok h2 → h2 + zeros n g2 < h1 + zeros n g1
     drain-falls f =
         omega (arith, (spent-drain a (drain-more f)).sum, (spent-drain a w).sum)
 
   pub drain-fits : 0 < h1 → n < 2 ^ 64 → Fits w64 (m + 1)
   drain-fits l b = record { fits = omega (arith, (spent-drain a w).sum, a.fit.room) }
 
-  pub drain-goes : h1 ≤ 0 → Drained k o fl g t h g1 t1 false m 0
+  pub drain-goes : h1 ≤ 0 → Drained k o fl g t h g1 t1 (Ok m)
   drain-goes l =
       let e : h1 ≡ 0 = omega arith in
-      record { goes = λ _. subst (λ x. Drain k o fl g t h m g1 t1 x) e w; stops = λ f. absurd (not-both f) }
+      Drained.goes (subst (λ x. Drain k o fl g t h m g1 t1 x) e w)
+
+-- a stack that is emptied, and one that is not
+pub drained-all : {k : ℕ} {o fl : List ℕ} {g t : List ℕ} {h : ℕ} {g' t' : List ℕ} {r : Result ℕ Stop} {m : ℕ} → Drained k o fl g t h g' t' r → r ≡ Ok m → Drain k o fl g t h m g' t' 0
+drained-all {k} {o} {fl} {g} {t} {h} {g'} {t'} {m = m} (Drained.goes {taken = x} w) e = subst (λ (z : ℕ). Drain k o fl g t h z g' t' 0) (let q : x ≡ m = cc in q) w
+drained-all {m = m} (Drained.stops {stop = x} w) e = absurd (let q : ◌≡◌ {A = Result ℕ Stop} (Err x) (Ok m) = e in cc)
+
+pub drained-part : {k : ℕ} {o fl : List ℕ} {g t : List ℕ} {h : ℕ} {g' t' : List ℕ} {r : Result ℕ Stop} {s : Stop} → Drained k o fl g t h g' t' r → r ≡ Err s → Broken k o fl g t h s.taken s.slot g' t'
+drained-part {s = s} (Drained.goes {taken = x} w) e = absurd (let q : ◌≡◌ {A = Result ℕ Stop} (Ok x) (Err s) = e in cc)
+drained-part {k} {o} {fl} {g} {t} {h} {g'} {t'} {s = s} (Drained.stops {stop = x} w) e = subst (λ (z : Stop). Broken k o fl g t h z.taken z.slot g' t') (let q : x ≡ s = cc in q) w
 
 pub wiped-all : {n i : ℕ} (g : List ℕ) {g' : List ℕ} → i ≤ n → n ≤ i → g' ≡ replicate i 0 ++ drop i g → g' ≡ wiped n g
 wiped-all {n} {i} g a b e = let q : i ≡ n = omega arith in rw q at e
@@ -371,43 +362,44 @@ module _ {n k : ℕ} {o fl : List ℕ} {g t : List ℕ} (a : Walking n k o fl g 
   pub spread-in : i < n → i < length g1
   spread-in l = omega (arith, (paused a (omega arith) w).fit.signs)
 
-  module _ (l : i < n) (z : get_or g1 i 0 ≡ 0) {g2 t2 : List ℕ} {b : Bool} {m' s : ℕ} (q : Drained k o fl (set g1 i 1) (set t1 0 i) 1 g2 t2 b m' s) where
-    pub spread-more : b ≡ false → Pieces k o fl g t (i + 1) (m + m') g2 t2
-    spread-more f = begun w z (q.goes f)
+  module _ (l : i < n) (z : get_or g1 i 0 ≡ 0) {g2 t2 : List ℕ} {r : Result ℕ Stop} (q : Drained k o fl (set g1 i 1) (set t1 0 i) 1 g2 t2 r) where
+    pub spread-more : {m' : ℕ} → r ≡ Ok m' → Pieces k o fl g t (i + 1) (m + m') g2 t2
+    spread-more f = begun w z (drained-all q f)
 
-    spread-sum : m + m' ≤ n
-    spread-sum = go b refl
-      where
-        go : (x : Bool) → b ≡ x → m + m' ≤ n
-        go true e =
-            let u = q.stops e in
-            omega (arith, (paused a (omega arith) w).sum, (spent-drain (start-draining (spread-starting l z)) u.drain).sum, start-sum (spread-starting l z))
-        go false e = omega (arith, (paused a (omega arith) (spread-more e)).sum)
+    pub spread-fits : {m' : ℕ} → r ≡ Ok m' → n < 2 ^ 64 → Fits w64 (m + m')
+    spread-fits f h = record { fits = omega (arith, (paused a (omega arith) (spread-more f)).sum) }
 
-    pub spread-fits : n < 2 ^ 64 → Fits w64 (m + m')
-    spread-fits h = record { fits = omega (arith, spread-sum) }
+    pub stop-fits : {e : Stop} → r ≡ Err e → n < 2 ^ 64 → Fits w64 (m + e.taken)
+    stop-fits f h =
+        let u = drained-part q f in
+        record { fits = omega (arith, (paused a (omega arith) w).sum, (spent-drain (start-draining (spread-starting l z)) u.drain).sum, start-sum (spread-starting l z)) }
 
-    pub spread-stops : b ≡ true → Spread n k o fl g t g2 t2 true (m + m') s
-    spread-stops f =
-        record {
-          goes = λ r. absurd (not-both (sym r));
-          stops =
-              λ _.
-              record {
-                i = i;
-                before = m;
-                after = m';
-                g1 = g1;
-                t1 = t1;
-                below = l;
-                pieces = w;
-                blank = z;
-                broken = q.stops f;
-                sum = refl;
-              };
-        }
+    pub spread-stops : {e : Stop} → r ≡ Err e → Spread n k o fl g t g2 t2 (Err (record { taken = m + e.taken; slot = e.slot }))
+    spread-stops {e} f =
+        Spread.stops
+        (record {
+          i = i;
+          before = m;
+          after = e.taken;
+          g1 = g1;
+          t1 = t1;
+          below = l;
+          pieces = w;
+          blank = z;
+          broken = drained-part q f;
+          sum = refl;
+        })
 
-  pub spread-goes : i ≤ n → n ≤ i → Spread n k o fl g t g1 t1 false m 0
+  pub spread-goes : i ≤ n → n ≤ i → Spread n k o fl g t g1 t1 (Ok m)
   spread-goes x y =
       let e : i ≡ n = omega arith in
-      record { goes = λ _. subst (λ x. Pieces k o fl g t x m g1 t1) e w; stops = λ f. absurd (not-both f) }
+      Spread.goes (subst (λ x. Pieces k o fl g t x m g1 t1) e w)
+
+-- a walk that goes through, and one that stops
+pub spread-all : {n k : ℕ} {o fl : List ℕ} {g t : List ℕ} {g' t' : List ℕ} {r : Result ℕ Stop} {m : ℕ} → Spread n k o fl g t g' t' r → r ≡ Ok m → Pieces k o fl g t n m g' t'
+spread-all {n} {k} {o} {fl} {g} {t} {g'} {t'} {m = m} (Spread.goes {taken = x} w) e = subst (λ (z : ℕ). Pieces k o fl g t n z g' t') (let q : x ≡ m = cc in q) w
+spread-all {m = m} (Spread.stops {stop = x} w) e = absurd (let q : ◌≡◌ {A = Result ℕ Stop} (Err x) (Ok m) = e in cc)
+
+pub spread-part : {n k : ℕ} {o fl : List ℕ} {g t : List ℕ} {g' t' : List ℕ} {r : Result ℕ Stop} {s : Stop} → Spread n k o fl g t g' t' r → r ≡ Err s → Refused n k o fl g t s.taken s.slot g' t'
+spread-part {s = s} (Spread.goes {taken = x} w) e = absurd (let q : ◌≡◌ {A = Result ℕ Stop} (Ok x) (Err s) = e in cc)
+spread-part {n} {k} {o} {fl} {g} {t} {g'} {t'} {s = s} (Spread.stops {stop = x} w) e = subst (λ (z : Stop). Refused n k o fl g t z.taken z.slot g' t') (let q : x ≡ s = cc in q) w

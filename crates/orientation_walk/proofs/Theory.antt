@@ -1,7 +1,7 @@
 -- The walk's answer is right: what the walk keeps, piece by piece, and what that says of the signs. Assumes nothing.
 use Prim.Native.Nat.{ℕ, zero, suc, ◌+◌, ◌-◌, ◌*◌, ◌^◌, ◌<◌, ◌≤◌}
 use mathlib.Core.Path.{◌≡◌, refl, sym, ap, subst, ◌∙◌}
-use mathlib.Core.Bool.{Bool, true, false}
+use mathlib.Core.Bool.{true, false}
 use mathlib.Core.Logic.{◌⊎◌, inl, inr, ⊎_elim}
 use mathlib.Core.List.{List}
 use native.Mathlib.Omega.{arith}
@@ -11,13 +11,15 @@ use lib.ListN.{length, get_or, set, length-append, length-replicate, replicate, 
 use mir.Syntax.{w64}
 use mir.Val.{Fits}
 use lib.Seq.{get_or-set_other}
+use Rattle.std.specs.Prelude.{Result, Ok, Err}
+use Rattle.orientation_walk.specs.declared.Stop.{Stop}
 use Rattle.orientation_walk.specs.WorkSigns.{turned, Sign, Link, Table, CoherentMarks, Way, OrientedMarks}
 use Rattle.orientation_walk.specs.WorkSigns.Way.{here, on}
 use Rattle.orientation_walk.specs.WorkSteps.{blank, zeros, Fit, Look, Clash, Slots, Drain, Pieces, Refused, Taking, Draining, Starting, Walking, Spread, wiped, Answer}
 use Rattle.orientation_walk.specs.WorkSteps.Look.{edge, fresh, fits}
 use Rattle.orientation_walk.specs.WorkSteps.Slots.{none_yet, one_more}
 use Rattle.orientation_walk.specs.WorkSteps.Pieces.{signed, begun}
-use Rattle.orientation_walk.proofs.Lemmas.{turned-sign, Grows, grows-set, moved-look, moved-slots, or_set, or-top, at_top, below_top, at_j, slot-in, not-both, ready, taking-top, spent-drain, start-draining, start-sum, sign-plus, blank-pos, paused, spread-starting}
+use Rattle.orientation_walk.proofs.Lemmas.{turned-sign, Grows, grows-set, moved-look, moved-slots, or_set, or-top, at_top, below_top, at_j, slot-in, not-both, ready, taking-top, spent-drain, start-draining, start-sum, sign-plus, blank-pos, paused, spread-starting, spread-all, spread-part}
 use Rattle.orientation_walk.proofs.Ways.{way-sign, forced, same_sign_lem, lowest-plus}
 
 -- x is on the stack
@@ -342,34 +344,34 @@ walking {n} g table lg lt e =
           rw (e, get_or-append (replicate n 0) (drop n g) 0 c q) (get_or-replicate n c 0 0 l);
     }
 
-module _ {n k : ℕ} {o fl : List ℕ} (g : List ℕ) {t g0 : List ℕ} (a : Walking n k o fl g0 t) (e : g0 ≡ wiped n g) {g' t' : List ℕ} {b : Bool} {m s : ℕ} (q : Spread n k o fl g0 t g' t' b m s) where
-  module _ (f : b ≡ true) where
-    stop-in : m * k + s < n * k
-    stop-in = slot-in n k m s (some-taken a (q.stops f)) (q.stops f).broken.stuck.below
+module _ {n k : ℕ} {o fl : List ℕ} (g : List ℕ) {t g0 : List ℕ} (a : Walking n k o fl g0 t) (e : g0 ≡ wiped n g) {g' t' : List ℕ} {r : Result ℕ Stop} (q : Spread n k o fl g0 t g' t' r) where
+  module _ {stop : Stop} (f : r ≡ Err stop) where
+    stop-in : stop.taken * k + stop.slot < n * k
+    stop-in = slot-in n k stop.taken stop.slot (some-taken a (spread-part q f)) (spread-part q f).broken.stuck.below
 
-    pub stop-fits : length o < 2 ^ 64 → Fits w64 (m * k)
+    pub stop-fits : length o < 2 ^ 64 → Fits w64 (stop.taken * k)
     stop-fits l = record { fits = omega (arith, stop-in, a.table.others) }
 
-    pub stop-fits-2 : length o < 2 ^ 64 → Fits w64 (m * k + s)
+    pub stop-fits-2 : length o < 2 ^ 64 → Fits w64 (stop.taken * k + stop.slot)
     stop-fits-2 l = record { fits = omega (arith, stop-in, a.table.others) }
 
-    pub stop-fits-3 : length o < 2 ^ 64 → Fits w64 (m * k + s + 1)
+    pub stop-fits-3 : length o < 2 ^ 64 → Fits w64 (stop.taken * k + stop.slot + 1)
     stop-fits-3 l = record { fits = omega (arith, stop-in, a.table.others) }
 
-    pub answer-no : Answer n k o fl g t g' t' false (m * k + s + 1)
+    pub answer-no : Answer n k o fl g t g' t' false (stop.taken * k + stop.slot + 1)
     answer-no =
         record {
           yes = λ r. absurd (not-both r);
           whole = λ r. absurd (not-both r);
           run = λ r. absurd (not-both r);
-          no = λ _. refuted a (q.stops f);
-          part = λ _. record { taken = m; slot = s; refused = rw (← e) (q.stops f); count = refl };
+          no = λ _. refuted a (spread-part q f);
+          part = λ _. record { taken = stop.taken; slot = stop.slot; refused = rw (← e) (spread-part q f); count = refl };
           most = omega (arith, stop-in);
         }
 
-  module _ (f : b ≡ false) where
+  module _ {m : ℕ} (f : r ≡ Ok m) where
     whole-eq : m * k ≡ n * k
-    whole-eq = ap (λ x. x * k) (all-taken a (q.goes f))
+    whole-eq = ap (λ x. x * k) (all-taken a (spread-all q f))
 
     pub whole-fits : length o < 2 ^ 64 → Fits w64 (m * k)
     whole-fits l = record { fits = omega (arith, whole-eq, a.table.others) }
@@ -377,9 +379,9 @@ module _ {n k : ℕ} {o fl : List ℕ} (g : List ℕ) {t g0 : List ℕ} (a : Wal
     pub answer-yes : Answer n k o fl g t g' t' true (m * k)
     answer-yes =
         record {
-          yes = λ _. oriented a (q.goes f);
+          yes = λ _. oriented a (spread-all q f);
           whole = λ _. whole-eq;
-          run = λ _. rw (← e) (subst (λ x. Pieces k o fl g0 t n x g' t') (all-taken a (q.goes f)) (q.goes f));
+          run = λ _. rw (← e) (subst (λ x. Pieces k o fl g0 t n x g' t') (all-taken a (spread-all q f)) (spread-all q f));
           no = λ r. absurd (not-both (sym r));
           part = λ r. absurd (not-both (sym r));
           most = omega (arith, whole-eq);

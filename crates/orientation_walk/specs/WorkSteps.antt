@@ -1,6 +1,7 @@
 -- The walk as a relation of its states: the signs g, the stack t and its height h.
 -- Assumes nothing.
-use Rattle.std.specs.Prelude.{ℕ, zero, suc, ◌+◌, ◌-◌, ◌*◌, ◌<◌, ◌≤◌, ◌≡◌, List, ◌++◌, length, get_or, set, replicate, drop, Bool, true, false}
+use Rattle.std.specs.Prelude.{ℕ, zero, suc, ◌+◌, ◌-◌, ◌*◌, ◌<◌, ◌≤◌, ◌≡◌, List, ◌++◌, length, get_or, set, replicate, drop, Bool, true, false, Option, Some, None, Result, Ok, Err}
+use Rattle.orientation_walk.specs.declared.Stop.{Stop}
 use Rattle.orientation_walk.specs.WorkSigns.{turned, Table, OrientedMarks, CoherentMarks}
 
 -- how many of g's first n entries are 0
@@ -93,12 +94,10 @@ pub record Ready (n : ℕ) (o fl : List ℕ) (c p : ℕ) (g t : List ℕ) (h : �
   pub leads : (get_or o p 0 ≡ 4294967295 → ⊥) → get_or o p 0 < n
   pub fit : Fit n g t h
 
--- what a look gives: the new height, or 4294967295 at a clash
-pub record Looked (o fl : List ℕ) (c p : ℕ) (g t : List ℕ) (h : ℕ) (g' t' : List ℕ) (r : ℕ) : Type 0 where
-  pub goes : (r ≡ 4294967295 → ⊥) → Look o fl c p g t h g' t' r
-  pub stops : r ≡ 4294967295 → Clash o fl c p g
-  pub same : r ≡ 4294967295 → g' ≡ g
-  pub same_stack : r ≡ 4294967295 → t' ≡ t
+-- what a look gives: the new height, or none at a clash
+pub data Looked (o fl : List ℕ) (c p : ℕ) (g t : List ℕ) (h : ℕ) (g' t' : List ℕ) : Option ℕ → Type 0 where
+  goes : {h' : ℕ} → Look o fl c p g t h g' t' h' → Looked o fl c p g t h g' t' (Some h')
+  stops : Clash o fl c p g → g' ≡ g → t' ≡ t → Looked o fl c p g t h g' t' None
 
 -- what the looks at one cell ask: the cell has a sign
 pub record Taking (n k : ℕ) (o fl : List ℕ) (c : ℕ) (g t : List ℕ) (h : ℕ) : Type 0 where
@@ -107,18 +106,20 @@ pub record Taking (n k : ℕ) (o fl : List ℕ) (c : ℕ) (g t : List ℕ) (h : 
   pub signed : 0 < get_or g c 0
   pub fit : Fit n g t h
 
-pub record Took (k : ℕ) (o fl : List ℕ) (c : ℕ) (g t : List ℕ) (h : ℕ) (g' t' : List ℕ) (stopped : Bool) (top slot : ℕ) : Type 0 where
-  pub goes : stopped ≡ false → Slots k o fl c g t h k g' t' top
-  pub stops : stopped ≡ true → Stuck k o fl c g t h slot g' t'
+-- what they give: the new height, or the slot of the clash
+pub data Took (k : ℕ) (o fl : List ℕ) (c : ℕ) (g t : List ℕ) (h : ℕ) (g' t' : List ℕ) : Result ℕ ℕ → Type 0 where
+  goes : {top : ℕ} → Slots k o fl c g t h k g' t' top → Took k o fl c g t h g' t' (Ok top)
+  stops : {slot : ℕ} → Stuck k o fl c g t h slot g' t' → Took k o fl c g t h g' t' (Err slot)
 
--- what emptying the stack asks and gives
+-- what emptying the stack asks
 pub record Draining (n k : ℕ) (o fl : List ℕ) (g t : List ℕ) (h : ℕ) : Type 0 where
   pub table : Table n k o fl
   pub fit : Fit n g t h
 
-pub record Drained (k : ℕ) (o fl : List ℕ) (g t : List ℕ) (h : ℕ) (g' t' : List ℕ) (stopped : Bool) (taken slot : ℕ) : Type 0 where
-  pub goes : stopped ≡ false → Drain k o fl g t h taken g' t' 0
-  pub stops : stopped ≡ true → Broken k o fl g t h taken slot g' t'
+-- what it gives: the cells taken off, or where the walk stops
+pub data Drained (k : ℕ) (o fl : List ℕ) (g t : List ℕ) (h : ℕ) (g' t' : List ℕ) : Result ℕ Stop → Type 0 where
+  goes : {taken : ℕ} → Drain k o fl g t h taken g' t' 0 → Drained k o fl g t h g' t' (Ok taken)
+  stops : {stop : Stop} → Broken k o fl g t h stop.taken stop.slot g' t' → Drained k o fl g t h g' t' (Err stop)
 
 -- what a piece asks and gives, where cell i has no sign
 pub record Starting (n k : ℕ) (o fl : List ℕ) (i : ℕ) (g t : List ℕ) : Type 0 where
@@ -134,9 +135,10 @@ pub record Walking (n k : ℕ) (o fl : List ℕ) (g t : List ℕ) : Type 0 where
   pub stack : n ≤ length t
   pub blank : (c : ℕ) → c < n → get_or g c 0 ≡ 0
 
-pub record Spread (n k : ℕ) (o fl : List ℕ) (g t : List ℕ) (g' t' : List ℕ) (stopped : Bool) (taken slot : ℕ) : Type 0 where
-  pub goes : stopped ≡ false → Pieces k o fl g t n taken g' t'
-  pub stops : stopped ≡ true → Refused n k o fl g t taken slot g' t'
+-- what it gives: the cells taken off, or where the walk stops
+pub data Spread (n k : ℕ) (o fl : List ℕ) (g t : List ℕ) (g' t' : List ℕ) : Result ℕ Stop → Type 0 where
+  goes : {taken : ℕ} → Pieces k o fl g t n taken g' t' → Spread n k o fl g t g' t' (Ok taken)
+  stops : {stop : Stop} → Refused n k o fl g t stop.taken stop.slot g' t' → Spread n k o fl g t g' t' (Err stop)
 
 -- the signs as the walk begins
 abbrev pub wiped : ℕ → List ℕ → List ℕ

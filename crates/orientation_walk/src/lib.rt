@@ -6,12 +6,6 @@ ghost use Rattle.std.specs.Prelude.{◌≡◌, ℕ, ◌+◌, ◌-◌, ◌*◌, �
 ghost use Rattle.orientation_walk.specs.WorkSigns.{turned, Table};
 ghost use Rattle.orientation_walk.specs.WorkSteps.{Ready, Looked, Taking, Took, Draining, Drained, Starting, Walking, Spread, Answer, wiped};
 
-fn wide(x: u32) -> usize
-    ensures { result ≡ x }
-{
-    x as usize
-}
-
 // The mark across a slot, 1 for + and 2 for -: the same at flip 0, else the other one.
 pub fn turn(f: u32, s: u32) -> u32
     requires { s ≤ 2 }
@@ -23,7 +17,7 @@ pub fn turn(f: u32, s: u32) -> u32
     3 - s
 }
 
-// One look from cell c at slot p. It gives the stack's new height, or 4294967295 where the neighbour has the wrong sign.
+// One look from cell c at slot p. It gives the stack's new height, or None where the neighbour has the wrong sign.
 fn look(
     n: usize,
     c: usize,
@@ -33,36 +27,29 @@ fn look(
     signs: &mut [u32],
     stack: &mut [u32],
     top: usize,
-) -> usize
+) -> Option<usize>
     requires { Ready n other.now flip.now c p signs.old stack.old top }
     ensures { Looked other.now flip.now c p signs.old stack.old top signs.new stack.new result }
 {
     let j = other[p];
     if j == 4294967295 {
-        return top;
+        return Some(top);
     }
     let want = turn(flip[p], signs[c]);
-    let at = wide(j);
+    let at = j as usize;
     let have = signs[at];
     if have == 0 {
         signs[at] = want;
         stack[top] = j;
-        return top + 1;
+        return Some(top + 1);
     }
     if have == want {
-        return top;
+        return Some(top);
     }
-    4294967295
+    None
 }
 
-// What the looks at one cell's slots, from the first to the last, come to: the stack's new height, or the slot of the clash.
-#[derive(Clone, Copy)]
-struct Seen {
-    stopped: bool,
-    top: usize,
-    slot: usize,
-}
-
+// The looks at one cell's slots, from the first to the last. It gives the stack's new height, or the slot of the clash.
 fn cell(
     n: usize,
     k: usize,
@@ -72,41 +59,29 @@ fn cell(
     signs: &mut [u32],
     stack: &mut [u32],
     height: usize,
-) -> Seen
+) -> Result<usize, usize>
     requires { Taking n k other.now flip.now c signs.old stack.old height }
-    ensures { Took k other.now flip.now c signs.old stack.old height signs.new stack.new result.stopped result.top result.slot }
+    ensures { Took k other.now flip.now c signs.old stack.old height signs.new stack.new result }
 {
     let base = c * k;
     let mut top = height;
-    let mut s = 0;
-    while s < k {
-        let next = look(n, c, base + s, other, flip, signs, stack, top);
-        if next == 4294967295 {
-            return Seen {
-                stopped: true,
-                top: 0,
-                slot: s,
-            };
-        }
+    for s in 0..k {
+        let Some(next) = look(n, c, base + s, other, flip, signs, stack, top) else {
+            return Err(s);
+        };
         top = next;
-        s += 1;
     }
-    Seen {
-        stopped: false,
-        top,
-        slot: 0,
-    }
+    Ok(top)
 }
 
-// What emptying the stack comes to: the cells taken off whole, and the slot of the clash in the next.
-#[derive(Clone, Copy)]
-struct Emptied {
-    stopped: bool,
+// Where the walk stops: the cells taken off the stack whole, and the slot of the clash in the next.
+#[derive(Clone, Copy, Debug, PartialEq, Eq)]
+pub(crate) struct Stop {
     taken: usize,
     slot: usize,
 }
 
-// The last pushed cell is taken first. The stack has one cell as it begins.
+// Empties the stack, which has one cell as it begins; the last pushed cell is taken first. It gives how many cells are taken off, or where the walk stops.
 fn drain(
     n: usize,
     k: usize,
@@ -114,31 +89,23 @@ fn drain(
     flip: &[u32],
     signs: &mut [u32],
     stack: &mut [u32],
-) -> Emptied
+) -> Result<usize, Stop>
     requires { Draining n k other.now flip.now signs.old stack.old 1 }
-    ensures { Drained k other.now flip.now signs.old stack.old 1 signs.new stack.new result.stopped result.taken result.slot }
+    ensures { Drained k other.now flip.now signs.old stack.old 1 signs.new stack.new result }
 {
     let mut top = 1;
     let mut taken = 0;
+    // Kept: it empties a stack that each turn fills again, so there is nothing to count through or to go over (the new form is no plainer).
     while 0 < top {
         top -= 1;
-        let c = wide(stack[top]);
-        let seen = cell(n, k, c, other, flip, signs, stack, top);
-        if seen.stopped {
-            return Emptied {
-                stopped: true,
-                taken,
-                slot: seen.slot,
-            };
+        let c = stack[top] as usize;
+        match cell(n, k, c, other, flip, signs, stack, top) {
+            Ok(height) => top = height,
+            Err(slot) => return Err(Stop { taken, slot }),
         }
-        top = seen.top;
         taken += 1;
     }
-    Emptied {
-        stopped: false,
-        taken,
-        slot: 0,
-    }
+    Ok(taken)
 }
 
 // The piece of cell i, which has no sign yet.
@@ -150,9 +117,9 @@ fn piece(
     flip: &[u32],
     signs: &mut [u32],
     stack: &mut [u32],
-) -> Emptied
+) -> Result<usize, Stop>
     requires { Starting n k other.now flip.now i signs.old stack.old }
-    ensures { Drained k other.now flip.now (set signs.old i 1) (set stack.old 0 i) 1 signs.new stack.new result.stopped result.taken result.slot }
+    ensures { Drained k other.now flip.now (set signs.old i 1) (set stack.old 0 i) 1 signs.new stack.new result }
 {
     signs[i] = 1;
     stack[0] = i as u32;
@@ -167,46 +134,36 @@ fn spread(
     flip: &[u32],
     signs: &mut [u32],
     stack: &mut [u32],
-) -> Emptied
+) -> Result<usize, Stop>
     requires { Walking n k other.now flip.now signs.old stack.old }
-    ensures { Spread n k other.now flip.now signs.old stack.old signs.new stack.new result.stopped result.taken result.slot }
+    ensures { Spread n k other.now flip.now signs.old stack.old signs.new stack.new result }
 {
     let mut taken = 0;
-    let mut i = 0;
-    while i < n {
+    for i in 0..n {
         if signs[i] != 0 {
-            i += 1;
             continue;
         }
-        let e = piece(n, k, i, other, flip, signs, stack);
-        if e.stopped {
-            return Emptied {
-                stopped: true,
-                taken: taken + e.taken,
-                slot: e.slot,
-            };
+        match piece(n, k, i, other, flip, signs, stack) {
+            Ok(more) => taken += more,
+            Err(stop) => {
+                return Err(Stop {
+                    taken: taken + stop.taken,
+                    slot: stop.slot,
+                });
+            }
         }
-        taken += e.taken;
-        i += 1;
     }
-    Emptied {
-        stopped: false,
-        taken,
-        slot: 0,
-    }
+    Ok(taken)
 }
 
 fn wipe(n: usize, signs: &mut [u32])
     requires { n ≤ length signs.old }
     ensures { signs.new ≡ wiped n signs.old }
 {
-    let mut i = 0;
-    while i < n {
-        signs[i] = 0;
-        i += 1;
-    }
+    signs[..n].fill(0);
 }
 
+// Kept: the looks are told in either case, so neither value hides behind the other.
 #[derive(Clone, Copy)]
 pub struct Walked {
     pub ok: bool,
@@ -226,15 +183,14 @@ pub fn walk(
     ensures { Answer n k other.now flip.now signs.old stack.old signs.new stack.new result.ok result.looks }
 {
     wipe(n, signs);
-    let e = spread(n, k, other, flip, signs, stack);
-    if e.stopped {
-        return Walked {
+    match spread(n, k, other, flip, signs, stack) {
+        Ok(taken) => Walked {
+            ok: true,
+            looks: taken * k,
+        },
+        Err(stop) => Walked {
             ok: false,
-            looks: e.taken * k + e.slot + 1,
-        };
-    }
-    Walked {
-        ok: true,
-        looks: e.taken * k,
+            looks: stop.taken * k + stop.slot + 1,
+        },
     }
 }

@@ -1,17 +1,13 @@
 -- A returned class decodes: the header's macros give back the refusal's number and place, or 0 and the class. Assumes nothing.
-use Rattle.refusal.specs.declared.Counted.{Counted}
-use Rattle.refusal.specs.declared.Counted.TheVariants as Counted
-use Rattle.grid_chained.specs.declared.Classed.{Classed}
-use Rattle.grid_chained.specs.declared.Classed.TheVariants as Classed
-use Rattle.planner_passing.specs.Decoding.{InRange, Decodes, told_counted}
-use Rattle.planner_passing.proofs.Decoding.{counted-decodes}
+use Rattle.grid_chained.specs.declared.ClassVertex.{ClassVertex}
+use Rattle.grid_chained.specs.Says.{Classed}
+use Rattle.planner_passing.specs.Decoding.{Told, InRange, Decodes, told_answer}
+use Rattle.planner_passing.proofs.Decoding.{answer-decodes}
 use Rattle.planner_chained.specs.Said.{classed_code}
 
--- the class in the place of a count
-abbrev pub numbered : Classed → Counted
-numbered (Classed.At v) = Counted.Count v.0
-numbered (Classed.Refused number place) = Counted.Refused number place
+-- what a class tells
+abbrev pub told_classed : Classed → Told
+told_classed = told_answer (λ (v : ClassVertex). v.0)
 
-pub classed-decodes : (said : Classed) → InRange (told_counted (numbered said)) → Decodes (classed_code said) (told_counted (numbered said))
-classed-decodes (Classed.At v) h = counted-decodes (Counted.Count v.0) h
-classed-decodes (Classed.Refused number place) h = counted-decodes (Counted.Refused number place) h
+pub classed-decodes : (said : Classed) → InRange (told_classed said) → Decodes (classed_code said) (told_classed said)
+classed-decodes = answer-decodes (λ (v : ClassVertex). v.0)

@@ -1,10 +1,10 @@
 -- Answers of the calls on the grid that is given. Assumes nothing.
+use Rattle.grid_chained.specs.Says.{Classed}
+use Rattle.refusal.specs.Says.{Counted}
 use mathlib.Core.Path.{◌≡◌, subst}
 use Prim.Native.Nat.{ℕ}
 use mathlib.Core.List.{List}
 use Rattle.quotient.specs.declared.Grid.{Grid}
-use Rattle.refusal.specs.declared.Counted.{Counted}
-use Rattle.grid_chained.specs.declared.Classed.{Classed}
 use Rattle.grid_chained.specs.PromiseClasses.{ClassesListed}
 use Rattle.grid_chained.specs.PromiseReduce.{ReducedTo}
 use Rattle.grid_chained.specs.PromiseCount.{CountedTo}

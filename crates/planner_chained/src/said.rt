@@ -2,14 +2,16 @@
 ghost use Rattle.std.specs.Prelude.{◌≡◌};
 ghost use Rattle.planner_chained.specs.Said.{classed_code};
 
-use grid_chained::Classed;
+use grid_chained::ClassVertex;
+use planner_passing::said;
+use refusal::Refusal;
 
 // A point's class.
-pub fn classed(said: Classed) -> u64
+pub fn classed(said: Result<ClassVertex, Refusal>) -> u64
     ensures { result ≡ classed_code said }
 {
     match said {
-        Classed::At(v) => v.0 as u64,
-        Classed::Refused(number, place) => planner_passing::said::refused(number, place),
+        Ok(v) => v.0 as u64,
+        Err(why) => said::refused(why),
     }
 }

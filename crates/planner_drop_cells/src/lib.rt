@@ -8,18 +8,19 @@ ghost use Rattle.planner_drop_cells.specs.Passed.{dropped_code, dropped_vertices
 
 use complex_dropped::Dropped;
 use planner_passing::said;
+use refusal::Refusal;
 
 // How many words stay; the number of their vertices goes to the list. A refusal leaves the list as it was.
-fn passed(answer: Dropped, vertices: &mut [u32; 1]) -> u64
+fn passed(answer: Result<Dropped, Refusal>, vertices: &mut [u32; 1]) -> u64
     ensures value { result ≡ dropped_code answer }
     ensures vertices_after { vertices.new ≡ dropped_vertices answer vertices.old }
 {
     match answer {
-        Dropped::Refused(number, place) => said::refused(number, place),
-        Dropped::Kept(words, many) => {
-            vertices[0] = many;
-            words as u64
+        Ok(kept) => {
+            vertices[0] = kept.vertices;
+            kept.words as u64
         }
+        Err(why) => said::refused(why),
     }
 }
 

@@ -1,4 +1,5 @@
 -- The answer of the call on the grid that is given. Assumes nothing.
+use Rattle.refusal.specs.Says.{Counted}
 use mathlib.Core.Path.{◌≡◌, subst}
 use mathlib.Core.List.{List}
 use Prim.Native.Nat.{ℕ}
@@ -6,7 +7,6 @@ use lib.IntN.{ℤ}
 use mir.Val.{SFits, to_z, of_z}
 use mir.Facts.{to_z-of_z}
 use mir.Syntax.{w32}
-use Rattle.refusal.specs.declared.Counted.{Counted}
 use Rattle.quotient.specs.declared.Grid.{Grid}
 use Rattle.file_geojson.specs.Promise.{GeoJson}
 use Rattle.planner_passing.specs.Said.{Said, counted_code}

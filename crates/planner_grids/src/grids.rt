@@ -36,7 +36,7 @@ pub extern "C" fn planner_crossing(d: u32, v: u32, axes: &[u32], sets: &mut [u32
 // One glued number for each grid point of the list, 4294967295 where it is past the last point. Refused: 1, 9, 8, 3, 6, 12.
 #[unsafe(no_mangle)]
 pub extern "C" fn planner_swath(d: u32, axes: &[u32], points: &[u32], glued: &mut [u32]) -> u64
-    ensures value { result ≡ answer_code (swath_says (plain_given d axes.now) points.now (length glued.old)) 0 }
+    ensures value { result ≡ answer_code (λ (fine : Unit {0}). 0) (swath_says (plain_given d axes.now) points.now (length glued.old)) }
     ensures glued_after { glued.new ≡ onto (swath_hands (plain_given d axes.now) points.now (length glued.old)) glued.old }
 {
     let g = given::plain(d, axes);
@@ -49,7 +49,7 @@ pub extern "C" fn planner_is_orientation_preserving(d: u32, axes: &[u32]) -> u64
     ensures { result ≡ parity_code (parity_of (plain_given d axes.now)) }
 {
     let g = given::plain(d, axes);
-    said::parity(g.is_orientation_preserving())
+    said::verdict(g.is_orientation_preserving())
 }
 
 // The number of vertices after gluing. Refused: 1, 9, 8, 3, 6.

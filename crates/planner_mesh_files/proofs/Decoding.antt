@@ -1,17 +1,14 @@
 -- What is returned of a file that was read decodes: the header's macros give back the refusal's number and place, or 0 and the number of cells. Assumes nothing.
-use Rattle.refusal.specs.declared.Counted.{Counted}
-use Rattle.refusal.specs.declared.Counted.TheVariants as Counted
+use Rattle.std.specs.Prelude.{Result}
+use Rattle.refusal.specs.declared.Refusal.{Refusal}
 use Rattle.file_mesh_read.specs.declared.Reading.{Reading}
-use Rattle.file_mesh_read.specs.declared.Reading.TheVariants as Reading
-use Rattle.planner_passing.specs.Decoding.{InRange, Decodes, told_counted}
-use Rattle.planner_passing.proofs.Decoding.{counted-decodes}
+use Rattle.planner_passing.specs.Decoding.{Told, InRange, Decodes, told_answer}
+use Rattle.planner_passing.proofs.Decoding.{answer-decodes}
 use Rattle.planner_mesh_files.specs.Read.{read_code}
 
--- the cells as a count
-abbrev pub numbered : Reading → Counted
-numbered (Reading.Read d cells births pairs) = Counted.Count cells
-numbered (Reading.Refused number place) = Counted.Refused number place
+-- what it tells: the cells
+abbrev pub told_read : Result Reading Refusal → Told
+told_read = told_answer (λ (mesh : Reading). mesh.cells)
 
-pub read-decodes : (said : Reading) → InRange (told_counted (numbered said)) → Decodes (read_code said) (told_counted (numbered said))
-read-decodes (Reading.Read d cells births pairs) h = counted-decodes (Counted.Count cells) h
-read-decodes (Reading.Refused number place) h = counted-decodes (Counted.Refused number place) h
+pub read-decodes : (said : Result Reading Refusal) → InRange (told_read said) → Decodes (read_code said) (told_read said)
+read-decodes = answer-decodes (λ (mesh : Reading). mesh.cells)

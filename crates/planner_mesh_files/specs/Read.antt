@@ -1,15 +1,13 @@
 -- What reading a mesh file returns to C. Assumes nothing.
-use Rattle.std.specs.Prelude.{List, [], ◌∷◌, ℕ}
+use Rattle.std.specs.Prelude.{List, [], ◌∷◌, ℕ, Result}
+use Rattle.refusal.specs.declared.Refusal.{Refusal}
 use Rattle.file_mesh_read.specs.declared.Reading.{Reading}
-use Rattle.file_mesh_read.specs.declared.Reading.TheVariants as Reading
-use Rattle.planner_passing.specs.Said.{refused_code}
+use Rattle.planner_passing.specs.Said.{answer_code, answer_list}
 
 -- how many cells the file has
-abbrev pub read_code : Reading → ℕ
-read_code (Reading.Read d cells births pairs) = cells
-read_code (Reading.Refused number place) = refused_code number place
+abbrev pub read_code : Result Reading Refusal → ℕ
+read_code = answer_code (λ (mesh : Reading). mesh.cells)
 
 -- the dimension, and how many births and pairs; on a refusal what stood there
-abbrev pub read_shape : Reading → List ℕ → List ℕ
-read_shape (Reading.Read d cells births pairs) shape = d ∷ (births ∷ (pairs ∷ []))
-read_shape (Reading.Refused number place) shape = shape
+abbrev pub read_shape : Result Reading Refusal → List ℕ → List ℕ
+read_shape = answer_list (λ (mesh : Reading). mesh.dimension ∷ (mesh.births ∷ (mesh.pairs ∷ [])))

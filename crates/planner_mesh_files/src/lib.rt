@@ -13,18 +13,19 @@ ghost use Rattle.planner_mesh_files.specs.Read.{read_code, read_shape};
 
 use file_mesh_read::Reading;
 use planner_passing::said;
+use refusal::Refusal;
 
 // A file that was read: how many cells it has; its dimension and its numbers of births and pairs go to `shape`, which a refusal leaves as it was.
-fn shaped(reading: Reading, shape: &mut [u32; 3]) -> u64
+fn shaped(reading: Result<Reading, Refusal>, shape: &mut [u32; 3]) -> u64
     ensures value { result ≡ read_code reading }
     ensures shape_after { shape.new ≡ read_shape reading shape.old }
 {
     match reading {
-        Reading::Refused(number, place) => said::refused(number, place),
-        Reading::Read(d, cells, births, pairs) => {
-            *shape = [d, births, pairs];
-            cells as u64
+        Ok(mesh) => {
+            *shape = [mesh.dimension, mesh.births, mesh.pairs];
+            mesh.cells as u64
         }
+        Err(why) => said::refused(why),
     }
 }
 

@@ -1,4 +1,8 @@
 -- With lists of the lengths that are told, writing and reading a mesh file never say 12. Assumes nothing.
+use Rattle.refusal.specs.declared.Refusal.TheVariants.{TooShort}
+use Rattle.refusal.specs.Says.{Counted, fine}
+use Rattle.refusal.specs.declared.Refusal.{Refusal}
+use Rattle.std.specs.Prelude.{Err, Result}
 use mathlib.Core.Bool.{true}
 use mathlib.Core.List.{List, [], ◌∷◌}
 use mathlib.Core.Path.{◌≡◌, refl, sym, ap, subst}
@@ -7,14 +11,9 @@ use native.Mathlib.Nat.{mul-le-mul_right, mul-le-mul_left, le_trans, le-div_iff_
 use native.Mathlib.Numerals.{add-one}
 use native.Mathlib.Omega.{arith}
 use lib.ListN.{length}
-use Rattle.refusal.specs.declared.Answer.{Answer}
-use Rattle.refusal.specs.declared.Answer.TheVariants as Answer
-use Rattle.refusal.specs.declared.Counted.{Counted}
-use Rattle.refusal.specs.declared.Counted.TheVariants as Counted
 use Rattle.refusal.specs.Limits.{most_dimension, most_vertices}
-use Rattle.refusal.specs.Table.{too_short}
 use Rattle.refusal.specs.Lent.{Roomy, lengths}
-use Rattle.refusal.proofs.Chain.{refused-number}
+use Rattle.refusal.proofs.Chain.{fine-refused, refused-same}
 use Rattle.complex.specs.Check.{answer_of, Passed}
 use Rattle.complex.specs.Cells.{cells_of}
 use Rattle.complex.specs.Room.{key_room, need_of}
@@ -28,14 +27,12 @@ use Rattle.file_mesh.proofs.Parts.{both}
 use Rattle.file_mesh_write.specs.Promise as writing
 use Rattle.file_mesh_write.proofs.Sizes.{sizes, file-size, past-largest}
 use Rattle.file_mesh_read.specs.declared.Reading.{Reading}
-use Rattle.file_mesh_read.specs.declared.Reading.TheVariants as Reading
 use Rattle.file_mesh_read.specs.Promise as reading
 use Rattle.file_mesh_read.proofs.Given.{room-enough}
 use Rattle.needs.specs.Needs.{worked}
-use Rattle.needs.specs.Enough.{Long, counted_number}
-use Rattle.needs.proofs.Enough.{check-never, never, roomy_of, told}
+use Rattle.needs.specs.Enough.{Long}
+use Rattle.needs.proofs.Enough.{check-never, never-says, roomy_of, told}
 use Rattle.planner_needs_files.specs.Needs.{most_birth_bytes, within, written_need, read_need}
-use Rattle.planner_needs_files.specs.Enough.{reading_number}
 use Rattle.planner_needs_files.proofs.Laws.{within-taken}
 use Rattle.planner_needs_files.proofs.Fair.{Fair, file-fair}
 
@@ -60,15 +57,15 @@ module _ (m : Mesh) (p : Passed m.d m.words) (k : rules m ≡ true) where
         ap (λ (x : ℕ). x / 2 * 6) q,
       )
 
-write-end : (m : Mesh) (cs : List (List ℕ)) (given : ℕ) → (rules m ≡ true → length (file_of m) ≤ given) → (r : Counted) (h : List ℕ) → skeleton.Ends [] m.d cs (writing.Writes m given) r h → counted_number r ≡ too_short → ⊥
-write-end m cs given fits r h (skeleton.crowded x) t = omega (arith, t)
-write-end m cs given fits r h (skeleton.rest free (writing.broken e)) t = omega (arith, t)
+write-end : (m : Mesh) (cs : List (List ℕ)) (given : ℕ) → (rules m ≡ true → length (file_of m) ≤ given) → (r : Counted) (h : List ℕ) → skeleton.Ends [] m.d cs (writing.Writes m given) r h → r ≡ Err TooShort → ⊥
+write-end m cs given fits r h (skeleton.crowded x) t = cc
+write-end m cs given fits r h (skeleton.rest free (writing.broken e)) t = cc
 write-end m cs given fits r h (skeleton.rest free (writing.short e less)) t = omega (arith, less, fits e)
-write-end m cs given fits r h (skeleton.rest free (writing.written e enough)) t = omega (arith, t)
+write-end m cs given fits r h (skeleton.rest free (writing.written e enough)) t = cc
 
-pub write-enough : (m : Mesh) (keys rows spare counts : List ℕ) {keys' rows' spare' counts' bytes bytes' : List ℕ} {r : Counted} → writing.MeshWritten m r bytes bytes' keys keys' rows rows' spare spare' counts counts' → Long (written_need m.d (worked m.d (length m.words)) (length m.births) (length m.pairs)) (length bytes ∷ length keys ∷ length rows ∷ length spare ∷ length counts ∷ []) → counted_number r ≡ too_short → ⊥
+pub write-enough : (m : Mesh) (keys rows spare counts : List ℕ) {keys' rows' spare' counts' bytes bytes' : List ℕ} {r : Counted} → writing.MeshWritten m r bytes bytes' keys keys' rows rows' spare spare' counts counts' → Long (written_need m.d (worked m.d (length m.words)) (length m.births) (length m.pairs)) (length bytes ∷ length keys ∷ length rows ∷ length spare ∷ length counts ∷ []) → r ≡ Err TooShort → ⊥
 write-enough m keys rows spare counts {bytes = bytes} a l t =
-    never Counted.Refused counted_number (λ n p. refl) [] (answer_of m.d m.words) (check-never m.d m.words) (Passed m.d m.words) (fine-passed m.d m.words) (need_of m.d (length m.words)) (lengths keys rows spare counts) (skeleton.Ends [] m.d (cells_of m.d m.words) (writing.Writes m (length bytes)))
+    never-says [] (answer_of m.d m.words) (check-never m.d m.words) (Passed m.d m.words) (fine-passed m.d m.words) (need_of m.d (length m.words)) (lengths keys rows spare counts) (skeleton.Ends [] m.d (cells_of m.d m.words) (writing.Writes m (length bytes)))
     (λ p. roomy_of (need_of m.d (length m.words)) _ _ _ _ (told_of p).1)
     (λ p. write-end m (cells_of m.d m.words) (length bytes) (λ e. file-told m p e (length bytes) (told_of p).0))
     a.call.comes t
@@ -77,9 +74,9 @@ write-enough m keys rows spare counts {bytes = bytes} a l t =
     told_of p = told m.d m.words (λ (n : ℕ). written_need m.d n (length m.births) (length m.pairs)) (length bytes ∷ length keys ∷ length rows ∷ length spare ∷ length counts ∷ []) l p
 
 -- ---- reading
-refused-fair : (f : Part Mesh) → Fair f → (p : ℕ) → reading.refused_in f ≡ Answer.Refused too_short p → ⊥
-refused-fair (no n) h p e = h (refused-number n 0 too_short p e)
-refused-fair (got m r) h p e = check-never m.d m.words p e
+refused-fair : (f : Part Mesh) → Fair f → reading.refused_in f ≡ Err TooShort → ⊥
+refused-fair (no why) h e = h (refused-same why TooShort e)
+refused-fair (got m r) h e = check-never m.d m.words e
 
 -- an accepted file
 record Accepted (f : Part Mesh) : Type 0 where
@@ -88,8 +85,8 @@ record Accepted (f : Part Mesh) : Type 0 where
   is : f ≡ got mesh rest
   passed : Passed mesh.d mesh.words
 
-accepted : (f : Part Mesh) → reading.refused_in f ≡ Answer.Fine → Accepted f
-accepted (no n) e = absurd (let z : ◌≡◌ {A = ℕ} 0 1 = cc in omega arith)
+accepted : (f : Part Mesh) → reading.refused_in f ≡ fine → Accepted f
+accepted (no why) e = absurd (fine-refused why e)
 accepted (got m r) e = record { mesh = m; rest = r; is = refl; passed = fine-passed m.d m.words e }
 
 quotient-most : (a b k : ℕ) → a * suc k ≤ b → a ≤ b / suc k
@@ -117,16 +114,16 @@ module _ (bytes : List ℕ) where
         in_counts = le_trans w hc;
       })
 
-read-end : (m : Mesh) (given : reading.Lists) → length m.words ≤ length given.words → length m.births ≤ length given.births → length m.pairs ≤ length given.pairs → (r : Reading) (h : reading.Lists) → reading.Gives m given r h → reading_number r ≡ too_short → ⊥
-read-end m given fw fb fp r h (reading.crowded x) t = omega (arith, t)
+read-end : (m : Mesh) (given : reading.Lists) → length m.words ≤ length given.words → length m.births ≤ length given.births → length m.pairs ≤ length given.pairs → (r : Result Reading Refusal) (h : reading.Lists) → reading.Gives m given r h → r ≡ Err TooShort → ⊥
+read-end m given fw fb fp r h (reading.crowded x) t = cc
 read-end m given fw fb fp r h (reading.words_short free less) t = omega (arith, less, fw)
 read-end m given fw fb fp r h (reading.births_short free less) t = omega (arith, less, fb)
 read-end m given fw fb fp r h (reading.pairs_short free less) t = omega (arith, less, fp)
-read-end m given fw fb fp r h (reading.read free a b c) t = omega (arith, t)
+read-end m given fw fb fp r h (reading.read free a b c) t = cc
 
-pub read-enough : (bytes keys rows spare counts words births pairs : List ℕ) {keys' rows' spare' counts' words' births' pairs' : List ℕ} {r : Reading} → reading.MeshRead bytes r words words' births births' pairs pairs' keys keys' rows rows' spare spare' counts counts' → Long (read_need (length bytes)) (length words ∷ length births ∷ length pairs ∷ length keys ∷ length rows ∷ length spare ∷ length counts ∷ []) → reading_number r ≡ too_short → ⊥
+pub read-enough : (bytes keys rows spare counts words births pairs : List ℕ) {keys' rows' spare' counts' words' births' pairs' : List ℕ} {r : Result Reading Refusal} → reading.MeshRead bytes r words words' births births' pairs pairs' keys keys' rows rows' spare spare' counts counts' → Long (read_need (length bytes)) (length words ∷ length births ∷ length pairs ∷ length keys ∷ length rows ∷ length spare ∷ length counts ∷ []) → r ≡ Err TooShort → ⊥
 read-enough bytes keys rows spare counts words births pairs a l t =
-    never Reading.Refused reading_number (λ n p. refl) reading.none (reading.refused_in (read_file bytes)) (refused-fair (read_file bytes) (file-fair bytes)) (Accepted (read_file bytes)) (accepted (read_file bytes)) (need_of (reading.mesh_in (read_file bytes)).d (length (reading.mesh_in (read_file bytes)).words)) (lengths keys rows spare counts) (reading.Gives (reading.mesh_in (read_file bytes)) (record { words = words; births = births; pairs = pairs }))
+    never-says reading.none (reading.refused_in (read_file bytes)) (refused-fair (read_file bytes) (file-fair bytes)) (Accepted (read_file bytes)) (accepted (read_file bytes)) (need_of (reading.mesh_in (read_file bytes)).d (length (reading.mesh_in (read_file bytes)).words)) (lengths keys rows spare counts) (reading.Gives (reading.mesh_in (read_file bytes)) (record { words = words; births = births; pairs = pairs }))
     (roomy-in bytes (length keys) (length rows) (length spare) (length counts) l.1.1.1.0 l.1.1.1.1.0 l.1.1.1.1.1.0 l.1.1.1.1.1.1.0)
     (λ c.
     let s = sizes-of bytes c in

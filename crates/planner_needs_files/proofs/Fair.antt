@@ -1,12 +1,11 @@
 -- The bytes of a file are refused with 20, 21 or 22, never with 12. Assumes nothing.
+use Rattle.refusal.specs.declared.Refusal.TheVariants.{BadFile, FileEnds, TooShort, UnknownKind}
 use mathlib.Core.Bool.{Bool, true, false, cond, ◌&&◌}
 use mathlib.Core.List.{List, []}
 use mathlib.Core.Path.{◌≡◌}
 use Prim.Native.Nat.{ℕ, zero, suc, ◌+◌, ◌*◌}
-use native.Mathlib.Omega.{arith}
 use lib.Dec.{leb, ltb, eqb}
 use lib.ListN.{length, take, drop}
-use Rattle.refusal.specs.Table.{file_ends, unknown_kind, bad_file, too_short}
 use Rattle.file_bytes.specs.Bytes.{said, fours_of}
 use Rattle.file_mesh.specs.declared.Run.{Run}
 use Rattle.file_mesh.specs.Mesh.{past}
@@ -16,7 +15,7 @@ use Rattle.file_mesh.specs.Read.{Part, no, got, and_then, asked, number, field, 
 
 -- another refusal than 12, or a part
 abbrev pub Fair : {A : Type 0} → Part A → Type 0
-Fair (no n) = n ≡ too_short → ⊥
+Fair (no why) = why ≡ TooShort → ⊥
 Fair (got x r) = Unit {0}
 
 then-fair : {A B : Type 0} (p : Part A) (f : A → List ℕ → Part B) → Fair p → ((x : A) (r : List ℕ) → Fair (f x r)) → Fair (and_then p f)
@@ -27,7 +26,7 @@ then-fair (got x r) f h k = k x r
 asked-fair : {A : Type 0} (t : Bool) (p : Part A) → Fair p → Fair (asked t p)
 unfolding asked
 asked-fair true p h = h
-asked-fair false p h = λ (e : bad_file ≡ too_short). omega (arith, e)
+asked-fair false p h = λ (e : BadFile ≡ TooShort). cc
 
 either-fair : {A : Type 0} (t : Bool) (p q : Part A) → Fair p → Fair q → Fair (cond t p q)
 either-fair true p q h k = h
@@ -35,7 +34,7 @@ either-fair false p q h k = k
 
 number-fair : (k : ℕ) (bs : List ℕ) → Fair (number k bs)
 unfolding number
-number-fair k bs = either-fair (ltb (length bs) k) (no file_ends) (got (said (take k bs)) (drop k bs)) (λ (e : file_ends ≡ too_short). omega (arith, e)) tt
+number-fair k bs = either-fair (ltb (length bs) k) (no FileEnds) (got (said (take k bs)) (drop k bs)) (λ (e : FileEnds ≡ TooShort). cc) tt
 
 field-fair : (k : ℕ) (test : ℕ → Bool) (bs : List ℕ) → Fair (field k test bs)
 unfolding field
@@ -43,14 +42,14 @@ field-fair k test bs = then-fair (number k bs) (λ n r. asked (test n) (got n r)
 
 numbers-fair : (n : ℕ) (bs : List ℕ) → Fair (numbers n bs)
 unfolding numbers
-numbers-fair n bs = either-fair (ltb (length bs) (n * 4)) (no file_ends) (got (fours_of n bs) (drop (n * 4) bs)) (λ (e : file_ends ≡ too_short). omega (arith, e)) tt
+numbers-fair n bs = either-fair (ltb (length bs) (n * 4)) (no FileEnds) (got (fours_of n bs) (drop (n * 4) bs)) (λ (e : FileEnds ≡ TooShort). cc) tt
 
 opening-fair : (bs : List ℕ) → Fair (opening_from bs)
 unfolding opening_from
 opening-fair bs =
     then-fair (field 4 (λ n. leb 2 n) bs) _ (field-fair 4 (λ n. leb 2 n) bs) (λ n r.
     then-fair (number 2 r) _ (number-fair 2 r) (λ k s.
-    either-fair (leb head_kind k && leb k end_kind) (got (record { len = n; kind = k }) s) (no unknown_kind) tt (λ (e : unknown_kind ≡ too_short). omega (arith, e))))
+    either-fair (leb head_kind k && leb k end_kind) (got (record { len = n; kind = k }) s) (no UnknownKind) tt (λ (e : UnknownKind ≡ TooShort). cc)))
 
 header-fair : (bs : List ℕ) → Fair (header_from bs)
 unfolding header_from
@@ -94,7 +93,7 @@ birth-fair vertices run len bs =
 
 births-fair : (most vertices : ℕ) (run : Run) (bs : List ℕ) → Fair (births_read_from most vertices run bs)
 unfolding births_read_from
-births-fair zero vertices run bs = λ (e : bad_file ≡ too_short). omega (arith, e)
+births-fair zero vertices run bs = λ (e : BadFile ≡ TooShort). cc
 births-fair (suc most) vertices run bs =
     then-fair (opening_from bs) _ (opening-fair bs) (λ o r.
     either-fair (eqb o.kind end_kind) _ _

@@ -1,4 +1,8 @@
 -- With lists of the lengths that are told, a call on a grid never says 12. Assumes nothing.
+use Rattle.refusal.specs.declared.Refusal.{Refusal}
+use Rattle.refusal.specs.declared.Refusal.TheVariants.{BadDimension, BadReflection, BadSide, ShortAxis, TooManyCells, TooManyVertices, TooShort}
+use Rattle.refusal.specs.Says.{Counted, fine}
+use Rattle.std.specs.Prelude.{Err, Result}
 use mathlib.Core.List.{List, [], ◌∷◌, map}
 use mathlib.Core.Path.{◌≡◌, refl, ap, subst}
 use Prim.Native.Nat.{ℕ, zero, suc, ◌+◌, ◌*◌, ◌≤◌}
@@ -9,12 +13,7 @@ use lib.Ieee.{Float}
 use lib.IntN.{ℤ}
 use lib.ListN.{length, length-map}
 use Rattle.lists.specs.Tables.{upto}
-use Rattle.refusal.specs.declared.Answer.{Answer}
-use Rattle.refusal.specs.declared.Answer.TheVariants as Answer
-use Rattle.refusal.specs.declared.Counted.{Counted}
-use Rattle.refusal.specs.declared.Counted.TheVariants as Counted
 use Rattle.refusal.specs.Limits.{most_dimension, most_cells, most_vertices}
-use Rattle.refusal.specs.Table.{bad_dimension, too_many_cells, too_many_vertices, short_axis_number, bad_reflection_number, bad_side, too_short}
 use Rattle.refusal.specs.Lent.{lengths}
 use Rattle.sorting.proofs.Sorts.{length-upto}
 use Rattle.grid_sides.specs.Counts.{first_bad}
@@ -28,7 +27,6 @@ use Rattle.grid_words.proofs.Good.{words-pass}
 use Rattle.grid_mesh.specs.Words.{glued_cells, corners_of, grid_need, WordsEnd, CellWords}
 use Rattle.grid_mesh.specs.Words as mesh
 use Rattle.grid_order.specs.declared.Triangulated.{Triangulated}
-use Rattle.grid_order.specs.declared.Triangulated.TheVariants as Triangulated
 use Rattle.grid_order.specs.Promise as order
 use Rattle.grid_lengths.specs.Edges.{edges_each, visits_of, from_at, to_at, edges_of}
 use Rattle.grid_lengths.specs.Lengths as spans
@@ -36,35 +34,34 @@ use Rattle.file_geojson.specs.Kind.{from_pole}
 use Rattle.file_geojson.specs.Promise as maps
 use Rattle.file_geojson.proofs.Ends.{file-long, mapped}
 use Rattle.needs.specs.Needs.{worked}
-use Rattle.needs.specs.Enough.{Long, counted_number}
+use Rattle.needs.specs.Enough.{Long}
 use Rattle.needs.proofs.Laws.{worked-taken}
 use Rattle.skeleton.proofs.Sizes.{corners-most, order-most}
-use Rattle.needs.proofs.Enough.{passes_over, fine-never, never, roomy_of}
+use Rattle.needs.proofs.Enough.{passes_over, fine-never, never-says, roomy_of}
 use Rattle.planner_needs_grids.specs.Needs.{words_need, triangulated_need, lengths_need, map_need}
-use Rattle.planner_needs_grids.specs.Enough.{triangulated_number}
 
 -- ---- the check of a grid never says 12
-shape-never : (g : Grid) (p : ℕ) → shape_check g ≡ Answer.Refused too_short p → ⊥
+shape-never : (g : Grid) → shape_check g ≡ Err TooShort → ⊥
 shape-never g =
-    passes_over (ltb (bad_reflection g) g.d) bad_reflection_number (bad_reflection g) _ (λ (e : bad_reflection_number ≡ too_short). omega (arith, e))
-    (passes_over (ltb (short_axis g) g.d) short_axis_number (short_axis g) _ (λ (e : short_axis_number ≡ too_short). omega (arith, e))
-    (passes_over (ltb most_cells (cell_count g)) too_many_cells 0 _ (λ (e : too_many_cells ≡ too_short). omega (arith, e))
-    (passes_over (ltb most_vertices (vertices_of g)) too_many_vertices 0 _ (λ (e : too_many_vertices ≡ too_short). omega (arith, e))
+    passes_over (ltb (bad_reflection g) g.d) (BadReflection (bad_reflection g)) _ (λ (e : BadReflection (bad_reflection g) ≡ TooShort). cc)
+    (passes_over (ltb (short_axis g) g.d) (ShortAxis (short_axis g)) _ (λ (e : ShortAxis (short_axis g) ≡ TooShort). cc)
+    (passes_over (ltb most_cells (cell_count g)) TooManyCells _ (λ (e : TooManyCells ≡ TooShort). cc)
+    (passes_over (ltb most_vertices (vertices_of g)) TooManyVertices _ (λ (e : TooManyVertices ≡ TooShort). cc)
     fine-never)))
 
-pub grid-never : (g : Grid) (p : ℕ) → check_of g ≡ Answer.Refused too_short p → ⊥
+pub grid-never : (g : Grid) → check_of g ≡ Err TooShort → ⊥
 unfolding check_of
 grid-never g =
-    passes_over (ltb g.d 1) bad_dimension 0 _ (λ (e : bad_dimension ≡ too_short). omega (arith, e))
-    (passes_over (ltb most_dimension g.d) bad_dimension 0 _ (λ (e : bad_dimension ≡ too_short). omega (arith, e))
+    passes_over (ltb g.d 1) BadDimension _ (λ (e : BadDimension ≡ TooShort). cc)
+    (passes_over (ltb most_dimension g.d) BadDimension _ (λ (e : BadDimension ≡ TooShort). cc)
     (shape-never g))
 
-pub sides-never : (g : Grid) (p : ℕ) → sides_check_of g ≡ Answer.Refused too_short p → ⊥
+pub sides-never : (g : Grid) → sides_check_of g ≡ Err TooShort → ⊥
 unfolding sides_check_of
 sides-never g =
-    passes_over (ltb g.d 1) bad_dimension 0 _ (λ (e : bad_dimension ≡ too_short). omega (arith, e))
-    (passes_over (ltb most_dimension g.d) bad_dimension 0 _ (λ (e : bad_dimension ≡ too_short). omega (arith, e))
-    (passes_over (ltb (first_bad g.sides g.d) g.d) bad_side (first_bad g.sides g.d) _ (λ (e : bad_side ≡ too_short). omega (arith, e))
+    passes_over (ltb g.d 1) BadDimension _ (λ (e : BadDimension ≡ TooShort). cc)
+    (passes_over (ltb most_dimension g.d) BadDimension _ (λ (e : BadDimension ≡ TooShort). cc)
+    (passes_over (ltb (first_bad g.sides g.d) g.d) (BadSide (first_bad g.sides g.d)) _ (λ (e : BadSide (first_bad g.sides g.d) ≡ TooShort). cc)
     (shape-never g)))
 
 -- ---- how long the lists of a grid that is taken are
@@ -79,7 +76,7 @@ each-edges (suc (suc (suc (suc d)))) h = absurd (let w : ⊥ = omega arith in w)
 pub corners-told : (d c : ℕ) → d ≤ most_dimension → c ≤ most_cells → (need : ℕ → List ℕ) (have : List ℕ) → Long (need (worked d (c * suc d))) have → Long (need (c * suc d)) have
 corners-told d c h k need have l = subst (λ (n : ℕ). Long (need n) have) (worked-taken d (c * suc d) h (mul-le-mul_right (suc d) k)) l
 
-module _ (g : Grid) (fine : check_of g ≡ Answer.Fine) where
+module _ (g : Grid) (fine : check_of g ≡ fine) where
   told : (need : ℕ → List ℕ) (have : List ℕ) → Long (need (worked g.d (corners_of g))) have → Long (need (corners_of g)) have
   told = corners-told g.d (cell_count g) (taken-high g fine) (taken-cells g fine)
 
@@ -101,49 +98,49 @@ module _ (g : Grid) (fine : check_of g ≡ Answer.Fine) where
   edges_few = omega (arith, order-most 2 (map (λ r. vertex_of g (from_at g r) ∷ vertex_of g (to_at g r) ∷ []) (upto (visits_of g))), length-map (upto (visits_of g)) (λ r. vertex_of g (from_at g r) ∷ vertex_of g (to_at g r) ∷ []), length-upto (visits_of g))
 
 -- ---- how the calls end
-words-end : (g : Grid) (given : ℕ) → length (flat_words g) ≤ given → (r : Counted) (h : List ℕ) → WordsEnd g given r h → counted_number r ≡ too_short → ⊥
-words-end g given fits r h (mesh.crowded x) t = omega (arith, t)
+words-end : (g : Grid) (given : ℕ) → length (flat_words g) ≤ given → (r : Counted) (h : List ℕ) → WordsEnd g given r h → r ≡ Err TooShort → ⊥
+words-end g given fits r h (mesh.crowded x) t = cc
 words-end g given fits r h (mesh.short free less) t = omega (arith, less, fits)
-words-end g given fits r h (mesh.written free enough) t = omega (arith, t)
+words-end g given fits r h (mesh.written free enough) t = cc
 
-triangulated-end : (g : Grid) (cells listed : ℕ) → order.cells_length g ≤ cells → order.cells_length g ≤ listed → (r : Triangulated) (h : order.Handed) → order.Ends g cells listed r h → triangulated_number r ≡ too_short → ⊥
-triangulated-end g cells listed fits also r h (order.crowded x) t = omega (arith, t)
+triangulated-end : (g : Grid) (cells listed : ℕ) → order.cells_length g ≤ cells → order.cells_length g ≤ listed → (r : Result Triangulated Refusal) (h : order.Handed) → order.Ends g cells listed r h → r ≡ Err TooShort → ⊥
+triangulated-end g cells listed fits also r h (order.crowded x) t = cc
 triangulated-end g cells listed fits also r h (order.short free less) t = omega (arith, less, fits)
 triangulated-end g cells listed fits also r h (order.short_order free o less) t = omega (arith, less, also)
-triangulated-end g cells listed fits also r h (order.ordered free o e f) t = omega (arith, t)
-triangulated-end g cells listed fits also r h (order.unordered free non e) t = omega (arith, t)
+triangulated-end g cells listed fits also r h (order.ordered free o e f) t = cc
+triangulated-end g cells listed fits also r h (order.unordered free non e) t = cc
 
-lengths-end : (g : Grid) (given : ℕ) → length (edges_of g) ≤ given → (r : Counted) (h : List Float) → spans.LengthsEnd g given r h → counted_number r ≡ too_short → ⊥
-lengths-end g given fits r h (spans.clashing x) t = omega (arith, t)
+lengths-end : (g : Grid) (given : ℕ) → length (edges_of g) ≤ given → (r : Counted) (h : List Float) → spans.LengthsEnd g given r h → r ≡ Err TooShort → ⊥
+lengths-end g given fits r h (spans.clashing x) t = cc
 lengths-end g given fits r h (spans.short free less) t = omega (arith, less, fits)
-lengths-end g given fits r h (spans.listed free enough e) t = omega (arith, t)
+lengths-end g given fits r h (spans.listed free enough e) t = cc
 
-map-end : (g : Grid) (south north : ℤ) (given : ℕ) → check_of g ≡ Answer.Fine → 43 + 276 * cell_count g ≤ given → (r : Counted) (h : List ℕ) → maps.GeoEnd g south north given r h → counted_number r ≡ too_short → ⊥
-map-end g south north given fine fits r h (maps.crowded x) t = omega (arith, t)
-map-end g south north given fine fits r h (maps.plain free (maps.other e)) t = omega (arith, t)
-map-end g south north given fine fits r h (maps.plain free (maps.beyond e l)) t = omega (arith, t)
+map-end : (g : Grid) (south north : ℤ) (given : ℕ) → check_of g ≡ fine → 43 + 276 * cell_count g ≤ given → (r : Counted) (h : List ℕ) → maps.GeoEnd g south north given r h → r ≡ Err TooShort → ⊥
+map-end g south north given fine fits r h (maps.crowded x) t = cc
+map-end g south north given fine fits r h (maps.plain free (maps.other e)) t = cc
+map-end g south north given fine fits r h (maps.plain free (maps.beyond e l)) t = cc
 map-end g south north given fine fits r h (maps.plain free (maps.short e l less)) t = omega (arith, less, fits, file-long g (from_pole south) (from_pole north) (mapped g south north [] e l (from_pole south) (from_pole north) refl refl fine))
-map-end g south north given fine fits r h (maps.plain free (maps.drawn e l enough)) t = omega (arith, t)
+map-end g south north given fine fits r h (maps.plain free (maps.drawn e l enough)) t = cc
 
 -- ---- the calls
 module _ (g : Grid) (keys rows spare counts : List ℕ) {keys' rows' spare' counts' : List ℕ} where
-  pub words-enough : {out out' : List ℕ} {r : Counted} → CellWords g r out out' keys keys' rows rows' spare spare' counts counts' → Long (words_need g.d (worked g.d (corners_of g))) (length out ∷ length keys ∷ length rows ∷ length spare ∷ length counts ∷ []) → counted_number r ≡ too_short → ⊥
+  pub words-enough : {out out' : List ℕ} {r : Counted} → CellWords g r out out' keys keys' rows rows' spare spare' counts counts' → Long (words_need g.d (worked g.d (corners_of g))) (length out ∷ length keys ∷ length rows ∷ length spare ∷ length counts ∷ []) → r ≡ Err TooShort → ⊥
   words-enough {out = out} a l t =
-      never Counted.Refused counted_number (λ n p. refl) [] (check_of g) (grid-never g) (check_of g ≡ Answer.Fine) (λ e. e) (grid_need g) (lengths keys rows spare counts) (WordsEnd g (length out))
+      never-says [] (check_of g) (grid-never g) (check_of g ≡ fine) (λ e. e) (grid_need g) (lengths keys rows spare counts) (WordsEnd g (length out))
       (λ f. let k = told g f (words_need g.d) (length out ∷ length keys ∷ length rows ∷ length spare ∷ length counts ∷ []) l in roomy_of (grid_need g) _ _ _ _ k.1)
       (λ f. let k = told g f (words_need g.d) (length out ∷ length keys ∷ length rows ∷ length spare ∷ length counts ∷ []) l in words-end g (length out) (omega (arith, k.0, words_long g f)))
       a.comes t
 
-  pub triangulated-enough : {out out' by by' : List ℕ} {r : Triangulated} → order.TriangulateOrdered g r out out' by by' keys keys' rows rows' spare spare' counts counts' → Long (triangulated_need g.d (worked g.d (corners_of g))) (length out ∷ length by ∷ length keys ∷ length rows ∷ length spare ∷ length counts ∷ []) → triangulated_number r ≡ too_short → ⊥
+  pub triangulated-enough : {out out' by by' : List ℕ} {r : Result Triangulated Refusal} → order.TriangulateOrdered g r out out' by by' keys keys' rows rows' spare spare' counts counts' → Long (triangulated_need g.d (worked g.d (corners_of g))) (length out ∷ length by ∷ length keys ∷ length rows ∷ length spare ∷ length counts ∷ []) → r ≡ Err TooShort → ⊥
   triangulated-enough {out = out} {by = by} a l t =
-      never Triangulated.Refused triangulated_number (λ n p. refl) order.nothing (check_of g) (grid-never g) (check_of g ≡ Answer.Fine) (λ e. e) (order.order_room g) (lengths keys rows spare counts) (order.Ends g (length out) (length by))
+      never-says order.nothing (check_of g) (grid-never g) (check_of g ≡ fine) (λ e. e) (order.order_room g) (lengths keys rows spare counts) (order.Ends g (length out) (length by))
       (λ f. let k = told g f (triangulated_need g.d) (length out ∷ length by ∷ length keys ∷ length rows ∷ length spare ∷ length counts ∷ []) l in roomy_of (order.order_room g) _ _ _ _ k.1.1)
       (λ f. let k = told g f (triangulated_need g.d) (length out ∷ length by ∷ length keys ∷ length rows ∷ length spare ∷ length counts ∷ []) l in triangulated-end g (length out) (length by) (omega (arith, k.0, cells-corners g f)) (omega (arith, k.1.0, cells-corners g f)))
       a.comes t
 
-  pub lengths-enough : {out out' : List Float} {r : Counted} → spans.EdgeLengths g r out out' keys keys' rows rows' spare spare' counts counts' → Long (lengths_need g.d (worked g.d (corners_of g))) (length out ∷ length keys ∷ length rows ∷ length spare ∷ length counts ∷ []) → counted_number r ≡ too_short → ⊥
+  pub lengths-enough : {out out' : List Float} {r : Counted} → spans.EdgeLengths g r out out' keys keys' rows rows' spare spare' counts counts' → Long (lengths_need g.d (worked g.d (corners_of g))) (length out ∷ length keys ∷ length rows ∷ length spare ∷ length counts ∷ []) → r ≡ Err TooShort → ⊥
   lengths-enough {out = out} a l t =
-      never Counted.Refused counted_number (λ n p. refl) [] (sides_check_of g) (sides-never g) (check_of g ≡ Answer.Fine) (sides-taken g) (spans.lengths_need g) (lengths keys rows spare counts) (spans.LengthsEnd g (length out))
+      never-says [] (sides_check_of g) (sides-never g) (check_of g ≡ fine) (sides-taken g) (spans.lengths_need g) (lengths keys rows spare counts) (spans.LengthsEnd g (length out))
       (λ f.
       let k = told g f (lengths_need g.d) (length out ∷ length keys ∷ length rows ∷ length spare ∷ length counts ∷ []) l in
       let e = ends-room g f in
@@ -151,9 +148,9 @@ module _ (g : Grid) (keys rows spare counts : List ℕ) {keys' rows' spare' coun
       (λ f. let k = told g f (lengths_need g.d) (length out ∷ length keys ∷ length rows ∷ length spare ∷ length counts ∷ []) l in lengths-end g (length out) (omega (arith, k.0, ends-room g f, edges_few g f)))
       a.comes t
 
-  pub map-enough : (south north : ℤ) {out out' : List ℕ} {r : Counted} → maps.GeoJson g south north r out out' keys keys' rows rows' spare spare' counts counts' → Long (map_need g.d (worked g.d (corners_of g))) (length out ∷ length keys ∷ length rows ∷ length spare ∷ length counts ∷ []) → counted_number r ≡ too_short → ⊥
+  pub map-enough : (south north : ℤ) {out out' : List ℕ} {r : Counted} → maps.GeoJson g south north r out out' keys keys' rows rows' spare spare' counts counts' → Long (map_need g.d (worked g.d (corners_of g))) (length out ∷ length keys ∷ length rows ∷ length spare ∷ length counts ∷ []) → r ≡ Err TooShort → ⊥
   map-enough south north {out = out} a l t =
-      never Counted.Refused counted_number (λ n p. refl) [] (check_of g) (grid-never g) (check_of g ≡ Answer.Fine) (λ e. e) (grid_need g) (lengths keys rows spare counts) (maps.GeoEnd g south north (length out))
+      never-says [] (check_of g) (grid-never g) (check_of g ≡ fine) (λ e. e) (grid_need g) (lengths keys rows spare counts) (maps.GeoEnd g south north (length out))
       (λ f. let k = told g f (map_need g.d) (length out ∷ length keys ∷ length rows ∷ length spare ∷ length counts ∷ []) l in roomy_of (grid_need g) _ _ _ _ k.1)
       (λ f.
       let k = told g f (map_need g.d) (length out ∷ length keys ∷ length rows ∷ length spare ∷ length counts ∷ []) l in

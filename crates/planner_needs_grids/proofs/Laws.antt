@@ -1,4 +1,7 @@
 -- The lists as the functions write them down, and the corners of a grid's words. Assumes nothing.
+use Rattle.refusal.specs.declared.Refusal.{Refusal}
+use Rattle.refusal.specs.Says.{Answer, fine}
+use Rattle.std.specs.Prelude.{Err, Ok}
 use mathlib.Core.List.{List, [], ◌∷◌}
 use mathlib.Core.Path.{◌≡◌, sym, ap, ◌∙◌}
 use Prim.Native.Nat.{ℕ, suc, ◌+◌, ◌*◌, ◌/◌, ◌≤◌}
@@ -6,10 +9,6 @@ use native.Mathlib.Nat.{div-le_self, mul-le-mul_right, mul-le-mul_left, le_trans
 use native.Mathlib.Numerals.{add-one}
 use native.Mathlib.Omega.{arith}
 use Rattle.refusal.specs.Limits.{most_cells, most_dimension}
-use Rattle.refusal.specs.declared.Answer.{Answer}
-use Rattle.refusal.specs.declared.Answer.TheVariants as Answer
-use Rattle.refusal.specs.declared.Counted.{Counted}
-use Rattle.refusal.specs.declared.Counted.TheVariants as Counted
 use Rattle.complex.specs.Room.{key_room}
 use Rattle.quotient.specs.declared.Grid.{Grid}
 use Rattle.quotient.specs.Shape.{check_of, counted_after, cell_count}
@@ -39,22 +38,22 @@ pub lengths-made : (d n m : ℕ) → Worked d n m → ◌≡◌ {A = List ℕ} (
 lengths-made d n m w = ap (lengths_need d) w.is
 
 -- ---- the corners of a grid's words
-pub corners-refused : (g : Grid) (a : Answer) (n p : ℕ) → a ≡ check_of g → a ≡ Answer.Refused n p → Counted.Refused n p ≡ corners_said g
+pub corners-refused : (g : Grid) (a : Answer) (why : Refusal) → a ≡ check_of g → a ≡ Err why → Err why ≡ corners_said g
 unfolding corners_said
-corners-refused g a n p e f = ap (λ (x : Answer). counted_after x (Counted.Count (corners_of g))) (sym f ∙ e)
+corners-refused g a why e f = ap (λ (x : Answer). counted_after x (Ok (corners_of g))) (sym f ∙ e)
 
-pub corners-counted : (g : Grid) (a : Answer) (c : ℕ) → a ≡ check_of g → a ≡ Answer.Fine → c ≡ cell_count g → Counted.Count (c * (g.d + 1)) ≡ corners_said g
+pub corners-counted : (g : Grid) (a : Answer) (c : ℕ) → a ≡ check_of g → a ≡ fine → c ≡ cell_count g → Ok (c * (g.d + 1)) ≡ corners_said g
 unfolding corners_said
-corners-counted g a c e f h = ap (λ (x : ℕ). Counted.Count (x * (g.d + 1))) h ∙ ap (λ (x : ℕ). Counted.Count (cell_count g * x)) (add-one g.d) ∙ ap (λ (x : Answer). counted_after x (Counted.Count (corners_of g))) (sym f ∙ e)
+corners-counted g a c e f h = ap (λ (x : ℕ). Ok (x * (g.d + 1))) h ∙ ap (λ (x : ℕ). Ok (cell_count g * x)) (add-one g.d) ∙ ap (λ (x : Answer). counted_after x (Ok (corners_of g))) (sym f ∙ e)
 
-pub corners-low : (g : Grid) → check_of g ≡ Answer.Fine → (c : ℕ) → c ≡ cell_count g → (g.d ≤ most_dimension) × (c ≤ most_cells) × (c * (g.d + 1) ≤ most_cells * suc most_dimension)
+pub corners-low : (g : Grid) → check_of g ≡ fine → (c : ℕ) → c ≡ cell_count g → (g.d ≤ most_dimension) × (c ≤ most_cells) × (c * (g.d + 1) ≤ most_cells * suc most_dimension)
 corners-low g fine c h = (taken-high g fine, omega (arith, taken-cells g fine), le_trans (mul-le-mul_right (g.d + 1) (let x : c ≤ most_cells = omega (arith, taken-cells g fine) in x)) (mul-le-mul_left most_cells (let y : g.d + 1 ≤ suc most_dimension = omega (arith, taken-high g fine) in y)))
 
 -- ---- where the grid is glued honestly
-pub chained_refused : (g : Grid) (a : Answer) (n p : ℕ) → a ≡ shape_of g → a ≡ Answer.Refused n p → Counted.Refused n p ≡ chained_said g
+pub chained_refused : (g : Grid) (a : Answer) (why : Refusal) → a ≡ shape_of g → a ≡ Err why → Err why ≡ chained_said g
 unfolding chained_said
-chained_refused g a n p e f = ap (λ (x : Answer). counted_after x (Counted.Count (corners_of g))) (sym f ∙ e)
+chained_refused g a why e f = ap (λ (x : Answer). counted_after x (Ok (corners_of g))) (sym f ∙ e)
 
-pub chained-counted : (g : Grid) (a : Answer) (c : ℕ) → a ≡ shape_of g → a ≡ Answer.Fine → c ≡ need_of g → Counted.Count c ≡ chained_said g
+pub chained-counted : (g : Grid) (a : Answer) (c : ℕ) → a ≡ shape_of g → a ≡ fine → c ≡ need_of g → Ok c ≡ chained_said g
 unfolding chained_said
-chained-counted g a c e f h = ap Counted.Count h ∙ ap (λ (x : Answer). counted_after x (Counted.Count (corners_of g))) (sym f ∙ e)
+chained-counted g a c e f h = ap Ok h ∙ ap (λ (x : Answer). counted_after x (Ok (corners_of g))) (sym f ∙ e)

@@ -1,7 +1,7 @@
 -- How long the lists of a call on a grid must be, in the order of its parameters: result lists at most, and then what the call's own definition needs of the working lists. Assumes nothing.
+use Rattle.refusal.specs.Says.{Counted}
+use Rattle.std.specs.Prelude.{Ok}
 use Rattle.std.specs.Prelude.{List, [], ◌∷◌, ℕ, suc, ◌+◌, ◌*◌, ◌/◌}
-use Rattle.refusal.specs.declared.Counted.{Counted}
-use Rattle.refusal.specs.declared.Counted.TheVariants as Counted
 use Rattle.complex.specs.Room.{need_of}
 use Rattle.quotient.specs.declared.Grid.{Grid}
 use Rattle.quotient.specs.Shape.{check_of, counted_after}
@@ -32,8 +32,8 @@ classes_need d n = n ∷ n ∷ []
 
 -- how many corners the words of a grid have, or its refusal
 unfoldable pub corners_said : Grid → Counted
-corners_said g = counted_after (check_of g) (Counted.Count (corners_of g))
+corners_said g = counted_after (check_of g) (Ok (corners_of g))
 
 -- the same where the grid is glued honestly
 unfoldable pub chained_said : Grid → Counted
-chained_said g = counted_after (shape_of g) (Counted.Count (corners_of g))
+chained_said g = counted_after (shape_of g) (Ok (corners_of g))

@@ -11,30 +11,24 @@ ghost use Rattle.planner_needs_grids.specs.Needs.{words_need, triangulated_need,
 use needs::{corners, key_room};
 use planner_passing::{given, said};
 use quotient::Grid;
-use refusal::{Answer, Counted};
+use refusal::Refusal;
 
 // How many corners the words of a grid have, or its refusal.
-fn corners_of(grid: Grid) -> Counted
+fn corners_of(grid: Grid) -> Result<u32, Refusal>
     ensures { result ≡ corners_said grid }
 {
-    let checked = grid.check();
-    if let Answer::Refused(number, place) = checked {
-        return Counted::Refused(number, place);
-    }
+    grid.check()?;
     let n = grid_words::cells(grid) * (grid.d as usize + 1);
-    Counted::Count(n as u32)
+    Ok(n as u32)
 }
 
 // The same where the grid is glued honestly: 6 is asked of other classes, and later.
-fn chained_corners_of(grid: Grid) -> Counted
+fn chained_corners_of(grid: Grid) -> Result<u32, Refusal>
     ensures { result ≡ chained_said grid }
 {
-    let checked = grid_chained::check::check(grid);
-    if let Answer::Refused(number, place) = checked {
-        return Counted::Refused(number, place);
-    }
+    grid_chained::check::check(grid)?;
     let n = grid_chained::check::need(grid);
-    Counted::Count(n as u32)
+    Ok(n as u32)
 }
 
 // How many corners the words of a grid have: d + 1 for each of its cells. Refused: 1, 9, 8, 3, 6.

@@ -1,4 +1,8 @@
 -- With lists of the lengths that are told, a refinement never says 12. Assumes nothing.
+use Rattle.refusal.specs.declared.Refusal.TheVariants.{BadDimension, BadRefinement, TooManyCells, TooShort}
+use Rattle.refusal.specs.Says.{Answer, Counted, fine}
+use Rattle.refusal.specs.declared.Refusal.{Refusal}
+use Rattle.std.specs.Prelude.{Err, Ok, Result}
 use mathlib.Core.Bool.{Bool, true, false, cond, false≢true}
 use mathlib.Core.List.{List, [], ◌∷◌}
 use mathlib.Core.Path.{◌≡◌, refl, sym, ap, ◌∙◌}
@@ -10,14 +14,9 @@ use lib.IntN.{ℤ}
 use lib.Ieee.{Float}
 use lib.ListN.{length}
 use borrow.Author.Tests.{le-ltb, ltb-false}
-use Rattle.refusal.specs.declared.Answer.{Answer}
-use Rattle.refusal.specs.declared.Answer.TheVariants as Answer
-use Rattle.refusal.specs.declared.Counted.{Counted}
-use Rattle.refusal.specs.declared.Counted.TheVariants as Counted
 use Rattle.refusal.specs.Limits.{most_dimension, most_cells, most_refinement}
 use Rattle.refusal.specs.Refuse.{refuse}
-use Rattle.refusal.specs.Table.{bad_dimension, too_many_cells, bad_refinement, too_short}
-use Rattle.refusal.proofs.Chain.{refused-number}
+use Rattle.refusal.proofs.Chain.{refused-same}
 use Rattle.complex.specs.Check.{answer_of, Passed}
 use Rattle.complex.specs.Cells.{cells_of}
 use Rattle.complex.proofs.Fine.{fine-passed}
@@ -25,7 +24,6 @@ use Rattle.ordering_words.specs.Order.{by_cell}
 use Rattle.refine_lattice.specs.Pattern.{pattern_of}
 use Rattle.refine_pattern.specs.Promise as pattern
 use Rattle.refine_results.specs.declared.Refinement.{Refinement}
-use Rattle.refine_results.specs.declared.Refinement.TheVariants as Refinement
 use Rattle.refine_results.specs.Refined.{coarse, order_words}
 use Rattle.refine_results.specs.Results as results
 use Rattle.refine.specs.declared.Space.{Space}
@@ -33,11 +31,10 @@ use Rattle.refine.specs.Space as space
 use Rattle.refine.specs.Promise as refining
 use Rattle.refine.proofs.Needed.{children-fit}
 use Rattle.needs.specs.Needs.{worked}
-use Rattle.needs.specs.Enough.{Long, counted_number}
-use Rattle.needs.proofs.Enough.{fine-never, check-never, call-never, told}
+use Rattle.needs.specs.Enough.{Long}
+use Rattle.needs.proofs.Enough.{fine-never, check-never, call-never-says, told}
 use Rattle.skeleton.proofs.Sizes.{cells-most}
 use Rattle.planner_needs_refinement.specs.Needs.{ten, refine_need, corners_need}
-use Rattle.planner_needs_refinement.specs.Enough.{refinement_number}
 use Rattle.planner_needs_refinement.proofs.Sizes.{holds}
 
 -- ---- the working lists
@@ -57,16 +54,16 @@ ten-enough s a b c e f g h i j k l =
     }
 
 -- ---- how a refinement ends
-finish-end : (d R n : ℕ) (cs ks : List (List ℕ)) (given : results.Lengths) → (results.Refines d R n ks → results.Holds given (results.results_of d R n cs ks)) → (r : Refinement) (h : results.Results) → results.Finishes d R n cs ks given r h → refinement_number r ≡ too_short → ⊥
-finish-end d R n cs ks given fits r h (results.outside x) t = omega (arith, t)
-finish-end d R n cs ks given fits r h (results.many_cells i m) t = omega (arith, t)
-finish-end d R n cs ks given fits r h (results.many_vertices i m v) t = omega (arith, t)
+finish-end : (d R n : ℕ) (cs ks : List (List ℕ)) (given : results.Lengths) → (results.Refines d R n ks → results.Holds given (results.results_of d R n cs ks)) → (r : Result Refinement Refusal) (h : results.Results) → results.Finishes d R n cs ks given r h → r ≡ Err TooShort → ⊥
+finish-end d R n cs ks given fits r h (results.outside x) t = cc
+finish-end d R n cs ks given fits r h (results.many_cells i m) t = cc
+finish-end d R n cs ks given fits r h (results.many_vertices i m v) t = cc
 finish-end d R n cs ks given fits r h (results.short f less) t = absurd (less (fits f))
-finish-end d R n cs ks given fits r h (results.made f e) t = omega (arith, t)
+finish-end d R n cs ks given fits r h (results.made f e) t = cc
 
-refine-end : (d R : ℕ) (ws : List ℕ) (Ordered : Type 0) (ks : List (List ℕ)) (given : results.Lengths) → (results.Refines d R (coarse ws) ks → results.Holds given (results.results_of d R (coarse ws) (cells_of d ws) ks)) → (r : Refinement) (h : results.Results) → refining.Ends d R ws Ordered ks given r h → refinement_number r ≡ too_short → ⊥
-refine-end d R ws Ordered ks given fits r h (refining.crowded x) t = omega (arith, t)
-refine-end d R ws Ordered ks given fits r h (refining.unordered free non) t = omega (arith, t)
+refine-end : (d R : ℕ) (ws : List ℕ) (Ordered : Type 0) (ks : List (List ℕ)) (given : results.Lengths) → (results.Refines d R (coarse ws) ks → results.Holds given (results.results_of d R (coarse ws) (cells_of d ws) ks)) → (r : Result Refinement Refusal) (h : results.Results) → refining.Ends d R ws Ordered ks given r h → r ≡ Err TooShort → ⊥
+refine-end d R ws Ordered ks given fits r h (refining.crowded x) t = cc
+refine-end d R ws Ordered ks given fits r h (refining.unordered free non) t = cc
 refine-end d R ws Ordered ks given fits r h (refining.finished free o f) t = finish-end d R (coarse ws) (cells_of d ws) ks given fits r h f t
 
 -- ---- the calls: along any words that are no more than the cells
@@ -81,10 +78,10 @@ module _ (d : ℕ) (ws : List ℕ) (R : ℕ) (Ordered : Type 0) (ks : List (List
       (results.lengths_of out_cells out_words parents jacobians wholes vertices weights shares)
       k.0 k.1.0 k.1.1.0 k.1.1.1.0 k.1.1.1.1.0 k.1.1.1.1.1.0 k.1.1.1.1.1.1.0 k.1.1.1.1.1.1.1.0
 
-  pub refining-enough : {out-cells' out-words' parents' : List ℕ} {jacobians' : List Float} {wholes' : List ℤ} {vertices' weights' : List ℕ} {shares' : List Float} {cells' along' pattern' keys' rows' spare' counts' sorted' firsts' buckets' : List ℕ} {r : Refinement} → refining.Refining d ws R Ordered ks r out_cells out-cells' out_words out-words' parents parents' jacobians jacobians' wholes wholes' vertices vertices' weights weights' shares shares' cells cells' along along' pattern pattern' keys keys' rows rows' spare spare' counts counts' sorted sorted' firsts firsts' buckets buckets'
-      → Long (refine_need d (worked d (length ws)) R) have → refinement_number r ≡ too_short → ⊥
+  pub refining-enough : {out-cells' out-words' parents' : List ℕ} {jacobians' : List Float} {wholes' : List ℤ} {vertices' weights' : List ℕ} {shares' : List Float} {cells' along' pattern' keys' rows' spare' counts' sorted' firsts' buckets' : List ℕ} {r : Result Refinement Refusal} → refining.Refining d ws R Ordered ks r out_cells out-cells' out_words out-words' parents parents' jacobians jacobians' wholes wholes' vertices vertices' weights weights' shares shares' cells cells' along along' pattern pattern' keys keys' rows rows' spare spare' counts counts' sorted sorted' firsts firsts' buckets buckets'
+      → Long (refine_need d (worked d (length ws)) R) have → r ≡ Err TooShort → ⊥
   refining-enough a l t =
-      call-never Refinement.Refused refinement_number (λ n p. refl) results.nothing space.unused (answer_of d ws) (check-never d ws) (Passed d ws) (fine-passed d ws) (space.space_of d (length ws) R) (space.Enough (space.space_of d (length ws) R) (space.lent cells along pattern keys rows spare counts sorted firsts buckets)) (refining.Ends d R ws Ordered ks (results.lengths_of out_cells out_words parents jacobians wholes vertices weights shares))
+      call-never-says results.nothing space.unused (answer_of d ws) (check-never d ws) (Passed d ws) (fine-passed d ws) (space.space_of d (length ws) R) (space.Enough (space.space_of d (length ws) R) (space.lent cells along pattern keys rows spare counts sorted firsts buckets)) (refining.Ends d R ws Ordered ks (results.lengths_of out_cells out_words parents jacobians wholes vertices weights shares))
       (λ p. let k = told d ws (λ (n : ℕ). refine_need d n R) have l p in ten-enough (space.space_of d (length ws) R) _ _ _ _ _ _ _ _ _ _ k.1.1.1.1.1.1.1.1)
       (λ p. let k = told d ws (λ (n : ℕ). refine_need d n R) have l p in refine-end d R ws Ordered ks (results.lengths_of out_cells out_words parents jacobians wholes vertices weights shares) (fits p k))
       a.comes t
@@ -100,9 +97,9 @@ pub refine-with-many : (d : ℕ) (ws order : List ℕ) → length (order_words d
 refine-with-many d ws order = by-many _ (cells_of d ws)
 
 -- ---- the pattern of one cell
-passes-with : (t : Bool) (number place : ℕ) (rest : Answer) → (number ≡ too_short → ⊥) → (t ≡ false → (p : ℕ) → rest ≡ Answer.Refused too_short p → ⊥) → (p : ℕ) → refuse t number place rest ≡ Answer.Refused too_short p → ⊥
-passes-with true number place rest other never p e = other (refused-number number place too_short p e)
-passes-with false number place rest other never p e = never refl p e
+passes-with : (t : Bool) (why : Refusal) (rest : Answer) → (why ≡ TooShort → ⊥) → (t ≡ false → rest ≡ Err TooShort → ⊥) → refuse t why rest ≡ Err TooShort → ⊥
+passes-with true why rest other never e = other (refused-same why TooShort e)
+passes-with false why rest other never e = never refl e
 
 inside_of : (R : ℕ) → pattern.outside R ≡ false → (1 ≤ R) × (R ≤ most_refinement)
 inside_of zero e = absurd (false≢true (sym e))
@@ -116,20 +113,20 @@ room_of_lem d R len h a b c l =
     let r : R ^ d ≤ space.children_room d 1 R = omega (arith, one-mul (R ^ d)) in
     omega (arith, l.0, e, mul_assoc (R ^ d) (suc d) (suc d), mul-le-mul_right (suc d) (mul-le-mul_right (suc d) r))
 
-pattern-never : (d R len : ℕ) → Long (corners_need d R) (len ∷ []) → (p : ℕ) → pattern.answer_of d R len ≡ Answer.Refused too_short p → ⊥
+pattern-never : (d R len : ℕ) → Long (corners_need d R) (len ∷ []) → pattern.answer_of d R len ≡ Err TooShort → ⊥
 pattern-never d R len l =
-    passes-with (ltb most_dimension d) bad_dimension 0 _ (λ (e : bad_dimension ≡ too_short). omega (arith, e)) (λ low.
-    passes-with (pattern.outside R) bad_refinement 0 _ (λ (e : bad_refinement ≡ too_short). omega (arith, e)) (λ inside.
-    passes-with (ltb most_cells (R ^ d)) too_many_cells 0 _ (λ (e : too_many_cells ≡ too_short). omega (arith, e)) (λ few.
+    passes-with (ltb most_dimension d) BadDimension _ (λ (e : BadDimension ≡ TooShort). cc) (λ low.
+    passes-with (pattern.outside R) BadRefinement _ (λ (e : BadRefinement ≡ TooShort). cc) (λ inside.
+    passes-with (ltb most_cells (R ^ d)) TooManyCells _ (λ (e : TooManyCells ≡ TooShort). cc) (λ few.
     fits-never (ltb len (R ^ d * (suc d * suc d))) (le-ltb len (R ^ d * (suc d * suc d)) (room_of_lem d R len (ltb-false most_dimension d low) (inside_of R inside).0 (inside_of R inside).1 (ltb-false most_cells (R ^ d) few) l)))))
   where
-    fits-never : (t : Bool) → t ≡ false → (p : ℕ) → refuse t too_short 0 Answer.Fine ≡ Answer.Refused too_short p → ⊥
-    fits-never true e p f = false≢true (sym e)
-    fits-never false e p f = fine-never p f
+    fits-never : (t : Bool) → t ≡ false → refuse t TooShort fine ≡ Err TooShort → ⊥
+    fits-never true e f = false≢true (sym e)
+    fits-never false e f = fine-never f
 
-said-never : (a : Answer) (rows : List (List ℕ)) → ((p : ℕ) → a ≡ Answer.Refused too_short p → ⊥) → counted_number (pattern.said a rows) ≡ too_short → ⊥
-said-never Answer.Fine rows over t = omega (arith, t)
-said-never (Answer.Refused n p) rows over t = over p (ap (λ (z : ℕ). Answer.Refused z p) t)
+said-never : (a : Answer) (rows : List (List ℕ)) → (a ≡ Err TooShort → ⊥) → pattern.said a rows ≡ Err TooShort → ⊥
+said-never (Ok _) rows over t = cc
+said-never (Err why) rows over t = over cc
 
-pub corners-enough : (d R : ℕ) {r : Counted} {to to' : List ℕ} → pattern.Corners d R r to to' → Long (corners_need d R) (length to ∷ []) → counted_number r ≡ too_short → ⊥
-corners-enough d R {to = to} a l t = said-never (pattern.answer_of d R (length to)) (pattern_of d R) (pattern-never d R (length to) l) (sym (ap counted_number a.says) ∙ t)
+pub corners-enough : (d R : ℕ) {r : Counted} {to to' : List ℕ} → pattern.Corners d R r to to' → Long (corners_need d R) (length to ∷ []) → r ≡ Err TooShort → ⊥
+corners-enough d R {to = to} a l t = said-never (pattern.answer_of d R (length to)) (pattern_of d R) (pattern-never d R (length to) l) (sym a.says ∙ t)

@@ -1,3 +1,2 @@
 pub mod Needs
-pub mod Enough
 pub mod Work

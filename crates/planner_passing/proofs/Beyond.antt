@@ -1,4 +1,7 @@
 -- A gluing's number from 768 on is refused with 9, as a set is that names an axis outside the grid. Assumes nothing.
+use Rattle.refusal.specs.declared.Refusal.TheVariants.{BadReflection}
+use Rattle.refusal.specs.Says.{Answer}
+use Rattle.std.specs.Prelude.{Err}
 use mathlib.Core.Path.{◌≡◌, sym, ap, ◌∙◌}
 use mathlib.Core.Bool.{true, false≢true}
 use mathlib.Core.Logic.{⊎_elim}
@@ -7,9 +10,6 @@ use Prim.Native.Nat.{ℕ, ◌+◌, ◌*◌, ◌≤◌, ◌<◌}
 use native.Mathlib.Omega.{arith}
 use lib.Ieee.{Float}
 use borrow.Author.Tests.{lt-ltb, le-ltb}
-use Rattle.refusal.specs.declared.Answer.{Answer}
-use Rattle.refusal.specs.declared.Answer.TheVariants.{Refused}
-use Rattle.refusal.specs.Table.{bad_reflection_number}
 use Rattle.refusal.specs.Limits.{most_dimension}
 use Rattle.lists.proofs.Tables.{get_or-tab}
 use Rattle.lists.proofs.Words.{first-before}
@@ -25,7 +25,7 @@ use Rattle.planner_passing.proofs.Laws.{glue-past}
 
 -- the answer is 9, at axis k or one before it
 abbrev pub NineBy : ℕ → Answer → Type 0
-NineBy k a = (place : ℕ) × (place ≤ k) × (a ≡ Refused bad_reflection_number place)
+NineBy k a = (place : ℕ) × (place ≤ k) × (a ≡ Err (BadReflection place))
 
 -- ---- a grid one of whose axes reflects itself or an axis outside
 

@@ -6,7 +6,7 @@ use mathlib.Core.Bool.{Bool, false, cond}
 use mathlib.Core.List.{List, [], ◌∷◌}
 use native.Mathlib.Omega.{arith}
 use lib.Dec.{ltb}
-use lib.ListN.{length, get_or, set, get_or-eq_default}
+use lib.ListN.{length, get_or, get_or-eq_default}
 use borrow.Author.Tests.{lt-ltb, le-ltb}
 use lib.IntN.{pos}
 use lib.Ieee.{Float, fin}
@@ -15,21 +15,6 @@ use Rattle.quotient.specs.declared.Glue.{Glue}
 use Rattle.quotient.specs.declared.Glue.TheVariants.{Open, Periodic, Twisted}
 use Rattle.quotient.specs.declared.Axis.{Axis}
 use Rattle.quotient.specs.declared.Grid.{Grid}
-use Rattle.quotient.specs.declared.Made.{Made}
-use Rattle.quotient.specs.declared.Made.TheVariants.{Taken, Refused}
-use Rattle.quotient.specs.declared.Crossing.{Crossing}
-use Rattle.quotient.specs.declared.Reduced.{Reduced}
-use Rattle.quotient.specs.declared.Reduced.TheVariants as Reduced
-use Rattle.grid_lengths.specs.declared.EdgeLength.{EdgeLength}
-use Rattle.grid_lengths.specs.declared.EdgeLength.TheVariants as EdgeLength
-use Rattle.orientation.specs.declared.Coherence.{Coherence}
-use Rattle.orientation.specs.declared.Coherence.TheVariants as Coherence
-use Rattle.refusal.specs.Table.{no_signs}
-use Rattle.refusal.specs.declared.Answer.{Answer}
-use Rattle.refusal.specs.declared.Answer.TheVariants as Answer
-use Rattle.refine_results.specs.declared.Refinement.{Refinement}
-use Rattle.refine_results.specs.declared.Refinement.TheVariants as Refinement
-use Rattle.planner_passing.specs.Said.{refused_code, coherence_code, coherence_looks, reduced_code, reduced_sets, made_code, made_axes, length_code, length_squares, refined_code, refined_vertices, answer_code, answer_list}
 use Rattle.planner_passing.specs.Given.{every_axis, glue_of, axis_given, sides_given, grid_given, entry, side_given, glues_given, glue_code, axes_of}
 
 -- a list's element does not turn on what stands past its end
@@ -108,71 +93,3 @@ pub axes-made : (g : Grid) {a b c : ℕ} → a ≡ glue_code g.first.glue → b 
     → g.first.count ∷ a ∷ g.second.count ∷ b ∷ g.third.count ∷ c ∷ [] ≡ axes_of g
 unfolding axes_of
 axes-made g e f h = rw (e, f, h)
-
-pub crossed-refused : (s : Reduced) {n p r : ℕ} (sets : List ℕ) → s ≡ Reduced.Refused n p → r ≡ refused_code n p → (r ≡ reduced_code s) × (sets ≡ reduced_sets s sets)
-unfolding reduced_sets
-crossed-refused s sets e h = (h ∙ sym (ap reduced_code e), sym (ap (λ (x : Reduced). reduced_sets x sets) e))
-
-pub crossed-at : (s : Reduced) {c : Crossing} (sets : List ℕ) → s ≡ Reduced.At c → (c.vertex.0 ≡ reduced_code s) × (c.wrapped ∷ c.reversed ∷ [] ≡ reduced_sets s sets)
-unfolding reduced_sets
-crossed-at s sets e = (sym (ap reduced_code e), sym (ap (λ (x : Reduced). reduced_sets x sets) e))
-
-pub made-refused : (s : Made) {n p r : ℕ} (axes : List ℕ) → s ≡ Refused n p → r ≡ refused_code n p → (r ≡ made_code s) × (axes ≡ made_axes s axes)
-unfolding made_code made_axes
-made-refused s axes e h = (h ∙ sym (ap made_code e), sym (ap (λ (x : Made). made_axes x axes) e))
-
-pub made-taken : (s : Made) {g : Grid} (axes : List ℕ) {after : List ℕ} → s ≡ Taken g → after ≡ axes_of g → (0 ≡ made_code s) × (after ≡ made_axes s axes)
-unfolding made_code made_axes
-made-taken s axes e h = (sym (ap made_code e), h ∙ sym (ap (λ (x : Made). made_axes x axes) e))
-
-pub length-refused : (s : EdgeLength) {n p r : ℕ} (squares : List Float) → s ≡ EdgeLength.Refused n p → r ≡ refused_code n p → (r ≡ length_code s) × (squares ≡ length_squares s squares)
-unfolding length_code length_squares
-length-refused s squares e h = (h ∙ sym (ap length_code e), sym (ap (λ (x : EdgeLength). length_squares x squares) e))
-
-pub length_none : (s : EdgeLength) (squares : List Float) → s ≡ EdgeLength.NoEdge → (◌≡◌ {A = ℕ} 0 (length_code s)) × (squares ≡ length_squares s squares)
-unfolding length_code length_squares
-length_none s squares e = (sym (ap length_code e), sym (ap (λ (x : EdgeLength). length_squares x squares) e))
-
-pub length-one : (s : EdgeLength) {x : Float} (squares : List Float) → s ≡ EdgeLength.Length x → (◌≡◌ {A = ℕ} 1 (length_code s)) × (set squares 0 x ≡ length_squares s squares)
-unfolding length_code length_squares
-length-one s squares e = (sym (ap length_code e), sym (ap (λ (t : EdgeLength). length_squares t squares) e))
-
-pub length_two : (s : EdgeLength) {x y : Float} (squares : List Float) → s ≡ EdgeLength.Clash x y
-    → (◌≡◌ {A = ℕ} 2 (length_code s)) × (set (set squares 0 x) 1 y ≡ length_squares s squares)
-unfolding length_code length_squares
-length_two s squares e = (sym (ap length_code e), sym (ap (λ (t : EdgeLength). length_squares t squares) e))
-
-pub refined-refused : (s : Refinement) {n p r : ℕ} (vertices : List ℕ) → s ≡ Refinement.Refused n p → r ≡ refused_code n p → (r ≡ refined_code s) × (vertices ≡ refined_vertices s vertices)
-unfolding refined_code refined_vertices
-refined-refused s vertices e h = (h ∙ sym (ap refined_code e), sym (ap (λ (x : Refinement). refined_vertices x vertices) e))
-
-pub refined-made : (s : Refinement) {children total : ℕ} (vertices : List ℕ) → s ≡ Refinement.Made children total
-    → (children ≡ refined_code s) × (set vertices 0 total ≡ refined_vertices s vertices)
-unfolding refined_code refined_vertices
-refined-made s vertices e = (sym (ap refined_code e), sym (ap (λ (x : Refinement). refined_vertices x vertices) e))
-
-pub coherence-refused : (s : Coherence) {n p r : ℕ} (list : List ℕ) → s ≡ Coherence.Refused n p → r ≡ refused_code n p → (r ≡ coherence_code s) × (list ≡ coherence_looks s list)
-unfolding coherence_looks
-coherence-refused s list e h = (h ∙ sym (ap coherence_code e), sym (ap (λ (x : Coherence). coherence_looks x list) e))
-
-pub coherence-one-sided : (s : Coherence) {seen r : ℕ} (list : List ℕ) → s ≡ Coherence.OneSided seen → r ≡ refused_code no_signs 0 → (r ≡ coherence_code s) × (set list 0 seen ≡ coherence_looks s list)
-unfolding coherence_looks
-coherence-one-sided s list e h = (h ∙ sym (ap coherence_code e), sym (ap (λ (x : Coherence). coherence_looks x list) e))
-
-pub coherence-signs : (s : Coherence) {cells seen : ℕ} (list : List ℕ) → s ≡ Coherence.Signs cells seen → (cells ≡ coherence_code s) × (set list 0 seen ≡ coherence_looks s list)
-unfolding coherence_looks
-coherence-signs s list e = (sym (ap coherence_code e), sym (ap (λ (x : Coherence). coherence_looks x list) e))
-
--- a refusal beside a value: its code, and the lists stay
-pub code-refused : (a : Answer) (n p x r : ℕ) → a ≡ Answer.Refused n p → r ≡ refused_code n p → r ≡ answer_code a x
-code-refused a n p x r e f = f ∙ ap (λ (b : Answer). answer_code b x) (sym e)
-
-pub list-refused : {A : Type 0} (a : Answer) (n p : ℕ) (list old : List A) → a ≡ Answer.Refused n p → old ≡ answer_list a list old
-list-refused a n p list old e = ap (λ (b : Answer). answer_list b list old) (sym e)
-
--- no refusal: the number, and the lists are handed out
-pub code-fine : (a : Answer) (x : ℕ) → a ≡ Answer.Fine → x ≡ answer_code a x
-code-fine a x e = ap (λ (b : Answer). answer_code b x) (sym e)
-
-pub list-fine : {A : Type 0} (a : Answer) (list old : List A) → a ≡ Answer.Fine → list ≡ answer_list a list old
-list-fine a list old e = ap (λ (b : Answer). answer_list b list old) (sym e)

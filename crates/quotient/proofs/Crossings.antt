@@ -1,4 +1,6 @@
 -- What `reduce` answers: the vertex that it always answered, with two sets that are empty past the last point. And a crossing tells its point: no two points of a grid that is taken have one vertex, the same wrapped axes and the same reversed ones. A wrapped coordinate is n; any other is found from the folded one, turned back where its axis came out reversed. Assumes nothing.
+use Rattle.refusal.specs.Says.{Answer, fine}
+use Rattle.std.specs.Prelude.{Err, Ok}
 use mathlib.Core.Path.{◌≡◌, refl, sym, ap, ◌∙◌}
 use mathlib.Core.Bool.{Bool, true, false, cond, ◌&&◌}
 use mathlib.Core.Logic.{◌⊎◌, inl, inr, ⊎_elim}
@@ -10,9 +12,6 @@ use borrow.Author.Tests.{eqb-true, eqb-false, lt-leb}
 use Rattle.quotient.specs.declared.Crossing.{Crossing}
 use Rattle.quotient.specs.declared.Grid.{Grid}
 use Rattle.quotient.specs.declared.GridVertex.{GridVertex}
-use Rattle.quotient.specs.declared.Reduced.TheVariants.{At}
-use Rattle.refusal.specs.declared.Answer.{Answer}
-use Rattle.refusal.specs.declared.Answer.TheVariants.{Fine, Refused}
 use Rattle.quotient.specs.Fold.{member}
 use Rattle.quotient.specs.Shape.{cells_on, closed_at, check_of}
 use Rattle.quotient.specs.Reduce.{coord_at, wrapped_at, folded_at, no_vertex, past_last, vertex_of, reversed_at, wrapped_set, reversed_set, crossing_of, reduced_after, reduce_of}
@@ -58,7 +57,7 @@ coordinate-back true o n c e hc he w q = closed-back o (eqb c n) n c e hc he ref
 coordinate-back false true n c e hc he w q = omega arith
 coordinate-back false false n c e hc he w q = q
 
-module _ (g : Grid) (fine : check_of g ≡ Fine) (p q : ℕ) (hp : p < points_of g) (hq : q < points_of g) where
+module _ (g : Grid) (taken : check_of g ≡ fine) (p q : ℕ) (hp : p < points_of g) (hq : q < points_of g) where
   -- one vertex and the same sets
   pub sets-one : vertex_of g p ≡ vertex_of g q → wrapped_set g p ≡ wrapped_set g q → reversed_set g p ≡ reversed_set g q → p ≡ q
   sets-one x w r = point-one g p q hp hq each
@@ -67,7 +66,7 @@ module _ (g : Grid) (fine : check_of g ≡ Fine) (p q : ℕ) (hp : p < points_of
       each k l =
           let wraps : wrapped_at g p k ≡ wrapped_at g q k = sym (wrapped-member g p k l) ∙ ap (λ (m : ℕ). member m k) w ∙ wrapped-member g q k l in
           let turns : reversed_at g p k ≡ reversed_at g q k = sym (reversed-member g p k l) ∙ ap (λ (m : ℕ). member m k) r ∙ reversed-member g q k l in
-          let folds : folded_at g p k ≡ folded_at g q k = vertex-one g fine p q hp hq x k l in
+          let folds : folded_at g p k ≡ folded_at g q k = vertex-one g taken p q hp hq x k l in
           let told : cond (closed_at g k) (cond (reversed_at g q k) (cells_on g k - coord_at g p k) (coord_at g p k) % cells_on g k) (cond (reversed_at g q k) (cells_on g k - coord_at g p k) (coord_at g p k)) ≡ folded_at g p k =
           rw (← turns, ← (reversed-turns g p k)) in
           let last : folded_at g q k ≡ cond (closed_at g k) (cond (reversed_at g q k) (cells_on g k - coord_at g q k) (coord_at g q k) % cells_on g k) (cond (reversed_at g q k) (cells_on g k - coord_at g q k) (coord_at g q k)) =
@@ -93,18 +92,18 @@ module _ (g : Grid) (fine : check_of g ≡ Fine) (p q : ℕ) (hp : p < points_of
 pub crossing-vertex : (g : Grid) (v : ℕ) (c : Crossing) → c ≡ crossing_of g v → c.vertex.0 ≡ vertex_of g v
 crossing-vertex g v c e = ap (λ (x : Crossing). x.vertex.0) e
 
-reduced-crossing : (g : Grid) (v : GridVertex) (c : Crossing) → reduce_of g v ≡ At c → c ≡ crossing_of g v.0
+reduced-crossing : (g : Grid) (v : GridVertex) (c : Crossing) → reduce_of g v ≡ Ok c → c ≡ crossing_of g v.0
 unfolding reduce_of
 reduced-crossing g v c e = after (check_of g) e
   where
-    after : (a : Answer) → reduced_after a (At (crossing_of g v.0)) ≡ At c → c ≡ crossing_of g v.0
-    after Fine q = cc
-    after (Refused n p) q = absurd (let z : ◌≡◌ {A = ℕ} 0 1 = cc in let w : ⊥ = omega arith in w)
+    after : (a : Answer) → reduced_after a (Ok (crossing_of g v.0)) ≡ Ok c → c ≡ crossing_of g v.0
+    after (Ok _) q = cc
+    after (Err why) q = cc
 
 -- the numbers are the same as before the sets
-pub reduced-vertex : (g : Grid) (v : GridVertex) (c : Crossing) → reduce_of g v ≡ At c → c.vertex.0 ≡ vertex_of g v.0
+pub reduced-vertex : (g : Grid) (v : GridVertex) (c : Crossing) → reduce_of g v ≡ Ok c → c.vertex.0 ≡ vertex_of g v.0
 reduced-vertex g v c e = ap (λ (x : Crossing). x.vertex.0) (reduced-crossing g v c e)
 
 -- past the last grid point there is no vertex, and both sets are empty
-pub reduced-past : (g : Grid) (v : GridVertex) (c : Crossing) → reduce_of g v ≡ At c → past_last g v.0 ≡ true → c ≡ record { vertex = record { 0 = no_vertex }; wrapped = 0; reversed = 0 }
+pub reduced-past : (g : Grid) (v : GridVertex) (c : Crossing) → reduce_of g v ≡ Ok c → past_last g v.0 ≡ true → c ≡ record { vertex = record { 0 = no_vertex }; wrapped = 0; reversed = 0 }
 reduced-past g v c e h = reduced-crossing g v c e ∙ rw h

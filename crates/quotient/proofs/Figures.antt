@@ -1,4 +1,7 @@
 -- Document 01's figures, computed from the definitions that the contracts cite. Assumes nothing.
+use Rattle.refusal.specs.declared.Refusal.TheVariants.{BadReflection, ShortAxis, TooManyCells, TooManyVertices}
+use Rattle.refusal.specs.Says.{Answer, fine}
+use Rattle.std.specs.Prelude.{Err, Ok}
 use mathlib.Core.Path.{◌≡◌, refl}
 use mathlib.Core.List.{List, [], ◌∷◌, map}
 use Prim.Native.Nat.{ℕ}
@@ -11,9 +14,6 @@ use Rattle.quotient.specs.declared.Glue.TheVariants.{Open, Periodic, Twisted}
 use Rattle.quotient.specs.declared.Axis.{Axis}
 use Rattle.quotient.specs.declared.Grid.{Grid}
 use Rattle.quotient.specs.declared.Crossing.{Crossing}
-use Rattle.refusal.specs.declared.Answer.{Answer}
-use Rattle.refusal.specs.declared.Answer.TheVariants.{Fine, Refused}
-use Rattle.quotient.specs.declared.Parity.TheVariants as Parity
 use Rattle.quotient.specs.Fold.{product, some, count, set_below}
 use Rattle.quotient.specs.Shape.{axis_of, bad_set, check_of, odd_set, parity_of}
 use Rattle.quotient.specs.Reduce.{rest_at, reflected_by, number_to, vertex_of, wrapped_set, reversed_set, crossing_of}
@@ -70,7 +70,7 @@ pub tangled-seam : map (crossing_of (flat 2 (axis 3 (Twisted 2)) (axis 3 (Twiste
 unfolding axis_of product rest_at reflected_by number_to count set_below wrapped_set reversed_set
 tangled-seam = refl
 
-pub band-odd : parity_of (flat 2 (axis 3 (Twisted 2)) (axis 1 Open)) ≡ Parity.Odd
+pub band-odd : parity_of (flat 2 (axis 3 (Twisted 2)) (axis 1 Open)) ≡ Ok false
 unfolding parity_of check_of first_where found_at some count bad_set odd_set axis_of product
 band-odd = refl
 
@@ -79,6 +79,6 @@ abbrev line : ℕ → Glue → Answer
 line n g = check_of (flat 1 (axis n g) (axis 0 Open))
 
 pub limits : (line 2 Periodic ∷ line 3 Periodic ∷ line 0 Open ∷ line 1 Open ∷ line 4095 Open ∷ line 4096 Open ∷ line 4097 Open ∷ line 4 (Twisted 1) ∷ line 4 (Twisted 2) ∷ [])
-    ≡ Refused 8 0 ∷ Fine ∷ Refused 8 0 ∷ Fine ∷ Fine ∷ Refused 6 0 ∷ Refused 3 0 ∷ Refused 9 0 ∷ Refused 9 0 ∷ []
+    ≡ Err (ShortAxis 0) ∷ fine ∷ Err (ShortAxis 0) ∷ fine ∷ fine ∷ Err TooManyVertices ∷ Err TooManyCells ∷ Err (BadReflection 0) ∷ Err (BadReflection 0) ∷ []
 unfolding check_of first_where found_at some bad_set axis_of product
 limits = refl

@@ -1,4 +1,5 @@
 -- A point across the seam: which axes come out reversed decides which coordinates are turned, so the sets decide the vertex. Assumes nothing.
+use Rattle.refusal.specs.Says.{fine}
 use mathlib.Core.Path.{◌≡◌, refl, sym, ap, ap₂, subst, ◌∙◌}
 use mathlib.Core.Bool.{Bool, true, false, cond, ◌&&◌, ◌||◌}
 use mathlib.Core.Logic.{◌⊎◌, inl, inr}
@@ -16,7 +17,6 @@ use borrow.Author.Tests.{le-leb}
 use Rattle.quotient.specs.declared.Axis.{Axis}
 use Rattle.quotient.specs.declared.Grid.{Grid}
 use Rattle.quotient.specs.declared.Spread.{Spread}
-use Rattle.refusal.specs.declared.Answer.TheVariants.{Fine}
 use Rattle.refusal.specs.Limits.{most_dimension}
 use Rattle.quotient.specs.Fold.{product, member, some, count, set_below, odd_count}
 use Rattle.quotient.specs.Shape.{axis_of, mask_of, cells_on, mask_at, glued_on, bad_member, bad_set, reflects_badly, check_of}
@@ -88,7 +88,7 @@ joined-member g v (suc a) k =
     ∙ ap₂ differs (joined-member g v a k) (member-only (wrapped_at g v a) (mask_at g a) k)
     ∙ sym (odd-more (λ b. flips_at g v b k) a)
 
-module _ (g : Grid) (fine : check_of g ≡ Fine) where
+module _ (g : Grid) (taken : check_of g ≡ fine) where
   -- no axis reflects one outside the grid
   and-off : (a b : Bool) → a && b ≡ false → b ≡ true → a ≡ false
   and-off true b e t = sym t ∙ e
@@ -99,7 +99,7 @@ module _ (g : Grid) (fine : check_of g ≡ Fine) where
   or_right false b t = t
 
   good-set : (a : ℕ) → a < g.d → bad_set g.d a (mask_at g a) ≡ false
-  good-set a l = first-full (reflects_badly g) g.d (taken-reflections g fine) a l
+  good-set a l = first-full (reflects_badly g) g.d (taken-reflections g taken) a l
 
   false-some : (p : ℕ → Bool) (n k : ℕ) → some p n ≡ false → k < n → p k ≡ false
   false-some p n k e l = by-test (p k) refl
@@ -125,7 +125,7 @@ module _ (g : Grid) (fine : check_of g ≡ Fine) where
   pub joined-reversed : (v m : ℕ) → m < 2 ^ 8 → m ≡ joined_to g v g.d → m ≡ reversed_set g v
   unfolding reversed_set
   joined-reversed v m h e =
-      let u : g.d ≤ 8 = le_trans (taken-high g fine) few-axes in
+      let u : g.d ≤ 8 = le_trans (taken-high g taken) few-axes in
       let x : set_below (member m) 8 ≡ set_below (reversed_at g v) 8 = set_same (member m) (reversed_at g v) 8 (λ k l. rw e (joined-member g v g.d k)) in
       let q : (8 - g.d) + g.d ≡ 8 = omega arith in
       let y : set_below (reversed_at g v) 8 ≡ set_below (reversed_at g v) g.d =
@@ -164,8 +164,8 @@ turned-is g m k c t b x hx hb ht = rw (ht, hb, hx)
 pub turned_le : (g : Grid) (m k c : ℕ) → c ≤ cells_on g k → turned_by g m k c ≤ cells_on g k
 turned_le g m k c l = turn-le (member m k) (cells_on g k) c (turned_by g m k c) l refl
 
-pub folded-place : (g : Grid) → check_of g ≡ Fine → (m k c : ℕ) → k < g.d → c ≤ cells_on g k → folded_by g m k c < glued_on g k
-folded-place g fine m k c l h = within-place g fine k (turned_by g m k c) l (turned_le g m k c h)
+pub folded-place : (g : Grid) → check_of g ≡ fine → (m k c : ℕ) → k < g.d → c ≤ cells_on g k → folded_by g m k c < glued_on g k
+folded-place g taken m k c l h = within-place g taken k (turned_by g m k c) l (turned_le g m k c h)
 
 -- one digit more in the number
 pub number_more : (f c : ℕ → ℕ) (k s x y r : ℕ) → s ≡ product f k → x ≡ from_digits f c k → y ≡ c k → r ≡ x + s * y → r ≡ from_digits f c (k + 1)
@@ -202,11 +202,11 @@ pub digit-is : (k : ℕ) → k < 8 → 1 * 2 ^ k % 2 ^ 8 ≡ 2 ^ k
 unfolding one-digit
 digit-is k h = eqb→eq (1 * 2 ^ k % 2 ^ 8) (2 ^ k) (all-at one-digit 8 digits-computed k h)
 
-pub spreading-none : (g : Grid) (v : ℕ) (cs : List ℕ) → check_of g ≡ Fine → length cs ≡ most_dimension → v < 2 ^ 32 → Spreading g v cs v 0 0 0
+pub spreading-none : (g : Grid) (v : ℕ) (cs : List ℕ) → check_of g ≡ fine → length cs ≡ most_dimension → v < 2 ^ 32 → Spreading g v cs v 0 0 0
 unfolding rest_at set_below joined_to
-spreading-none g v cs fine e n = record {
+spreading-none g v cs taken e n = record {
   within = omega arith;
-  high = taken-high g fine;
+  high = taken-high g taken;
   places = e;
   coordinates = λ j l. absurd (not-suc-le-zero l);
   left = refl;
@@ -258,13 +258,13 @@ module _ (g : Grid) (v : ℕ) (cs : List ℕ) (rest wrapped reversed k q : ℕ) 
         at j (inl h) = get_or-set_other cs k j c 0 (λ (e : j ≡ k). let w : ⊥ = omega arith in w) ∙ s.coordinates j h
         at j (inr e) = rw e (get_or-set_same cs k c 0 (subst (λ (n : ℕ). k < n) (sym s.places) (lt_of_lt_of_le l s.high)) ∙ hc)
 
-pub spreading-done : (g : Grid) (v : ℕ) (p : Spread) → check_of g ≡ Fine → Spreading g v p.coordinates p.rest p.wrapped p.reversed g.d → Apart g v p
+pub spreading-done : (g : Grid) (v : ℕ) (p : Spread) → check_of g ≡ fine → Spreading g v p.coordinates p.rest p.wrapped p.reversed g.d → Apart g v p
 unfolding wrapped_set
-spreading-done g v p fine s = record {
+spreading-done g v p taken s = record {
   coordinates = s.coordinates;
   rest = s.left;
   wrapped = s.ends;
-  reversed = joined-reversed g fine v p.reversed s.byte s.turns;
+  reversed = joined-reversed g taken v p.reversed s.byte s.turns;
 }
 
 -- ---- and put together again

@@ -1,4 +1,8 @@
--- What is known of a grid that is taken: `check_of g ≡ Fine`. Assumes nothing.
+-- What is known of a grid that is taken: `check_of g ≡ fine`. Assumes nothing.
+use Rattle.refusal.specs.declared.Refusal.{Refusal}
+use Rattle.refusal.specs.declared.Refusal.TheVariants.{BadDimension, BadReflection, BadSide, ShortAxis, TooManyCells, TooManyVertices}
+use Rattle.refusal.specs.Says.{Answer, fine}
+use Rattle.std.specs.Prelude.{Err, Ok}
 use mathlib.Core.Path.{◌≡◌, refl, sym, subst, ◌∙◌}
 use mathlib.Core.Bool.{Bool, true, false, cond}
 use mathlib.Core.Logic.{⊎_elim}
@@ -8,10 +12,7 @@ use native.Mathlib.Omega.{arith}
 use lib.Dec.{ltb, leb}
 use borrow.Author.Tests.{ltb-false, le-leb, lt-leb}
 use Rattle.quotient.specs.declared.Grid.{Grid}
-use Rattle.refusal.specs.declared.Answer.{Answer}
-use Rattle.refusal.specs.declared.Answer.TheVariants.{Fine, Refused}
 use Rattle.refusal.specs.Refuse.{refuse}
-use Rattle.refusal.specs.Table.{bad_dimension, too_many_cells, too_many_vertices, short_axis_number, bad_reflection_number, bad_side}
 use Rattle.refusal.specs.Limits.{most_dimension, most_cells, most_vertices}
 use Rattle.refusal.proofs.Chain.{refuse-fine}
 use Rattle.grid_sides.specs.Counts.{first_bad}
@@ -19,8 +20,6 @@ use Rattle.quotient.specs.Fold.{product}
 use Rattle.quotient.specs.Shape.{closed_floor, open_floor, falls_short, closed_at, cells_on, glued_on, points_on, bad_reflection, short_axis, cell_count, vertices_of, shape_check, check_of, sides_check_of}
 use Rattle.quotient.specs.declared.GridVertex.{GridVertex}
 use Rattle.quotient.specs.declared.Crossing.{Crossing}
-use Rattle.quotient.specs.declared.Reduced.{Reduced}
-use Rattle.quotient.specs.declared.Reduced.TheVariants as Reduced
 use Rattle.quotient.specs.Reduce.{rest_at, reflected_by, flips_at, folded_at, crossing_of, reduce_of}
 use Rattle.lists.proofs.Words.{first-full}
 use Rattle.quotient.proofs.Laws.{product-mono, product-pos, product-more, place, lt-or-ge}
@@ -33,45 +32,45 @@ reflected-le g v k (suc a) = turn-le (flips_at g v a k) (cells_on g k) (reflecte
 
 -- no test from 9 on passed
 shape-passed : (b3 b4 b5 b6 : Bool) (m n : ℕ)
-    → refuse b3 bad_reflection_number m (refuse b4 short_axis_number n (refuse b5 too_many_cells 0 (refuse b6 too_many_vertices 0 Fine))) ≡ Fine
+    → refuse b3 (BadReflection m) (refuse b4 (ShortAxis n) (refuse b5 TooManyCells (refuse b6 TooManyVertices fine))) ≡ fine
     → (b3 ≡ false) × (b4 ≡ false) × (b5 ≡ false) × (b6 ≡ false)
 shape-passed b3 b4 b5 b6 m n e =
-    let p6 : Answer = refuse b6 too_many_vertices 0 Fine in
-    let p5 : Answer = refuse b5 too_many_cells 0 p6 in
-    let p4 : Answer = refuse b4 short_axis_number n p5 in
-    let e3 = refuse-fine b3 bad_reflection_number m p4 e in
-    let e4 = refuse-fine b4 short_axis_number n p5 e3.1 in
-    let e5 = refuse-fine b5 too_many_cells 0 p6 e4.1 in
-    let e6 = refuse-fine b6 too_many_vertices 0 Fine e5.1 in
+    let p6 : Answer = refuse b6 TooManyVertices fine in
+    let p5 : Answer = refuse b5 TooManyCells p6 in
+    let p4 : Answer = refuse b4 (ShortAxis n) p5 in
+    let e3 = refuse-fine b3 _ p4 e in
+    let e4 = refuse-fine b4 _ p5 e3.1 in
+    let e5 = refuse-fine b5 _ p6 e4.1 in
+    let e6 = refuse-fine b6 _ fine e5.1 in
     (e3.0, e4.0, e5.0, e6.0)
 
 -- a grid that is taken with its sides has sides that fit, and is taken
-module _ (g : Grid) (fine : sides_check_of g ≡ Fine) where
-  side-tests : (ltb g.d 1 ≡ false) × (ltb most_dimension g.d ≡ false) × (ltb (first_bad g.sides g.d) g.d ≡ false) × (shape_check g ≡ Fine)
+module _ (g : Grid) (taken : sides_check_of g ≡ fine) where
+  side-tests : (ltb g.d 1 ≡ false) × (ltb most_dimension g.d ≡ false) × (ltb (first_bad g.sides g.d) g.d ≡ false) × (shape_check g ≡ fine)
   unfolding sides_check_of
   side-tests =
       let b = first_bad g.sides g.d in
-      let p3 : Answer = refuse (ltb b g.d) bad_side b (shape_check g) in
-      let p2 : Answer = refuse (ltb most_dimension g.d) bad_dimension 0 p3 in
-      let e1 = refuse-fine (ltb g.d 1) bad_dimension 0 p2 fine in
-      let e2 = refuse-fine (ltb most_dimension g.d) bad_dimension 0 p3 e1.1 in
-      let e3 = refuse-fine (ltb b g.d) bad_side b (shape_check g) e2.1 in
+      let p3 : Answer = refuse (ltb b g.d) (BadSide b) (shape_check g) in
+      let p2 : Answer = refuse (ltb most_dimension g.d) BadDimension p3 in
+      let e1 = refuse-fine (ltb g.d 1) _ p2 taken in
+      let e2 = refuse-fine (ltb most_dimension g.d) _ p3 e1.1 in
+      let e3 = refuse-fine (ltb b g.d) _ (shape_check g) e2.1 in
       (e1.0, e2.0, e3.0, e3.1)
 
-  pub sides-taken : check_of g ≡ Fine
+  pub sides-taken : check_of g ≡ fine
   unfolding check_of
   sides-taken = let t = side-tests in rw (t.0, t.1) t.3
 
   pub sides-fit : g.d ≤ first_bad g.sides g.d
   sides-fit = ltb-false _ _ side-tests.2
 
-module _ (g : Grid) (fine : check_of g ≡ Fine) where
+module _ (g : Grid) (taken : check_of g ≡ fine) where
   tests : (ltb g.d 1 ≡ false) × (ltb most_dimension g.d ≡ false) × (ltb (bad_reflection g) g.d ≡ false) × (ltb (short_axis g) g.d ≡ false) × (ltb most_cells (cell_count g) ≡ false) × (ltb most_vertices (vertices_of g) ≡ false)
   unfolding check_of
   tests =
-      let p2 : Answer = refuse (ltb most_dimension g.d) bad_dimension 0 (shape_check g) in
-      let e1 = refuse-fine (ltb g.d 1) bad_dimension 0 p2 fine in
-      let e2 = refuse-fine (ltb most_dimension g.d) bad_dimension 0 (shape_check g) e1.1 in
+      let p2 : Answer = refuse (ltb most_dimension g.d) BadDimension (shape_check g) in
+      let e1 = refuse-fine (ltb g.d 1) _ p2 taken in
+      let e2 = refuse-fine (ltb most_dimension g.d) _ (shape_check g) e1.1 in
       let e = shape-passed (ltb (bad_reflection g) g.d) (ltb (short_axis g) g.d) (ltb most_cells (cell_count g)) (ltb most_vertices (vertices_of g)) (bad_reflection g) (short_axis g) e2.1 in
       (e1.0, e2.0, e.0, e.1, e.2, e.3)
 
@@ -136,9 +135,9 @@ module _ (g : Grid) (fine : check_of g ≡ Fine) where
   folded-lt v k h = within-place k (reflected_by g v k g.d) h (reflected-le g v k g.d)
 
 -- a digit more stays within the places, which stay within the vertices
-pub number-room : (g : Grid) → check_of g ≡ Fine → (k s x f p : ℕ) → k < g.d → s ≡ product (glued_on g) k → x < s → f < glued_on g k → p ≡ glued_on g k
+pub number-room : (g : Grid) → check_of g ≡ fine → (k s x f p : ℕ) → k < g.d → s ≡ product (glued_on g) k → x < s → f < glued_on g k → p ≡ glued_on g k
     → (x + s * f < s * p) × (s * p ≤ most_vertices)
-number-room g fine k s x f p h hs hx hf hp = (place x s f p hx (rw hp hf), rw (hs, hp) (room g fine k h))
+number-room g taken k s x f p h hs hx hf hp = (place x s f p hx (rw hp hf), rw (hs, hp) (room g taken k h))
 
 -- ---- past the last point
 pub rest-is : (g : Grid) (v k : ℕ) → rest_at g v k ≡ v / product (points_on g) k
@@ -164,10 +163,10 @@ outside g v k n =
 
 -- ---- the answer
 module _ (g : Grid) (v : GridVertex) where
-  pub reduced-refused : (n p : ℕ) → Refused n p ≡ check_of g → Reduced.Refused n p ≡ reduce_of g v
+  pub reduced-refused : (why : Refusal) → Err why ≡ check_of g → Err why ≡ reduce_of g v
   unfolding reduce_of
-  reduced-refused n p e = rw (← e)
+  reduced-refused why e = rw (← e)
 
-  pub reduced-at : (c : Crossing) → Fine ≡ check_of g → c ≡ crossing_of g v.0 → Reduced.At c ≡ reduce_of g v
+  pub reduced-at : (c : Crossing) → fine ≡ check_of g → c ≡ crossing_of g v.0 → Ok c ≡ reduce_of g v
   unfolding reduce_of
   reduced-at c e q = rw (← e, q)

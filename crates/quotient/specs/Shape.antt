@@ -1,20 +1,16 @@
 -- A grid with glued axes, and when it is refused (document 01, "Numbers that bound the work"). Assumes nothing.
-use Rattle.std.specs.Prelude.{ℕ, ◌+◌, ◌*◌, Bool, true, false, cond, ◌&&◌, ◌||◌, leb, ltb, eqb, List, [], ◌∷◌, get_or}
+use Rattle.refusal.specs.declared.Refusal.TheVariants.{BadDimension, BadReflection, BadSide, ShortAxis, TooManyCells, TooManyVertices}
+use Rattle.quotient.specs.Says.{Parity}
+use Rattle.refusal.specs.Says.{Answer, Counted, fine}
+use Rattle.std.specs.Prelude.{Err, Ok, ℕ, ◌+◌, ◌*◌, Bool, true, false, not, cond, ◌&&◌, ◌||◌, leb, ltb, eqb, List, [], ◌∷◌, get_or}
 use Rattle.lists.specs.Words.{first_where}
 use Rattle.quotient.specs.declared.Glue.{Glue}
 use Rattle.quotient.specs.declared.Glue.TheVariants.{Open, Periodic, Twisted}
 use Rattle.quotient.specs.declared.Axis.{Axis}
 use Rattle.quotient.specs.declared.Grid.{Grid}
-use Rattle.refusal.specs.declared.Answer.{Answer}
-use Rattle.refusal.specs.declared.Answer.TheVariants.{Fine, Refused}
-use Rattle.refusal.specs.declared.Counted.{Counted}
-use Rattle.refusal.specs.declared.Counted.TheVariants as Counted
 use Rattle.refusal.specs.Refuse.{refuse}
-use Rattle.refusal.specs.Table.{bad_dimension, too_many_cells, too_many_vertices, short_axis_number, bad_reflection_number, bad_side}
 use Rattle.refusal.specs.Limits.{most_dimension, most_cells, most_vertices}
 use Rattle.grid_sides.specs.Counts.{first_bad}
-use Rattle.quotient.specs.declared.Parity.{Parity}
-use Rattle.quotient.specs.declared.Parity.TheVariants as Parity
 use Rattle.quotient.specs.Fold.{product, factorial, member, some, odd_count}
 
 -- no axis: what stands past the last
@@ -107,17 +103,17 @@ short_axis g = first_where (falls_short g) g.d
 -- the table's order from 9 on, where so many cells and vertices are taken: 9, 8, 3, 6
 abbrev pub shape_within : ℕ → ℕ → Grid → Answer
 shape_within cells vertices g =
-    refuse (ltb (bad_reflection g) g.d) bad_reflection_number (bad_reflection g)
-    (refuse (ltb (short_axis g) g.d) short_axis_number (short_axis g)
-    (refuse (ltb cells (cell_count g)) too_many_cells 0
-    (refuse (ltb vertices (vertices_of g)) too_many_vertices 0
-    Fine)))
+    refuse (ltb (bad_reflection g) g.d) (BadReflection (bad_reflection g))
+    (refuse (ltb (short_axis g) g.d) (ShortAxis (short_axis g))
+    (refuse (ltb cells (cell_count g)) TooManyCells
+    (refuse (ltb vertices (vertices_of g)) TooManyVertices
+    fine)))
 
 -- the table's order for an entry without sides, where so many dimensions, cells and vertices are taken: 1, 9, 8, 3, 6
 abbrev pub check_within : ℕ → ℕ → ℕ → Grid → Answer
 check_within dimension cells vertices g =
-    refuse (ltb g.d 1) bad_dimension 0
-    (refuse (ltb dimension g.d) bad_dimension 0
+    refuse (ltb g.d 1) BadDimension
+    (refuse (ltb dimension g.d) BadDimension
     (shape_within cells vertices g))
 
 -- both within document 01's limits
@@ -130,20 +126,20 @@ check_of g = check_within most_dimension most_cells most_vertices g
 -- and for one with sides: 1, 10, 9, 8, 3, 6
 unfoldable pub sides_check_of : Grid → Answer
 sides_check_of g =
-    refuse (ltb g.d 1) bad_dimension 0
-    (refuse (ltb most_dimension g.d) bad_dimension 0
-    (refuse (ltb (first_bad g.sides g.d) g.d) bad_side (first_bad g.sides g.d)
+    refuse (ltb g.d 1) BadDimension
+    (refuse (ltb most_dimension g.d) BadDimension
+    (refuse (ltb (first_bad g.sides g.d) g.d) (BadSide (first_bad g.sides g.d))
     (shape_check g)))
 
 -- ---- the number of vertices
 
 -- a refusal stands as it is, and where there is none the answer is x
 abbrev pub counted_after : Answer → Counted → Counted
-counted_after Fine x = x
-counted_after (Refused n p) x = Counted.Refused n p
+counted_after (Ok _) x = x
+counted_after (Err why) x = Err why
 
 unfoldable pub nvertices_of : Grid → Counted
-nvertices_of g = counted_after (check_of g) (Counted.Count (vertices_of g))
+nvertices_of g = counted_after (check_of g) (Ok (vertices_of g))
 
 -- ---- orientation
 
@@ -156,9 +152,9 @@ reflects_odd g i = odd_set (mask_at g i)
 
 -- a refusal stands as it is, and where there is none the answer is x
 abbrev pub parity_after : Answer → Parity → Parity
-parity_after Fine x = x
-parity_after (Refused n p) x = Parity.Refused n p
+parity_after (Ok _) x = x
+parity_after (Err why) x = Err why
 
--- even where each axis below d reflects an even number of axes
+-- whether each axis below d reflects an even number of axes
 unfoldable pub parity_of : Grid → Parity
-parity_of g = parity_after (check_of g) (cond (some (reflects_odd g) g.d) Parity.Odd Parity.Even)
+parity_of g = parity_after (check_of g) (Ok (not (some (reflects_odd g) g.d)))

@@ -1,11 +1,10 @@
 -- What the inner steps of `quotient` hand on: no public promise cites it. Assumes nothing.
-use Rattle.std.specs.Prelude.{◌≡◌, Bool, cond, ◌&&◌, List, ℕ, ◌-◌, ◌%◌, ◌<◌, eqb, get_or}
+use Rattle.refusal.specs.Says.{Counted}
+use Rattle.std.specs.Prelude.{Ok, ◌≡◌, Bool, cond, ◌&&◌, List, ℕ, ◌-◌, ◌%◌, ◌<◌, eqb, get_or}
 use Rattle.quotient.specs.declared.Axis.{Axis}
 use Rattle.quotient.specs.declared.Grid.{Grid}
 use Rattle.quotient.specs.declared.Spread.{Spread}
 use Rattle.refusal.specs.Limits.{many_corners}
-use Rattle.refusal.specs.declared.Counted.{Counted}
-use Rattle.refusal.specs.declared.Counted.TheVariants.{Count}
 use Rattle.quotient.specs.Fold.{member}
 use Rattle.quotient.specs.Shape.{closed_of, cells_on, closed_at, glued_on, shape_within, check_within, counted_after, vertices_of}
 use Rattle.quotient.specs.Reduce.{rest_at, coord_at, wrapped_set, reversed_set}
@@ -15,10 +14,10 @@ use Rattle.quotient.specs.Points.{from_digits}
 
 -- how many vertices, where nothing from 9 on refuses the grid within so many cells and vertices; and where nothing at all does
 abbrev pub shape_count : ℕ → ℕ → Grid → Counted
-shape_count cells vertices g = counted_after (shape_within cells vertices g) (Count (vertices_of g))
+shape_count cells vertices g = counted_after (shape_within cells vertices g) (Ok (vertices_of g))
 
 abbrev pub count_within : ℕ → ℕ → ℕ → Grid → Counted
-count_within dimension cells vertices g = counted_after (check_within dimension cells vertices g) (Count (vertices_of g))
+count_within dimension cells vertices g = counted_after (check_within dimension cells vertices g) (Ok (vertices_of g))
 
 -- limits so small that no product of one and a count passes 64 bits
 abbrev pub FewWithin : ℕ → ℕ → Type 0

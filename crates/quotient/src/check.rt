@@ -4,7 +4,7 @@ ghost use Rattle.quotient.specs.Shape.{reflects_badly, falls_short, cell_count, 
 ghost use Rattle.quotient.specs.Work.{shape_count, count_within, FewWithin};
 
 use crate::{Grid, Sizes, mask};
-use refusal::{Answer, Counted};
+use refusal::Refusal;
 
 // The product, or `cap` where it is larger.
 fn capped(a: usize, b: usize, cap: usize) -> usize
@@ -39,12 +39,10 @@ impl Grid {
         ensures { result ≡ bad_reflection self }
     {
         let d = self.d;
-        let mut i = 0u32;
-        while i < d {
+        for i in 0..d {
             if self.reflects_badly(i) {
                 return i;
             }
-            i += 1;
         }
         d
     }
@@ -54,12 +52,10 @@ impl Grid {
         ensures { result ≡ short_axis self }
     {
         let d = self.d;
-        let mut i = 0u32;
-        while i < d {
+        for i in 0..d {
             if self.falls_short(i) {
                 return i;
             }
-            i += 1;
         }
         d
     }
@@ -69,16 +65,13 @@ impl Grid {
         requires { FewWithin cells vertices }
         ensures { (result.cells ≡ min (cell_count self) (cells + 1)) × (result.vertices ≡ min (vertices_of self) (vertices + 1)) }
     {
-        let d = self.d;
         let mut n = 1usize;
         let mut m = 1usize;
-        let mut i = 0u32;
-        while i < d {
+        for i in 0..self.d {
             let a = self.axis(i);
             let q = capped(n, a.count as usize, cells + 1);
             m = capped(m, self.glued_on(i), vertices + 1);
-            i += 1;
-            n = capped(q, i as usize, cells + 1);
+            n = capped(q, i as usize + 1, cells + 1);
         }
         Sizes {
             cells: n,
@@ -87,46 +80,46 @@ impl Grid {
     }
 
     // How many vertices the grid has after gluing, in a dimension that is taken; 9, 8, 3 and 6 are refused, in this order, 3 and 6 beyond these limits.
-    fn shape(self, cells: usize, vertices: usize) -> Counted
+    fn shape(self, cells: usize, vertices: usize) -> Result<u32, Refusal>
         requires { FewWithin cells vertices }
         ensures { result ≡ shape_count cells vertices self }
     {
         let d = self.d;
         let b = self.bad_reflection();
         if b < d {
-            return Counted::Refused(refusal::BAD_REFLECTION, b);
+            return Err(Refusal::BadReflection(b));
         }
         let s = self.short_axis();
         if s < d {
-            return Counted::Refused(refusal::SHORT_AXIS, s);
+            return Err(Refusal::ShortAxis(s));
         }
         let n = self.sizes(cells, vertices);
         if cells < n.cells {
-            return Counted::Refused(refusal::TOO_MANY_CELLS, 0);
+            return Err(Refusal::TooManyCells);
         }
         if vertices < n.vertices {
-            return Counted::Refused(refusal::TOO_MANY_VERTICES, 0);
+            return Err(Refusal::TooManyVertices);
         }
-        Counted::Count(n.vertices as u32)
+        Ok(n.vertices as u32)
     }
 
     // How many vertices the grid has after gluing; 1, 9, 8, 3 and 6 are refused, in this order, 1, 3 and 6 beyond these limits.
-    fn count_within(self, dimension: u32, cells: usize, vertices: usize) -> Counted
+    fn count_within(self, dimension: u32, cells: usize, vertices: usize) -> Result<u32, Refusal>
         requires { FewWithin cells vertices }
         ensures { result ≡ count_within dimension cells vertices self }
     {
         let d = self.d;
         if d < 1 {
-            return Counted::Refused(refusal::BAD_DIMENSION, 0);
+            return Err(Refusal::BadDimension);
         }
         if dimension < d {
-            return Counted::Refused(refusal::BAD_DIMENSION, 0);
+            return Err(Refusal::BadDimension);
         }
         self.shape(cells, vertices)
     }
 
     // How many vertices the grid has after gluing; 1, 9, 8, 3 and 6 are refused, in this order.
-    pub fn nvertices(self) -> Counted
+    pub fn nvertices(self) -> Result<u32, Refusal>
         ensures { result ≡ nvertices_of self }
     {
         self.count_within(
@@ -137,19 +130,16 @@ impl Grid {
     }
 
     // Whether the grid is taken within limits of a caller's own: 1, 9, 8, 3 and 6, in this order. For the crates above.
-    pub fn check_within(self, dimension: u32, cells: usize, vertices: usize) -> Answer
+    pub fn check_within(self, dimension: u32, cells: usize, vertices: usize) -> Result<(), Refusal>
         requires { FewWithin cells vertices }
         ensures { result ≡ check_within dimension cells vertices self }
     {
-        let c = self.count_within(dimension, cells, vertices);
-        match c {
-            Counted::Refused(n, p) => Answer::Refused(n, p),
-            Counted::Count(_) => Answer::Fine,
-        }
+        self.count_within(dimension, cells, vertices)?;
+        Ok(())
     }
 
     // Whether the grid is taken where its sides are not asked for: 1, 9, 8, 3 and 6, in this order.
-    pub fn check(self) -> Answer
+    pub fn check(self) -> Result<(), Refusal>
         ensures { result ≡ check_of self }
     {
         self.check_within(
@@ -160,25 +150,22 @@ impl Grid {
     }
 
     // Whether the grid is taken with its sides: 1, 10, 9, 8, 3 and 6, in this order.
-    pub fn check_with_sides(self) -> Answer
+    pub fn check_with_sides(self) -> Result<(), Refusal>
         ensures { result ≡ sides_check_of self }
     {
         let d = self.d;
         if d < 1 {
-            return Answer::Refused(refusal::BAD_DIMENSION, 0);
+            return Err(Refusal::BadDimension);
         }
         if refusal::MOST_DIMENSION < d {
-            return Answer::Refused(refusal::BAD_DIMENSION, 0);
+            return Err(Refusal::BadDimension);
         }
         let s = self.sides;
         let b = s.bad_side(d);
         if b < d {
-            return Answer::Refused(refusal::BAD_SIDE, b);
+            return Err(Refusal::BadSide(b));
         }
-        let c = self.shape(refusal::MOST_CELLS, refusal::MOST_VERTICES);
-        match c {
-            Counted::Refused(n, p) => Answer::Refused(n, p),
-            Counted::Count(_) => Answer::Fine,
-        }
+        self.shape(refusal::MOST_CELLS, refusal::MOST_VERTICES)?;
+        Ok(())
     }
 }

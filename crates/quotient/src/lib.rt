@@ -5,7 +5,7 @@
 // turns the axes of its set round on the way: coordinate c becomes n - c. Rings, Moebius bands, tori and Klein bottles are this one construction with
 // different gluings; no call knows them by name except the makers.
 //
-// A grid is plain data that a caller fills in freely, so every call checks it again and answers with document 01's number and place where it is refused.
+// A grid is plain data that a caller fills in freely, so every call checks it again and says document 01's refusal where it is refused.
 // Entries past d are not looked at, and a set counts only on a twisted axis. In the order of the modules:
 //   check       `check` asks 1, 9, 8, 3, 6 and `check_with_sides` 1, 10, 9, 8, 3, 6; `nvertices` counts
 //   reduce      `reduce` leads from a grid point to its vertex, and tells where it crossed the seam
@@ -89,26 +89,4 @@ struct Spread {
     rest: u32,
     wrapped: u8,
     reversed: u8,
-}
-
-// What `reduce` says: a point's crossing. Past the last grid point 4294967295 stands for the vertex, and is none; both sets are empty there.
-#[derive(Clone, Copy)]
-pub enum Reduced {
-    At(Crossing),
-    Refused(u32, u32),
-}
-
-// What `is_orientation_preserving` says: even where every axis reflects an even number of axes.
-#[derive(Clone, Copy)]
-pub enum Parity {
-    Even,
-    Odd,
-    Refused(u32, u32),
-}
-
-// What a maker says: the grid, which every check takes, or its refusal.
-#[derive(Clone, Copy)]
-pub enum Made {
-    Taken(Grid),
-    Refused(u32, u32),
 }

@@ -5,12 +5,13 @@
 // Two wrapped axes that reflect one axis cancel, so the reversed set is the wrapped axes' sets, joined digit by digit where exactly one of two has it: `^`.
 ghost use Rattle.std.specs.Prelude.{◌≡◌, cond, ℕ, ◌-◌, ◌/◌, ◌<◌, ◌≤◌, get_or};
 ghost use Rattle.refusal.specs.Limits.{most_vertices};
+ghost use Rattle.refusal.specs.Says.{fine};
 ghost use Rattle.quotient.specs.Shape.{cells_on, check_of};
 ghost use Rattle.quotient.specs.Reduce.{rest_at, coord_at, crossing_of, reduce_of};
 ghost use Rattle.quotient.specs.Work.{ends_at, folded_by, number_by, Apart};
 
-use crate::{Axis, Crossing, GluedVertex, Grid, GridVertex, Reduced, Spread, mask};
-use refusal::Answer;
+use crate::{Axis, Crossing, GluedVertex, Grid, GridVertex, Spread, mask};
+use refusal::Refusal;
 
 // What stands for a number past the last grid point: no vertex.
 pub const NO_VERTEX: u32 = 4294967295;
@@ -54,10 +55,8 @@ impl Grid {
         ensures { result ≡ rest_at self v k }
     {
         let mut x = v as usize;
-        let mut j = 0u32;
-        while j < k {
-            x = x / self.points_on(j);
-            j += 1;
+        for j in 0..k {
+            x /= self.points_on(j);
         }
         x
     }
@@ -71,16 +70,14 @@ impl Grid {
 
     // Grid point v taken apart, in a grid that is taken.
     fn spread(self, v: u32) -> Spread
-        requires { check_of self ≡ Answer.Fine }
+        requires { check_of self ≡ fine }
         ensures { Apart self v result }
     {
-        let d = self.d;
         let mut coordinates = [0u32; crate::AXES];
         let mut rest = v;
         let mut wrapped = 0u8;
         let mut reversed = 0u8;
-        let mut k = 0u32;
-        while k < d {
+        for k in 0..self.d {
             let a = self.axis(k);
             let g = a.glue;
             let p = a.count + 1;
@@ -91,7 +88,6 @@ impl Grid {
             wrapped += only(ends, 1 << k);
             reversed = reversed ^ only(ends, g.mask());
             rest = q;
-            k += 1;
         }
         Spread {
             coordinates,
@@ -113,25 +109,22 @@ impl Grid {
 
     // The number in the glued shape of the point with these coordinates, those of the mask m turned, in a grid that is taken.
     fn number(self, m: u8, coordinates: [u32; crate::AXES]) -> usize
-        requires { (check_of self ≡ Answer.Fine) × ((k : ℕ) → k < self.d → get_or coordinates k 0 ≤ cells_on self k) }
+        requires { (check_of self ≡ fine) × ((k : ℕ) → k < self.d → get_or coordinates k 0 ≤ cells_on self k) }
         ensures { (result ≡ number_by self m coordinates) × (result < most_vertices) }
     {
-        let d = self.d;
         let mut s = 1usize;
         let mut x = 0usize;
-        let mut k = 0u32;
-        while k < d {
+        for k in 0..self.d {
             let f = self.folded(m, k, coordinates[k as usize]);
-            x = x + s * (f as usize);
-            s = s * self.glued_on(k);
-            k += 1;
+            x += s * (f as usize);
+            s *= self.glued_on(k);
         }
         x
     }
 
     // The crossing of grid point v in a grid that is taken: its vertex with both sets; NO_VERTEX with empty sets past the last point. For the crates above.
     pub fn crossed(self, v: GridVertex) -> Crossing
-        requires { check_of self ≡ Answer.Fine }
+        requires { check_of self ≡ fine }
         ensures { result ≡ crossing_of self v.0 }
     {
         let w = v.0;
@@ -157,13 +150,10 @@ impl Grid {
 
     // The vertex that grid point v becomes, with the axes on which it was wrapped and those that came out reversed; NO_VERTEX with empty sets past the last point.
     // 1, 9, 8, 3 and 6 are refused.
-    pub fn reduce(self, v: GridVertex) -> Reduced
+    pub fn reduce(self, v: GridVertex) -> Result<Crossing, Refusal>
         ensures { result ≡ reduce_of self v }
     {
-        let a = self.check();
-        match a {
-            Answer::Refused(n, p) => Reduced::Refused(n, p),
-            Answer::Fine => Reduced::At(self.crossed(v)),
-        }
+        self.check()?;
+        Ok(self.crossed(v))
     }
 }

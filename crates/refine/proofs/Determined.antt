@@ -1,4 +1,6 @@
 -- The promise of the refinement calls determines what they say and every list: two calls on equal inputs end alike. Assumes nothing.
+use Rattle.refusal.specs.declared.Refusal.{Refusal}
+use Rattle.std.specs.Prelude.{Err, Result}
 use mathlib.Core.List.{List}
 use mathlib.Core.Path.{◌≡◌, refl, sym, ap, ◌∙◌}
 use Prim.Native.Nat.{ℕ}
@@ -9,7 +11,6 @@ use Rattle.refusal.specs.Lent.{zeroed}
 use Rattle.refusal.proofs.Determined.{call-one}
 use Rattle.complex.specs.Check.{answer_of}
 use Rattle.refine_results.specs.declared.Refinement.{Refinement}
-use Rattle.refine_results.specs.declared.Refinement.TheVariants.{Refused}
 use Rattle.refine_results.specs.Results.{Results, nothing, Lengths, lengths_of}
 use Rattle.refine_results.proofs.Determined.{finishes-one, Same, stored_one}
 use Rattle.refine.specs.declared.Space.{Space}
@@ -17,7 +18,7 @@ use Rattle.refine.specs.Space.{space_of, unused, lent, Enough}
 use Rattle.refine.specs.Promise.{Ends, crowded, unordered, finished, Refining}
 
 module _ (d R : ℕ) (ws : List ℕ) (Ordered : Type 0) (ks : List (List ℕ)) (given : Lengths) where
-  ends-one : (r r' : Refinement) (h h' : Results) → Ends d R ws Ordered ks given r h → Ends d R ws Ordered ks given r' h' → (r ≡ r') × (h ≡ h')
+  ends-one : (r r' : Result Refinement Refusal) (h h' : Results) → Ends d R ws Ordered ks given r h → Ends d R ws Ordered ks given r' h' → (r ≡ r') × (h ≡ h')
   ends-one r r' h h' (crowded x) (crowded y) = (refl, refl)
   ends-one r r' h h' (crowded x) (unordered f o) = absurd (f x)
   ends-one r r' h h' (crowded x) (finished f o e) = absurd (f x)
@@ -29,14 +30,14 @@ module _ (d R : ℕ) (ws : List ℕ) (Ordered : Type 0) (ks : List (List ℕ)) (
   ends-one r r' h h' (finished f o e) (finished f' o' e') = finishes-one d R _ _ ks given r r' h h' e e'
 
 -- two exits of one call: what is said, the result lists and the working lists are equal
-module _ (d : ℕ) (ws : List ℕ) (R : ℕ) (Ordered : Type 0) (ks : List (List ℕ)) (out_cells out_words parents : List ℕ) (jacobians : List Float) (wholes : List ℤ) (vertices weights : List ℕ) (shares : List Float) (cells along pattern keys rows spare counts sorted firsts buckets : List ℕ) (out-cells' out-words' parents' : List ℕ) (jacobians' : List Float) (wholes' : List ℤ) (vertices' weights' : List ℕ) (shares' : List Float) (cells' along' pattern' keys' rows' spare' counts' sorted' firsts' buckets' : List ℕ) (out-cells'' out-words'' parents'' : List ℕ) (jacobians'' : List Float) (wholes'' : List ℤ) (vertices'' weights'' : List ℕ) (shares'' : List Float) (cells'' along'' pattern'' keys'' rows'' spare'' counts'' sorted'' firsts'' buckets'' : List ℕ) (r r' : Refinement) where
+module _ (d : ℕ) (ws : List ℕ) (R : ℕ) (Ordered : Type 0) (ks : List (List ℕ)) (out_cells out_words parents : List ℕ) (jacobians : List Float) (wholes : List ℤ) (vertices weights : List ℕ) (shares : List Float) (cells along pattern keys rows spare counts sorted firsts buckets : List ℕ) (out-cells' out-words' parents' : List ℕ) (jacobians' : List Float) (wholes' : List ℤ) (vertices' weights' : List ℕ) (shares' : List Float) (cells' along' pattern' keys' rows' spare' counts' sorted' firsts' buckets' : List ℕ) (out-cells'' out-words'' parents'' : List ℕ) (jacobians'' : List Float) (wholes'' : List ℤ) (vertices'' weights'' : List ℕ) (shares'' : List Float) (cells'' along'' pattern'' keys'' rows'' spare'' counts'' sorted'' firsts'' buckets'' : List ℕ) (r r' : Result Refinement Refusal) where
   pub refining-one : Refining d ws R Ordered ks r out_cells out-cells' out_words out-words' parents parents' jacobians jacobians' wholes wholes' vertices vertices' weights weights' shares shares' cells cells' along along' pattern pattern' keys keys' rows rows' spare spare' counts counts' sorted sorted' firsts firsts' buckets buckets' → Refining d ws R Ordered ks r' out_cells out-cells'' out_words out-words'' parents parents'' jacobians jacobians'' wholes wholes'' vertices vertices'' weights weights'' shares shares'' cells cells'' along along'' pattern pattern'' keys keys'' rows rows'' spare spare'' counts counts'' sorted sorted'' firsts firsts'' buckets buckets'' →
       (r ≡ r') × Same out-cells' out-cells'' out-words' out-words'' parents' parents'' jacobians' jacobians'' wholes' wholes'' vertices' vertices'' weights' weights'' shares' shares'' × ((cells' ≡ cells'') × (along' ≡ along'') × (pattern' ≡ pattern'') × (keys' ≡ keys'') × (rows' ≡ rows'') × (spare' ≡ spare'') × (counts' ≡ counts'') × (sorted' ≡ sorted'') × (firsts' ≡ firsts'') × (buckets' ≡ buckets''))
   refining-one a b =
       let given = lengths_of out_cells out_words parents jacobians wholes vertices weights shares in
       let have = lent cells along pattern keys rows spare counts sorted firsts buckets in
       let need = space_of d (length ws) R in
-      let w = call-one Refused nothing unused (answer_of d ws) need (Enough need have) (Ends d R ws Ordered ks given) (ends-one d R ws Ordered ks given) a.comes b.comes in (
+      let w = call-one Err nothing unused (answer_of d ws) need (Enough need have) (Ends d R ws Ordered ks given) (ends-one d R ws Ordered ks given) a.comes b.comes in (
         w.0,
         stored_one a.handed b.handed w.1 out_cells out-cells' out-cells'' out_words out-words' out-words'' parents parents' parents'' jacobians jacobians' jacobians'' wholes wholes' wholes'' vertices vertices' vertices'' weights weights' weights'' shares shares' shares'' a.stored b.stored,
         (

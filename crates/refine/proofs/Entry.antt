@@ -1,4 +1,8 @@
 -- The ways out of the entry. Assumes nothing.
+use Rattle.refusal.specs.declared.Refusal.{Refusal}
+use Rattle.refusal.specs.declared.Refusal.TheVariants.{TooShort}
+use Rattle.refusal.specs.Says.{fine}
+use Rattle.std.specs.Prelude.{Err, Result}
 use mathlib.Core.List.{List, ◌++◌}
 use mathlib.Core.Path.{◌≡◌, refl, ap, ◌∙◌, subst}
 use Prim.Native.Nat.{ℕ}
@@ -6,14 +10,11 @@ use lib.IntN.{ℤ}
 use lib.Ieee.{Float}
 use lib.ListN.{length, take, drop, replicate}
 use lib.Seq.{length-take-le}
-use Rattle.refusal.specs.declared.Answer.TheVariants as Answer
-use Rattle.refusal.specs.Table.{too_short}
 use Rattle.refusal.specs.Call.{refused, cramped, ended}
 use Rattle.lists.proofs.Laws.{part-zeroed}
 use Rattle.complex.specs.Check.{answer_of}
 use Rattle.complex.proofs.Fine.{fine-passed}
 use Rattle.refine_results.specs.declared.Refinement.{Refinement}
-use Rattle.refine_results.specs.declared.Refinement.TheVariants.{Refused}
 use Rattle.refine_results.specs.Results.{nothing, Stored}
 use Rattle.refine.specs.declared.Space.{Space}
 use Rattle.refine.specs.Space.{space_of, unused, lent, Enough, Emptied}
@@ -47,8 +48,8 @@ ten-along cells cells₀ cells' along along₀ along' pattern pattern₀ pattern
     }
 
 module _ (d R : ℕ) (ws : List ℕ) (Ordered : Type 0) (ks : List (List ℕ)) (out_cells out_words parents : List ℕ) (jacobians : List Float) (wholes : List ℤ) (vertices weights : List ℕ) (shares : List Float) (cells along pattern keys rows spare counts sorted firsts buckets : List ℕ) where
-  pub out-refused : (n p : ℕ) → answer_of d ws ≡ Answer.Refused n p → Refining d ws R Ordered ks (Refused n p) out_cells out_cells out_words out_words parents parents jacobians jacobians wholes wholes vertices vertices weights weights shares shares cells cells along along pattern pattern keys keys rows rows spare spare counts counts sorted sorted firsts firsts buckets buckets
-  out-refused n p e =
+  pub out-refused : (why : Refusal) → answer_of d ws ≡ Err why → Refining d ws R Ordered ks (Err why) out_cells out_cells out_words out_words parents parents jacobians jacobians wholes wholes vertices vertices weights weights shares shares cells cells along along pattern pattern keys keys rows rows spare spare counts counts sorted sorted firsts firsts buckets buckets
+  out-refused why e =
       record {
         handed = nothing;
         used = unused;
@@ -57,7 +58,7 @@ module _ (d R : ℕ) (ws : List ℕ) (Ordered : Type 0) (ks : List (List ℕ)) (
         room = none-used cells along pattern keys rows spare counts sorted firsts buckets;
       }
 
-  pub out-cramped : answer_of d ws ≡ Answer.Fine → (n : Space) → n ≡ space_of d (length ws) R → (Enough n (lent cells along pattern keys rows spare counts sorted firsts buckets) → ⊥) → Refining d ws R Ordered ks (Refused too_short 0) out_cells out_cells out_words out_words parents parents jacobians jacobians wholes wholes vertices vertices weights weights shares shares cells cells along along pattern pattern keys keys rows rows spare spare counts counts sorted sorted firsts firsts buckets buckets
+  pub out-cramped : answer_of d ws ≡ fine → (n : Space) → n ≡ space_of d (length ws) R → (Enough n (lent cells along pattern keys rows spare counts sorted firsts buckets) → ⊥) → Refining d ws R Ordered ks (Err TooShort) out_cells out_cells out_words out_words parents parents jacobians jacobians wholes wholes vertices vertices weights weights shares shares cells cells along along pattern pattern keys keys rows rows spare spare counts counts sorted sorted firsts firsts buckets buckets
   out-cramped e n q f =
       record {
         handed = nothing;
@@ -67,7 +68,7 @@ module _ (d R : ℕ) (ws : List ℕ) (Ordered : Type 0) (ks : List (List ℕ)) (
         room = none-used cells along pattern keys rows spare counts sorted firsts buckets;
       }
 
-  module _ (e : answer_of d ws ≡ Answer.Fine) (n : Space) (q : n ≡ space_of d (length ws) R) (h : Enough n (lent cells along pattern keys rows spare counts sorted firsts buckets)) where
+  module _ (e : answer_of d ws ≡ fine) (n : Space) (q : n ≡ space_of d (length ws) R) (h : Enough n (lent cells along pattern keys rows spare counts sorted firsts buckets)) where
     pub working : Working d ws R (take n.cells cells) (take n.along along) (take n.pattern pattern) (take n.keys keys) (take n.rows rows) (take n.spare spare) (take n.counts counts) (take n.sorted sorted) (take n.firsts firsts) (take n.buckets buckets)
     working =
         record {
@@ -84,7 +85,7 @@ module _ (d R : ℕ) (ws : List ℕ) (Ordered : Type 0) (ks : List (List ℕ)) (
           buckets_long = length-take-le n.buckets buckets h.in_buckets ∙ ap (λ (m : Space). m.buckets) q;
         }
 
-    pub out-ended : (r : Refinement) (out-cells' out-words' parents' : List ℕ) (jacobians' : List Float) (wholes' : List ℤ) (vertices' weights' : List ℕ) (shares' : List Float) (cells' along' pattern' keys' rows' spare' counts' sorted' firsts' buckets' : List ℕ) → Worked d ws R Ordered ks r out_cells out-cells' out_words out-words' parents parents' jacobians jacobians' wholes wholes' vertices vertices' weights weights' shares shares' → AllTen (take n.cells cells) cells' (take n.along along) along' (take n.pattern pattern) pattern' (take n.keys keys) keys' (take n.rows rows) rows' (take n.spare spare) spare' (take n.counts counts) counts' (take n.sorted sorted) sorted' (take n.firsts firsts) firsts' (take n.buckets buckets) buckets' → Refining d ws R Ordered ks r out_cells out-cells' out_words out-words' parents parents' jacobians jacobians' wholes wholes' vertices vertices' weights weights' shares shares' cells (cells' ++ drop n.cells cells) along (along' ++ drop n.along along) pattern (pattern' ++ drop n.pattern pattern) keys (keys' ++ drop n.keys keys) rows (rows' ++ drop n.rows rows) spare (spare' ++ drop n.spare spare) counts (counts' ++ drop n.counts counts) sorted (sorted' ++ drop n.sorted sorted) firsts (firsts' ++ drop n.firsts firsts) buckets (buckets' ++ drop n.buckets buckets)
+    pub out-ended : (r : Result Refinement Refusal) (out-cells' out-words' parents' : List ℕ) (jacobians' : List Float) (wholes' : List ℤ) (vertices' weights' : List ℕ) (shares' : List Float) (cells' along' pattern' keys' rows' spare' counts' sorted' firsts' buckets' : List ℕ) → Worked d ws R Ordered ks r out_cells out-cells' out_words out-words' parents parents' jacobians jacobians' wholes wholes' vertices vertices' weights weights' shares shares' → AllTen (take n.cells cells) cells' (take n.along along) along' (take n.pattern pattern) pattern' (take n.keys keys) keys' (take n.rows rows) rows' (take n.spare spare) spare' (take n.counts counts) counts' (take n.sorted sorted) sorted' (take n.firsts firsts) firsts' (take n.buckets buckets) buckets' → Refining d ws R Ordered ks r out_cells out-cells' out_words out-words' parents parents' jacobians jacobians' wholes wholes' vertices vertices' weights weights' shares shares' cells (cells' ++ drop n.cells cells) along (along' ++ drop n.along along) pattern (pattern' ++ drop n.pattern pattern) keys (keys' ++ drop n.keys keys) rows (rows' ++ drop n.rows rows) spare (spare' ++ drop n.spare spare) counts (counts' ++ drop n.counts counts) sorted (sorted' ++ drop n.sorted sorted) firsts (firsts' ++ drop n.firsts firsts) buckets (buckets' ++ drop n.buckets buckets)
     out-ended r out-cells' out-words' parents' jacobians' wholes' vertices' weights' shares' cells' along' pattern' keys' rows' spare' counts' sorted' firsts' buckets' w z =
         record {
           handed = w.handed;

@@ -1,4 +1,7 @@
 -- Reading the coarse cells and the words refined by, step by step: what each call asks follows from what the calls before it gave. Assumes nothing.
+use Rattle.refusal.specs.declared.Refusal.{Refusal}
+use Rattle.refusal.specs.declared.Refusal.TheVariants.{BadOrder, CrowdedFacet}
+use Rattle.std.specs.Prelude.{Err, Ok}
 use mathlib.Core.Bool.{Bool, true, false}
 use mathlib.Core.List.{List, ◌++◌}
 use mathlib.Core.Path.{◌≡◌, refl, sym, ap, ◌∙◌, subst}
@@ -9,9 +12,6 @@ use native.Mathlib.Omega.{arith}
 use lib.ListN.{length, take, drop, length-append}
 use lib.Seq.{length-take-le, take_at}
 use Rattle.refusal.specs.Limits.{many_corners}
-use Rattle.refusal.specs.declared.Counted.{Counted}
-use Rattle.refusal.specs.declared.Counted.TheVariants.{Count, Refused}
-use Rattle.refusal.specs.Table.{crowded_facet, bad_order}
 use Rattle.lists.specs.Rows.{cut, rows, flat}
 use Rattle.lists.proofs.Rows.{cut-length}
 use Rattle.complex.specs.Cells.{cells_of}
@@ -93,10 +93,10 @@ module _ (d : ℕ) (ws cells keys rows₀ spare counts : List ℕ) (w : Listing 
         }
 
     -- 7
-    pub list-crowded : (cells' : List ℕ) → Crowded d (cut (suc d) m rows') → Listed d ws cells' (Refused crowded_facet 0)
+    pub list-crowded : (cells' : List ℕ) → Crowded d (cut (suc d) m rows') → Listed d ws cells' (Err CrowdedFacet)
     list-crowded cells' x = listed-crowded (subst (λ (cs : List (List ℕ)). Crowded d cs) a.same x)
 
-    pub list-cells : (mates part : List ℕ) → MateTable d (cut (suc d) m rows') mates → part ≡ take (m * (d + 1)) rows' → Listed d ws (part ++ drop (m * (d + 1)) cells) (Count m)
+    pub list-cells : (mates part : List ℕ) → MateTable d (cut (suc d) m rows') mates → part ≡ take (m * (d + 1)) rows' → Listed d ws (part ++ drop (m * (d + 1)) cells) (Ok m)
     list-cells mates part t e =
         listed-cells m
         (λ x. not-crowded d m (cut (suc d) m rows') (cut-length (suc d) m rows') mates t (omega (arith, a.most, a.corners)) (subst (λ (cs : List (List ℕ)). Crowded d cs) (sym a.same) x))
@@ -194,24 +194,19 @@ listing d ws cells along keys rows₀ spare counts w =
     record { passed = w.passed; cells_long = w.cells_long; keys_long = w.keys_long; rows_long = w.rows_long; spare_long = w.spare_long; counts_long = w.counts_long }
 
 -- 7
-refused-same : (d : ℕ) (ws : List ℕ) (Ordered : Type 0) (ks : List (List ℕ)) (cells along : List ℕ) (a b n pl : ℕ) → Refused a b ≡ Refused n pl → Reads d ws Ordered ks cells along (Refused a b) → Reads d ws Ordered ks cells along (Refused n pl)
-refused-same d ws Ordered ks cells along a b n pl e x = subst (λ (r : Counted). Reads d ws Ordered ks cells along r) e x
+pub read-refused : (d : ℕ) (ws cells : List ℕ) (why : Refusal) → Listed d ws cells (Err why) → (Ordered : Type 0) (ks : List (List ℕ)) (cells' along' : List ℕ) → Reads d ws Ordered ks cells' along' (Err why)
+read-refused d ws cells why (listed-crowded x) Ordered ks cells' along' = reads-crowded x
 
-pub read-refused : (d : ℕ) (ws cells : List ℕ) (r : Counted) → Listed d ws cells r → (n pl : ℕ) → r ≡ Refused n pl → (Ordered : Type 0) (ks : List (List ℕ)) (cells' along' : List ℕ) → Reads d ws Ordered ks cells' along' (Refused n pl)
-read-refused d ws cells r (listed-crowded x) n pl e Ordered ks cells' along' = refused-same d ws Ordered ks cells' along' crowded_facet 0 n pl e (reads-crowded x)
-read-refused d ws cells r (listed-cells m x a) n pl e Ordered ks cells' along' = let z : ◌≡◌ {A = ℕ} 0 1 = cc in absurd (omega arith)
-
-listed_free : (d : ℕ) (ws cells : List ℕ) (r : Counted) → Listed d ws cells r → (m : ℕ) → r ≡ Count m → (Crowded d (cells_of d ws) → ⊥) × Made d ws m cells
-listed_free d ws cells r (listed-crowded x) m e = let z : ◌≡◌ {A = ℕ} 0 1 = cc in absurd (omega arith)
-listed_free d ws cells r (listed-cells n x a) m e = let q : n ≡ m = cc in (x, subst (λ (k : ℕ). Made d ws k cells) q a)
+listed_free : (d : ℕ) (ws cells : List ℕ) (m : ℕ) → Listed d ws cells (Ok m) → (Crowded d (cells_of d ws) → ⊥) × Made d ws m cells
+listed_free d ws cells m (listed-cells n x a) = (x, a)
 
 -- m cells are counted, and the code works with the same number
-module _ (d : ℕ) (ws cells along keys rows₀ spare counts : List ℕ) (w : Making d ws cells along keys rows₀ spare counts) (cells' keys' spare' counts' : List ℕ) (lc : length cells' ≡ length cells) (lk : length keys' ≡ length keys) (ls : length spare' ≡ length spare) (lu : length counts' ≡ length counts) (r : Counted) (l : Listed d ws cells' r) (m : ℕ) (e : r ≡ Count m) (count : ℕ) (ec : count ≡ m) where
+module _ (d : ℕ) (ws cells along keys rows₀ spare counts : List ℕ) (w : Making d ws cells along keys rows₀ spare counts) (cells' keys' spare' counts' : List ℕ) (lc : length cells' ≡ length cells) (lk : length keys' ≡ length keys) (ls : length spare' ≡ length spare) (lu : length counts' ≡ length counts) (m : ℕ) (l : Listed d ws cells' (Ok m)) (count : ℕ) (ec : count ≡ m) where
   pub naming : Naming d count ws cells' along keys' spare' counts'
   naming =
       record {
         passed = w.passed;
-        made = subst (λ (k : ℕ). Made d ws k cells') (sym ec) (listed_free d ws cells' r l m e).1;
+        made = subst (λ (k : ℕ). Made d ws k cells') (sym ec) (listed_free d ws cells' m l).1;
         cells_long = omega (arith, w.cells_long);
         along_long = w.along_long;
         keys_long = omega (arith, w.keys_long);
@@ -220,10 +215,10 @@ module _ (d : ℕ) (ws cells along keys rows₀ spare counts : List ℕ) (w : Ma
       }
 
   -- 16
-  pub read-unordered : (Ordered : Type 0) (ks : List (List ℕ)) (ok : Bool) (cells'' along'' : List ℕ) → Named d count ws Ordered ks ok cells'' along'' → ok ≡ false → Reads d ws Ordered ks cells'' along'' (Refused bad_order 0)
-  read-unordered Ordered ks ok cells'' along'' n f = reads-unordered (listed_free d ws cells' r l m e).0 (n.unordered f)
+  pub read-unordered : (Ordered : Type 0) (ks : List (List ℕ)) (ok : Bool) (cells'' along'' : List ℕ) → Named d count ws Ordered ks ok cells'' along'' → ok ≡ false → Reads d ws Ordered ks cells'' along'' (Err BadOrder)
+  read-unordered Ordered ks ok cells'' along'' n f = reads-unordered (listed_free d ws cells' m l).0 (n.unordered f)
 
-  pub read-words : (Ordered : Type 0) (ks : List (List ℕ)) (ok : Bool) (cells'' along'' : List ℕ) → Named d count ws Ordered ks ok cells'' along'' → ok ≡ true → Reads d ws Ordered ks cells'' along'' (Count m)
+  pub read-words : (Ordered : Type 0) (ks : List (List ℕ)) (ok : Bool) (cells'' along'' : List ℕ) → Named d count ws Ordered ks ok cells'' along'' → ok ≡ true → Reads d ws Ordered ks cells'' along'' (Ok m)
   read-words Ordered ks ok cells'' along'' n t =
-      subst (λ (k : ℕ). Reads d ws Ordered ks cells'' along'' (Count k)) ec
-      (reads-read count (listed_free d ws cells' r l m e).0 (n.ordered t) naming.made.most (n.words_of t) (n.cells_are t) (n.words_are t))
+      subst (λ (k : ℕ). Reads d ws Ordered ks cells'' along'' (Ok k)) ec
+      (reads-read count (listed_free d ws cells' m l).0 (n.ordered t) naming.made.most (n.words_of t) (n.cells_are t) (n.words_are t))

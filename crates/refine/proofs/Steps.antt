@@ -1,4 +1,6 @@
 -- The work of a refinement, step by step: what each call asks follows from what the calls before it gave. Assumes nothing.
+use Rattle.refusal.specs.declared.Refusal.{Refusal}
+use Rattle.std.specs.Prelude.{Err, Ok, Result}
 use mathlib.Core.Bool.{Bool, true, false}
 use mathlib.Core.List.{List, [], ◌∷◌}
 use mathlib.Core.Path.{◌≡◌, sym, ap, ◌∙◌, subst}
@@ -10,8 +12,6 @@ use native.Mathlib.Omega.{arith}
 use lib.IntN.{ℤ}
 use lib.Ieee.{Float}
 use lib.ListN.{length}
-use Rattle.refusal.specs.declared.Counted.{Counted}
-use Rattle.refusal.specs.declared.Counted.TheVariants as Counted
 use Rattle.refusal.specs.Limits.{most_dimension, most_cells, row_most}
 use Rattle.lists.specs.Rows.{cut}
 use Rattle.lists.proofs.Rows.{cut-length}
@@ -21,7 +21,6 @@ use Rattle.complex.specs.Facets.{Crowded}
 use Rattle.complex_cells.proofs.Making.{whole_words}
 use Rattle.complex_cells.proofs.Pigeon.{largest-low}
 use Rattle.refine_results.specs.declared.Refinement.{Refinement}
-use Rattle.refine_results.specs.declared.Refinement.TheVariants.{Refused}
 use Rattle.refine_results.specs.Refined.{coarse}
 use Rattle.refine_results.specs.WorkFlat.{Along}
 use Rattle.refine_results.specs.Results.{nothing, Lengths, lengths_of, Inside, Finishes}
@@ -133,27 +132,27 @@ record Read (d : ℕ) (ws : List ℕ) (Ordered : Type 0) (ks : List (List ℕ)) 
 
 -- ---- how the reading ends
 module _ (d R : ℕ) (ws : List ℕ) (Ordered : Type 0) (ks : List (List ℕ)) (cells along : List ℕ) (given : Lengths) where
-  unread : (n q : ℕ) → Reads d ws Ordered ks cells along (Counted.Refused n q) → promise.Ends d R ws Ordered ks given (Refused n q) nothing
-  unread n q (crowded x) = promise.crowded x
-  unread n q (unordered f o) = promise.unordered f o
+  unread : (why : Refusal) → Reads d ws Ordered ks cells along (Err why) → promise.Ends d R ws Ordered ks given (Err why) nothing
+  unread why (crowded x) = promise.crowded x
+  unread why (unordered f o) = promise.unordered f o
 
-  read_all : (m : ℕ) → Reads d ws Ordered ks cells along (Counted.Count m) → Read d ws Ordered ks cells along m
+  read_all : (m : ℕ) → Reads d ws Ordered ks cells along (Ok m) → Read d ws Ordered ks cells along m
   read_all _ (read m f o l a c k) = record { free = f; ordered = o; fit = l; words_of = a; cells_are = c; words_are = k }
 
 -- ---- the reading in the working lists
-module _ (d R : ℕ) (ws : List ℕ) (Ordered : Type 0) (ks : List (List ℕ)) (cells along pattern keys rows spare counts sorted firsts buckets : List ℕ) (w : Working d ws R cells along pattern keys rows spare counts sorted firsts buckets) (cells' along' keys' rows' spare' counts' : List ℕ) (f : Counted) (rd : Reads d ws Ordered ks cells' along' f) where
+module _ (d R : ℕ) (ws : List ℕ) (Ordered : Type 0) (ks : List (List ℕ)) (cells along pattern keys rows spare counts sorted firsts buckets : List ℕ) (w : Working d ws R cells along pattern keys rows spare counts sorted firsts buckets) (cells' along' keys' rows' spare' counts' : List ℕ) where
   -- 7 or 16
-  pub worked-unread : (n q : ℕ) → f ≡ Counted.Refused n q → (out_cells out_words parents : List ℕ) (jacobians : List Float) (wholes : List ℤ) (vertices weights : List ℕ) (shares : List Float) → Worked d ws R Ordered ks (Refused n q) out_cells out_cells out_words out_words parents parents jacobians jacobians wholes wholes vertices vertices weights weights shares shares
-  worked-unread n q e out_cells out_words parents jacobians wholes vertices weights shares =
+  pub worked-unread : (why : Refusal) → Reads d ws Ordered ks cells' along' (Err why) → (out_cells out_words parents : List ℕ) (jacobians : List Float) (wholes : List ℤ) (vertices weights : List ℕ) (shares : List Float) → Worked d ws R Ordered ks (Err why) out_cells out_cells out_words out_words parents parents jacobians jacobians wholes wholes vertices vertices weights weights shares shares
+  worked-unread why rd out_cells out_words parents jacobians wholes vertices weights shares =
       record {
         handed = nothing;
-        ends = unread d R ws Ordered ks cells' along' (lengths_of out_cells out_words parents jacobians wholes vertices weights shares) n q (subst (λ (x : Counted). Reads d ws Ordered ks cells' along' x) e rd);
+        ends = unread d R ws Ordered ks cells' along' (lengths_of out_cells out_words parents jacobians wholes vertices weights shares) why rd;
         stored = none-stored out_cells out_words parents jacobians wholes vertices weights shares;
       }
 
-  module _ (m : ℕ) (e : f ≡ Counted.Count m) (n : ℕ) (v : n ≡ coarse ws) where
+  module _ (m : ℕ) (rd : Reads d ws Ordered ks cells' along' (Ok m)) (n : ℕ) (v : n ≡ coarse ws) where
     a : Read d ws Ordered ks cells' along' m
-    a = read_all d R ws Ordered ks cells' along' (lengths_of [] [] [] [] [] [] [] []) m (subst (λ (x : Counted). Reads d ws Ordered ks cells' along' x) e rd)
+    a = read_all d R ws Ordered ks cells' along' (lengths_of [] [] [] [] [] [] [] []) m rd
 
     some : 0 < m
     some = omega (arith, cells-some d ws w.passed, ap length a.cells_are, cut-length (suc d) m cells')
@@ -164,7 +163,7 @@ module _ (d R : ℕ) (ws : List ℕ) (Ordered : Type 0) (ks : List (List ℕ)) (
         (ready d ws w.passed R cells along pattern keys rows spare counts sorted firsts buckets w keys' rows' spare' counts' lk lr ls lc m some a.fit cells' along' a.words_of)
 
     -- 11, 3, 6, 12 or the results
-    pub worked-finished : (r : Refinement) (out_cells out_words parents : List ℕ) (jacobians : List Float) (wholes : List ℤ) (vertices weights : List ℕ) (shares : List Float) (out-cells' out-words' parents' : List ℕ) (jacobians' : List Float) (wholes' : List ℤ) (vertices' weights' : List ℕ) (shares' : List Float) → Handed d R n m cells' along' r out_cells out-cells' out_words out-words' parents parents' jacobians jacobians' wholes wholes' vertices vertices' weights weights' shares shares' → Worked d ws R Ordered ks r out_cells out-cells' out_words out-words' parents parents' jacobians jacobians' wholes wholes' vertices vertices' weights weights' shares shares'
+    pub worked-finished : (r : Result Refinement Refusal) (out_cells out_words parents : List ℕ) (jacobians : List Float) (wholes : List ℤ) (vertices weights : List ℕ) (shares : List Float) (out-cells' out-words' parents' : List ℕ) (jacobians' : List Float) (wholes' : List ℤ) (vertices' weights' : List ℕ) (shares' : List Float) → Handed d R n m cells' along' r out_cells out-cells' out_words out-words' parents parents' jacobians jacobians' wholes wholes' vertices vertices' weights weights' shares shares' → Worked d ws R Ordered ks r out_cells out-cells' out_words out-words' parents parents' jacobians jacobians' wholes wholes' vertices vertices' weights weights' shares shares'
     worked-finished r out_cells out_words parents jacobians wholes vertices weights shares out-cells' out-words' parents' jacobians' wholes' vertices' weights' shares' h =
         let g : Lengths = lengths_of out_cells out_words parents jacobians wholes vertices weights shares in
         let x : Finishes d R (coarse ws) (cut (suc d) m cells') (cut (suc d) m along') g r h.handed = subst (λ (k : ℕ). Finishes d R k (cut (suc d) m cells') (cut (suc d) m along') g r h.handed) v h.ends in

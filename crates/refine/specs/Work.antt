@@ -1,5 +1,6 @@
 -- What the work of a refinement asks of its lists, of just the lengths that are needed, and what it gives. Assumes nothing.
-use Rattle.std.specs.Prelude.{List, ◌≡◌, ℕ, ℤ, Float, length, replicate}
+use Rattle.refusal.specs.declared.Refusal.{Refusal}
+use Rattle.std.specs.Prelude.{List, ◌≡◌, ℕ, ℤ, Float, length, replicate, Result}
 use Rattle.complex.specs.Check.{Passed}
 use Rattle.refine_results.specs.declared.Refinement.{Refinement}
 use Rattle.refine_results.specs.Results.{Results, lengths_of, Stored}
@@ -20,7 +21,7 @@ pub record Working (d : ℕ) (ws : List ℕ) (R : ℕ) (cells along pattern keys
   pub buckets_long : length buckets ≡ (space_of d (length ws) R).buckets
 
 -- the call on checked words with room, and the result lists afterwards
-pub record Worked (d : ℕ) (ws : List ℕ) (R : ℕ) (Ordered : Type 0) (ks : List (List ℕ)) (r : Refinement) (out_cells out-cells' out_words out-words' parents parents' : List ℕ) (jacobians jacobians' : List Float) (wholes wholes' : List ℤ) (vertices vertices' weights weights' : List ℕ) (shares shares' : List Float) : Type 0 where
+pub record Worked (d : ℕ) (ws : List ℕ) (R : ℕ) (Ordered : Type 0) (ks : List (List ℕ)) (r : Result Refinement Refusal) (out_cells out-cells' out_words out-words' parents parents' : List ℕ) (jacobians jacobians' : List Float) (wholes wholes' : List ℤ) (vertices vertices' weights weights' : List ℕ) (shares shares' : List Float) : Type 0 where
   pub handed : Results
   pub ends : Ends d R ws Ordered ks (lengths_of out_cells out_words parents jacobians wholes vertices weights shares) r handed
   pub stored : Stored handed out_cells out-cells' out_words out-words' parents parents' jacobians jacobians' wholes wholes' vertices vertices' weights weights' shares shares'

@@ -1,8 +1,7 @@
 -- Reading the coarse cells and the words refined by, in two steps: the cells, then their words. Assumes nothing.
-use Rattle.std.specs.Prelude.{Bool, true, false, List, ◌≡◌, ℕ, suc, ◌*◌, ◌≤◌, length}
-use Rattle.refusal.specs.declared.Counted.{Counted}
-use Rattle.refusal.specs.declared.Counted.TheVariants.{Count, Refused}
-use Rattle.refusal.specs.Table.{crowded_facet}
+use Rattle.refusal.specs.declared.Refusal.TheVariants.{CrowdedFacet}
+use Rattle.refusal.specs.Says.{Counted}
+use Rattle.std.specs.Prelude.{Bool, true, false, List, ◌≡◌, ℕ, suc, ◌*◌, ◌≤◌, length, Err, Ok}
 use Rattle.lists.specs.Rows.{cut}
 use Rattle.complex.specs.Check.{Passed}
 use Rattle.complex.specs.Cells.{cells_of}
@@ -22,8 +21,8 @@ pub record Listing (d : ℕ) (ws cells keys rows spare counts : List ℕ) : Type
 
 -- 7, or m cells stand in `cells`
 pub data Listed (d : ℕ) (ws cells : List ℕ) : Counted → Type 0 where
-  crowded : Crowded d (cells_of d ws) → Listed d ws cells (Refused crowded_facet 0)
-  listed : (m : ℕ) → (Crowded d (cells_of d ws) → ⊥) → Made d ws m cells → Listed d ws cells (Count m)
+  crowded : Crowded d (cells_of d ws) → Listed d ws cells (Err CrowdedFacet)
+  listed : (m : ℕ) → (Crowded d (cells_of d ws) → ⊥) → Made d ws m cells → Listed d ws cells (Ok m)
 
 -- m cells of checked words stand in `cells`, and there is room for their words
 pub record Naming (d m : ℕ) (ws cells along keys spare counts : List ℕ) : Type 0 where

@@ -1,8 +1,7 @@
 -- The coarse cells and the words refined by: what reading them asks and how it ends. Assumes nothing.
-use Rattle.std.specs.Prelude.{Bool, true, false, List, ◌≡◌, ℕ, suc, ◌*◌, ◌≤◌, length}
-use Rattle.refusal.specs.declared.Counted.{Counted}
-use Rattle.refusal.specs.declared.Counted.TheVariants.{Count, Refused}
-use Rattle.refusal.specs.Table.{crowded_facet, bad_order}
+use Rattle.refusal.specs.declared.Refusal.TheVariants.{BadOrder, CrowdedFacet}
+use Rattle.refusal.specs.Says.{Counted}
+use Rattle.std.specs.Prelude.{Bool, true, false, List, ◌≡◌, ℕ, suc, ◌*◌, ◌≤◌, length, Err, Ok}
 use Rattle.lists.specs.Rows.{cut}
 use Rattle.complex.specs.Check.{Passed}
 use Rattle.complex.specs.Cells.{cells_of}
@@ -33,7 +32,7 @@ pub record Making (d : ℕ) (ws cells along keys rows spare counts : List ℕ) :
 
 -- 7, or 16, or m cells stand in `cells` and their words in `along`
 pub data Reads (d : ℕ) (ws : List ℕ) (Ordered : Type 0) (ks : List (List ℕ)) (cells along : List ℕ) : Counted → Type 0 where
-  crowded : Crowded d (cells_of d ws) → Reads d ws Ordered ks cells along (Refused crowded_facet 0)
-  unordered : (Crowded d (cells_of d ws) → ⊥) → (Ordered → ⊥) → Reads d ws Ordered ks cells along (Refused bad_order 0)
+  crowded : Crowded d (cells_of d ws) → Reads d ws Ordered ks cells along (Err CrowdedFacet)
+  unordered : (Crowded d (cells_of d ws) → ⊥) → (Ordered → ⊥) → Reads d ws Ordered ks cells along (Err BadOrder)
   read : (m : ℕ) → (Crowded d (cells_of d ws) → ⊥) → Ordered → m * suc d ≤ length ws → Along d (coarse ws) m along cells → cut (suc d) m cells ≡ cells_of d ws
-      → cut (suc d) m along ≡ ks → Reads d ws Ordered ks cells along (Count m)
+      → cut (suc d) m along ≡ ks → Reads d ws Ordered ks cells along (Ok m)

@@ -8,29 +8,14 @@ ghost use Rattle.refine_results.specs.Refined.{coarse, order_words};
 ghost use Rattle.refine.specs.WorkReading.{words_along, OrderedBy, Making, Reads};
 ghost use Rattle.refine.specs.WorkCoarse.{Listing, Listed, Naming, Named};
 
-use refusal::{BAD_ORDER, CROWDED_FACET, Counted};
-
-fn wide(x: u32) -> usize
-    ensures { result ≡ x }
-{
-    x as usize
-}
+use refusal::Refusal;
 
 // How many coarse vertices there are: one more than the largest of the numbers.
 pub fn vertices(words: &[u32]) -> u32
     requires { largest_of words.now < most_vertices }
     ensures { result ≡ coarse words.now }
 {
-    let mut top = 0;
-    let mut i = 0;
-    while i < words.len() {
-        let v = words[i];
-        if top < v {
-            top = v;
-        }
-        i += 1;
-    }
-    top + 1
+    lists::largest(words) + 1
 }
 
 // Writes the cells of the words to `cells`: how many there are, or 7.
@@ -42,17 +27,17 @@ fn list(
     rows: &mut [u32],
     spare: &mut [u32],
     counts: &mut [u32],
-) -> Counted
+) -> Result<u32, Refusal>
     requires { Listing d words.now cells.old keys.old rows.old spare.old counts.old }
     ensures { Listed d words.now cells.new result }
 {
     let m = complex_cells::cells(d, words, keys, rows, spare, counts);
     let len = m * (d + 1);
-    lists::copy(&rows[..len], &mut cells[..len]);
+    cells[..len].copy_from_slice(&rows[..len]);
     if !complex_mates::mates(d, m, words.len(), keys, rows, spare, counts) {
-        return Counted::Refused(CROWDED_FACET, 0);
+        return Err(Refusal::CrowdedFacet);
     }
-    Counted::Count(m as u32)
+    Ok(m as u32)
 }
 
 // Writes the order's words by cell to `along`; false where it is no order of the cells. The cells stay.
@@ -75,7 +60,7 @@ fn ordered(
         return false;
     }
     let len = m * (d + 1);
-    lists::copy(&keys[..len], &mut along[..len]);
+    along[..len].copy_from_slice(&keys[..len]);
     true
 }
 
@@ -100,7 +85,7 @@ fn name(
         return ordered(d, m, given, order, cells, along, keys, spare, counts);
     }
     let len = m * (d + 1);
-    lists::copy(&cells[..len], &mut along[..len]);
+    along[..len].copy_from_slice(&cells[..len]);
     true
 }
 
@@ -116,30 +101,16 @@ pub fn read(
     rows: &mut [u32],
     spare: &mut [u32],
     counts: &mut [u32],
-) -> Counted
+) -> Result<u32, Refusal>
     requires { Making d given.now cells.old along.old keys.old rows.old spare.old counts.old }
     ensures { Reads d given.now (OrderedBy with_order d given.now order.now) (words_along with_order d given.now order.now)
         cells.new along.new result }
 {
-    let listed = list(d, given, cells, keys, rows, spare, counts);
-    match listed {
-        Counted::Refused(number, place) => Counted::Refused(number, place),
-        Counted::Count(m) => {
-            if !name(
-                with_order,
-                d,
-                wide(m),
-                given,
-                order,
-                cells,
-                along,
-                keys,
-                spare,
-                counts,
-            ) {
-                return Counted::Refused(BAD_ORDER, 0);
-            }
-            Counted::Count(m)
-        }
+    let m = list(d, given, cells, keys, rows, spare, counts)?;
+    if !name(
+        with_order, d, m as usize, given, order, cells, along, keys, spare, counts,
+    ) {
+        return Err(Refusal::BadOrder);
     }
+    Ok(m)
 }

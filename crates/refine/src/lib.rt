@@ -25,7 +25,7 @@ ghost use Rattle.refine.specs.Promise.{Refining};
 ghost use Rattle.refine.specs.Work.{Working, Worked, AllTen};
 
 use refine_results::Refinement;
-use refusal::{Answer, Counted, TOO_SHORT};
+use refusal::Refusal;
 
 // Lengths of the ten working lists: what a call needs of them, or what it is lent.
 #[derive(Clone, Copy)]
@@ -68,45 +68,39 @@ fn work(
     firsts: &mut [u32],
     buckets: &mut [u32],
     by_steps: bool,
-) -> Refinement
+) -> Result<Refinement, Refusal>
     requires { Working d given.now r cells.old along.old pattern.old keys.old rows.old spare.old counts.old sorted.old firsts.old buckets.old }
     ensures { Worked d given.now r (OrderedBy with_order d given.now order.now) (words_along with_order d given.now order.now) result out_cells.old out_cells.new out_words.old out_words.new parents.old parents.new jacobians.old jacobians.new wholes.old wholes.new birth_vertices.old birth_vertices.new birth_weights.old birth_weights.new birth_shares.old birth_shares.new }
 {
-    let found = coarse::read(
+    let m = coarse::read(
         with_order, d, given, order, cells, along, keys, rows, spare, counts,
-    );
-    match found {
-        Counted::Refused(number, place) => Refinement::Refused(number, place),
-        Counted::Count(count) => {
-            let m = count as usize;
-            let n = coarse::vertices(given);
-            refine_results::refined(
-                d,
-                r,
-                n,
-                m,
-                cells,
-                along,
-                out_cells,
-                out_words,
-                parents,
-                jacobians,
-                wholes,
-                birth_vertices,
-                birth_weights,
-                birth_shares,
-                pattern,
-                keys,
-                rows,
-                spare,
-                counts,
-                sorted,
-                firsts,
-                buckets,
-                by_steps,
-            )
-        }
-    }
+    )?;
+    let n = coarse::vertices(given);
+    refine_results::refined(
+        d,
+        r,
+        n,
+        m as usize,
+        cells,
+        along,
+        out_cells,
+        out_words,
+        parents,
+        jacobians,
+        wholes,
+        birth_vertices,
+        birth_weights,
+        birth_shares,
+        pattern,
+        keys,
+        rows,
+        spare,
+        counts,
+        sorted,
+        firsts,
+        buckets,
+        by_steps,
+    )
 }
 
 // The work, and then the working lists are all zero.
@@ -135,7 +129,7 @@ fn cleared(
     firsts: &mut [u32],
     buckets: &mut [u32],
     by_steps: bool,
-) -> Refinement
+) -> Result<Refinement, Refusal>
     requires { Working d given.now r cells.old along.old pattern.old keys.old rows.old spare.old counts.old sorted.old firsts.old buckets.old }
     ensures work { Worked d given.now r (OrderedBy with_order d given.now order.now) (words_along with_order d given.now order.now) result out_cells.old out_cells.new out_words.old out_words.new parents.old parents.new jacobians.old jacobians.new wholes.old wholes.new birth_vertices.old birth_vertices.new birth_weights.old birth_weights.new birth_shares.old birth_shares.new }
     ensures room { AllTen cells.old cells.new along.old along.new pattern.old pattern.new keys.old keys.new rows.old rows.new spare.old spare.new counts.old counts.new sorted.old sorted.new firsts.old firsts.new buckets.old buckets.new }
@@ -198,13 +192,10 @@ fn refinement(
     firsts: &mut [u32],
     buckets: &mut [u32],
     by_steps: bool,
-) -> Refinement
+) -> Result<Refinement, Refusal>
     ensures { Refining d given.now r (OrderedBy with_order d given.now order.now) (words_along with_order d given.now order.now) result out_cells.old out_cells.new out_words.old out_words.new parents.old parents.new jacobians.old jacobians.new wholes.old wholes.new birth_vertices.old birth_vertices.new birth_weights.old birth_weights.new birth_shares.old birth_shares.new cells.old cells.new along.old along.new pattern.old pattern.new keys.old keys.new rows.old rows.new spare.old spare.new counts.old counts.new sorted.old sorted.new firsts.old firsts.new buckets.old buckets.new }
 {
-    let checked = complex::check_cells(d, given);
-    if let Answer::Refused(number, place) = checked {
-        return Refinement::Refused(number, place);
-    }
+    complex::check_cells(d, given)?;
     let dim = d as usize;
     let need = room::need(dim, given.len(), r);
     let have = Space {
@@ -220,7 +211,7 @@ fn refinement(
         buckets: buckets.len(),
     };
     if !room::enough(need, have) {
-        return Refinement::Refused(TOO_SHORT, 0);
+        return Err(Refusal::TooShort);
     }
     let a = need.cells;
     let b = need.along;
@@ -285,7 +276,7 @@ pub fn refine(
     sorted: &mut [u32],
     firsts: &mut [u32],
     buckets: &mut [u32],
-) -> Refinement
+) -> Result<Refinement, Refusal>
     ensures { Refining d given.now r (Unit {0}) (cells_of d given.now) result out_cells.old out_cells.new out_words.old out_words.new parents.old parents.new jacobians.old jacobians.new wholes.old wholes.new birth_vertices.old birth_vertices.new birth_weights.old birth_weights.new birth_shares.old birth_shares.new cells.old cells.new along.old along.new pattern.old pattern.new keys.old keys.new rows.old rows.new spare.old spare.new counts.old counts.new sorted.old sorted.new firsts.old firsts.new buckets.old buckets.new }
 {
     refinement(
@@ -340,7 +331,7 @@ pub fn refine_with(
     sorted: &mut [u32],
     firsts: &mut [u32],
     buckets: &mut [u32],
-) -> Refinement
+) -> Result<Refinement, Refusal>
     ensures { Refining d given.now r (Orders d (cells_of d given.now) order.now) (order_words d given.now order.now) result out_cells.old out_cells.new out_words.old out_words.new parents.old parents.new jacobians.old jacobians.new wholes.old wholes.new birth_vertices.old birth_vertices.new birth_weights.old birth_weights.new birth_shares.old birth_shares.new cells.old cells.new along.old along.new pattern.old pattern.new keys.old keys.new rows.old rows.new spare.old spare.new counts.old counts.new sorted.old sorted.new firsts.old firsts.new buckets.old buckets.new }
 {
     refinement(
@@ -394,7 +385,7 @@ pub fn refine_by_steps(
     sorted: &mut [u32],
     firsts: &mut [u32],
     buckets: &mut [u32],
-) -> Refinement
+) -> Result<Refinement, Refusal>
     ensures { Refining d given.now r (Unit {0}) (cells_of d given.now) result out_cells.old out_cells.new out_words.old out_words.new parents.old parents.new jacobians.old jacobians.new wholes.old wholes.new birth_vertices.old birth_vertices.new birth_weights.old birth_weights.new birth_shares.old birth_shares.new cells.old cells.new along.old along.new pattern.old pattern.new keys.old keys.new rows.old rows.new spare.old spare.new counts.old counts.new sorted.old sorted.new firsts.old firsts.new buckets.old buckets.new }
 {
     refinement(
@@ -449,7 +440,7 @@ pub fn refine_with_by_steps(
     sorted: &mut [u32],
     firsts: &mut [u32],
     buckets: &mut [u32],
-) -> Refinement
+) -> Result<Refinement, Refusal>
     ensures { Refining d given.now r (Orders d (cells_of d given.now) order.now) (order_words d given.now order.now) result out_cells.old out_cells.new out_words.old out_words.new parents.old parents.new jacobians.old jacobians.new wholes.old wholes.new birth_vertices.old birth_vertices.new birth_weights.old birth_weights.new birth_shares.old birth_shares.new cells.old cells.new along.old along.new pattern.old pattern.new keys.old keys.new rows.old rows.new spare.old spare.new counts.old counts.new sorted.old sorted.new firsts.old firsts.new buckets.old buckets.new }
 {
     refinement(

@@ -112,6 +112,6 @@ pub(crate) fn clear_ten(
 {
     lists::clear_four(cells, along, pattern, sorted);
     lists::clear_four(keys, rows, spare, counts);
-    lists::clear(firsts);
-    lists::clear(buckets);
+    firsts.fill(0);
+    buckets.fill(0);
 }

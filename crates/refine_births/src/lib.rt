@@ -23,12 +23,6 @@ mod visits;
 // No number yet; and no vertex, past a birth's support.
 pub const NONE: u32 = 4294967295;
 
-fn wide(x: u32) -> usize
-    ensures { result ≡ x }
-{
-    x as usize
-}
-
 // Puts the rows of the visits into classes, one class for one row: `counts` has the class of each visit.
 fn classes(
     stride: usize,
@@ -44,17 +38,6 @@ fn classes(
 {
     sorting::sort_rows(keys, stride, total, b, rows, spare, counts);
     sorting::distinct(keys, stride, total, rows, spare, counts);
-}
-
-// No class has a number yet.
-fn blank(numbers: &mut [u32])
-    ensures { numbers.new ≡ replicate (length numbers.old) none }
-{
-    let mut i = 0;
-    while i < numbers.len() {
-        numbers[i] = NONE;
-        i += 1;
-    }
 }
 
 // Numbers the visits in their sequence: `corners` has each visit's class and then its number, `numbers` the number of each class, and `fresh` names the
@@ -73,13 +56,11 @@ fn number(
 {
     let stride = size + size;
     let mut count = 0;
-    let mut x = 0;
-    while x < total {
-        let class = wide(corners[x]);
+    for x in 0..total {
+        let class = corners[x] as usize;
         let seen = numbers[class];
         if seen != NONE {
             corners[x] = seen;
-            x += 1;
             continue;
         }
         let at = x * stride;
@@ -89,7 +70,6 @@ fn number(
             let v = keys[at];
             numbers[class] = v;
             corners[x] = v;
-            x += 1;
             continue;
         }
         let v = n + count as u32;
@@ -97,7 +77,6 @@ fn number(
         corners[x] = v;
         fresh[count] = x as u32;
         count += 1;
-        x += 1;
     }
     count
 }
@@ -126,13 +105,13 @@ pub fn resolve(
     classes(
         size + size,
         total,
-        wide(n) + wide(r) + 1,
+        n as usize + r as usize + 1,
         keys,
         rows,
         spare,
         counts,
     );
-    blank(rows);
+    rows.fill(NONE);
     number(size, n, total, keys, rows, spare, counts)
 }
 
@@ -142,11 +121,9 @@ fn birth(n: u32, row: &[u32], vertices: &mut [u32], weights: &mut [u32])
     ensures { Born n row.now (length vertices.old) vertices.new weights.new }
 {
     let size = vertices.len();
-    let mut j = 0;
-    while j < size {
+    for j in 0..size {
         vertices[j] = support::named(n, row[j]);
         weights[j] = row[size + j];
-        j += 1;
     }
 }
 
@@ -164,9 +141,8 @@ fn write_births(
     ensures { (bs : List (List ℕ)) → Supports size n count bs keys.now fresh.now → (vertices.new ≡ birth_vertices_of size bs) × (weights.new ≡ birth_weights_of size bs) }
 {
     let stride = size + size;
-    let mut b = 0;
-    while b < count {
-        let from = wide(fresh[b]) * stride;
+    for b in 0..count {
+        let from = fresh[b] as usize * stride;
         let until = from + stride;
         let at = b * size;
         let end = at + size;
@@ -176,7 +152,6 @@ fn write_births(
             &mut vertices[at..end],
             &mut weights[at..end],
         );
-        b += 1;
     }
 }
 

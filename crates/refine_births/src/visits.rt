@@ -19,8 +19,7 @@ pub fn write(
 {
     let stride = size + size;
     let total = m * p;
-    let mut x = 0;
-    while x < total {
+    for x in 0..total {
         let from = x / p * size;
         let until = from + size;
         let at = x % p * size;
@@ -33,6 +32,5 @@ pub fn write(
             n,
             &mut keys[to..past],
         );
-        x += 1;
     }
 }

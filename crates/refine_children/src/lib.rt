@@ -26,7 +26,7 @@ pub fn colex(
     requires { Arranging n count b words.now sorted.old order.old firsts.old buckets.old }
     ensures { Arranged n count words.now result sorted.new firsts.new }
 {
-    lists::copy(words, sorted);
+    sorted.copy_from_slice(words);
     multiindex::word::sort_words(sorted, n, count);
     sorting::sort_rows(sorted, n, count, b, order, firsts, buckets);
     sorting::distinct(sorted, n, count, order, firsts, buckets)
@@ -37,10 +37,8 @@ pub fn parents(size: usize, firsts: &[u32], to: &mut [u32])
     requires { (0 < size) × (length to.old ≤ length firsts.now) }
     ensures { to.new ≡ tab (length to.old) (λ i. get_or firsts.now i 0 / size) }
 {
-    let mut i = 0;
-    while i < to.len() {
-        to[i] = (lists::wide(firsts[i]) / size) as u32;
-        i += 1;
+    for (i, parent) in to.iter_mut().enumerate() {
+        *parent = (firsts[i] as usize / size) as u32;
     }
 }
 
@@ -98,9 +96,8 @@ pub fn jacobians(
     ensures wholes { wholes.new ≡ joined m (λ i. whole_at d size pattern.now words.now sorted.now along.now cells.now (get_or firsts.now i 0)) }
     ensures floats { floats.new ≡ joined m (λ i. float_at d r size pattern.now words.now sorted.now along.now cells.now (get_or firsts.now i 0)) }
 {
-    let mut i = 0;
-    while i < m {
-        let x = lists::wide(firsts[i]);
+    for i in 0..m {
+        let x = firsts[i] as usize;
         let at = i * SQUARE_MOST;
         let end = at + SQUARE_MOST;
         child(
@@ -116,6 +113,5 @@ pub fn jacobians(
             &mut wholes[at..end],
             &mut floats[at..end],
         );
-        i += 1;
     }
 }

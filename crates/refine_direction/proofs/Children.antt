@@ -1,5 +1,7 @@
 -- A complex with coherent signs, whose words agree on facets, refined by R: the inherited signs are coherent. The cells' words with their signs are lattice's `Signs`,
 -- each child's word descends from its parent's, and lattice's theorem that descending keeps the signs coherent is read back at the children's cells. Assumes nothing.
+use Rattle.refusal.specs.declared.Refusal.{Refusal}
+use Rattle.std.specs.Prelude.{Result}
 use mathlib.Core.Bool.{cond}
 use mathlib.Core.Path.{◌≡◌, refl, sym, ap, ◌∙◌, subst}
 use mathlib.Core.Logic.{◌≢◌, ◌⊎◌}
@@ -33,13 +35,13 @@ use Rattle.refine_jacobian.specs.Entries.{whole_of}
 use Rattle.refine_jacobian.proofs.Laws.{corner-in, entry_in}
 use Rattle.refine_results.specs.Refined.{refined_cells, refined_words, parent_of, parents}
 use Rattle.refine_results.specs.Results.{Results, results_of}
-use Rattle.refine_values.specs.declared.OneChild.{OneChild}
+use Rattle.refine_values.specs.declared.Child.{Child}
 use Rattle.refine_values.proofs.Handed.{child-handed}
 use Rattle.refine_laws.specs.Refinement.{Split}
 use Rattle.refine_laws.proofs.Listed.{Listed, counts-at, long-at, plain_at, word_in, one_cell, meets, mates-of}
 use Rattle.refine_laws.proofs.Again.{facets-of, refined-listed, of_sorted}
 use Rattle.refine_laws.proofs.Refinement.{split}
-use Rattle.refine_direction.specs.Direction.{matrix_of, determinant_of, sign_of_whole, inherited}
+use Rattle.refine_direction.specs.Direction.{matrix_of, determinant_of, sign_of_whole, inherited, child_said}
 use Rattle.refine_direction.proofs.Ranks.{rank-place}
 use Rattle.refine_direction.proofs.Parity.{bit, induced-bit, induced-even, opposed-odd, odd-opposed, flips-induced, product}
 
@@ -129,14 +131,14 @@ module _ (d R n : ℕ) (cs ks : List (List ℕ)) (l : Listed d n cs ks) (stage :
 
     determinant-is : determinant_of d h i ≡ laplace d J
     determinant-is =
-        ap (λ (o : OneChild). laplace d (matrix_of d o.child.whole)) (child-handed d R n cs ks i b)
+        ap (λ (o : Result Child Refusal). laplace d (matrix_of d (child_said o).whole)) (child-handed d R n cs ks i b)
         ∙ ap (λ (q : ℕ). laplace d (matrix_of d (whole_of d (share d R n ks) (cell_at cs q) (cell_at rcs i)))) parent_is
         ∙ (is-determinant d).reads (matrix_of d (whole_of d (share d R n ks) (cell_at cs p) (cell_at rcs i))) J
         (λ c r. holds d small (share d R n ks) (cell_at cs p) (cell_at rcs i) c r)
 
     inherited-is : inherited d h σ i ≡ times (σ p) (sign_of_whole (laplace d J))
     inherited-is =
-        ap (λ (o : OneChild). times (σ o.child.parent) (sign_of_whole (determinant_of d h i))) (child-handed d R n cs ks i b)
+        ap (λ (o : Result Child Refusal). times (σ (child_said o).parent) (sign_of_whole (determinant_of d h i))) (child-handed d R n cs ks i b)
         ∙ ap (λ (q : ℕ). times (σ q) (sign_of_whole (determinant_of d h i))) parent_is
         ∙ ap (λ (x : ℤ). times (σ p) (sign_of_whole x)) determinant-is
 

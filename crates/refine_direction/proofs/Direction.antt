@@ -19,7 +19,7 @@ use Rattle.orientation_laws.proofs.Coherent.{coherent-yes, coherent-found}
 use Rattle.ordering_words.specs.Order.{Orders}
 use Rattle.refine_lattice.specs.Refine.{words, vertices}
 use Rattle.refine_lattice.proofs.Fits.{Stage}
-use Rattle.refine_results.specs.declared.Refinement.TheVariants.{Made}
+use Rattle.refine_results.specs.Says.{sizes}
 use Rattle.refine_results.specs.Refined.{coarse, order_words, refined_cells, refined_words}
 use Rattle.refine_results.specs.Results.{Results, Refines, results_of}
 use Rattle.refine_laws.specs.Composition.{Accepted}
@@ -75,10 +75,10 @@ record Ready (d R : ℕ) (ws : List ℕ) (ks : List (List ℕ)) : Type 0 where
   taken : Taken d R (coarse ws) ks
 
 inherit-of : (d R : ℕ) (ws : List ℕ) (Good : Type 0) (ks : List (List ℕ)) → (Accepted d ws → Good → Refines d R (coarse ws) ks → Ready d R ws ks)
-    → (m N : ℕ) (h : Results) (σ : ℕ → Sign) → Called d R ws Good ks (Made m N) h → Coherent d (cells_of d ws) σ → Inherits d m h σ
+    → (m N : ℕ) (h : Results) (σ : ℕ → Sign) → Called d R ws Good ks (sizes m N) h → Coherent d (cells_of d ws) σ → Inherits d m h σ
 unfolding IsMade
 inherit-of d R ws Good ks f m N h σ x co =
-    let k : Makes d R ws Good ks (Made m N) h = tells d R ws Good ks x.given x.have x.used (Made m N) h x.comes tt in
+    let k : Makes d R ws Good ks (sizes m N) h = tells d R ws Good ks x.given x.have x.used (sizes m N) h x.comes tt in
     let y : Ready d R ws ks = f k.accepted k.good k.fits in
     let p : Passed d ws = fine-passed d ws k.accepted.fine in
     subst (λ (i : ℕ). Inherits d i h σ) (ap children_said (sym k.says))

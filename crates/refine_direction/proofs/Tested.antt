@@ -19,7 +19,7 @@ use Rattle.complex.specs.Facets.{cell_at, facet_at, Mates, Crowded}
 use Rattle.orientation_signs.specs.Signs.{Coherent}
 use Rattle.ordering_words.specs.Order.{AgreeOnFacets}
 use Rattle.refine_lattice.specs.Refine.{vertices}
-use Rattle.refine_results.specs.declared.Refinement.TheVariants.{Made}
+use Rattle.refine_results.specs.Says.{sizes}
 use Rattle.refine_results.specs.Refined.{coarse, refined_cells}
 use Rattle.refine_results.specs.Results.{Lengths, Holds, Refines, results_of, made}
 use Rattle.refine.specs.Space.{space_of, Enough}
@@ -29,7 +29,7 @@ use Rattle.refine_laws.specs.Calls.{Called}
 
 -- a call with lists just long enough, where nothing refuses it
 pub call : (d R : ℕ) (ws : List ℕ) (Good : Type 0) (ks : List (List ℕ)) → Accepted d ws → Good → Refines d R (coarse ws) ks
-    → Called d R ws Good ks (Made (length (refined_cells d R (coarse ws) ks)) (vertices d R (coarse ws) ks)) (results_of d R (coarse ws) (cells_of d ws) ks)
+    → Called d R ws Good ks (sizes (length (refined_cells d R (coarse ws) ks)) (vertices d R (coarse ws) ks)) (results_of d R (coarse ws) (cells_of d ws) ks)
 call d R ws Good ks a g f = record {
   given = given;
   have = space_of d (length ws) R;

@@ -1,10 +1,9 @@
 -- Document 02, "Children inherit direction": the parent's sign times the sign of the child's whole-number Jacobian determinant, which is +1 or -1, is coherent over the
 -- children. Over the lists that a refinement hands out, each child as the call `child` reads it from them. Assumes nothing.
-use Rattle.std.specs.Prelude.{List, ◌⊎◌, ◌≡◌, ℕ, suc, ◌+◌, ◌*◌, ◌<◌, ℤ, pos, negsuc, length, get_or}
-use Rattle.refusal.specs.declared.Verdict.{Verdict}
-use Rattle.refusal.specs.declared.Verdict.TheVariants.{Yes}
-use Rattle.refusal.specs.declared.Counted.TheVariants.{Refused}
-use Rattle.refusal.specs.Table.{no_signs}
+use Rattle.refusal.specs.declared.Refusal.{Refusal}
+use Rattle.refusal.specs.declared.Refusal.TheVariants.{NoSigns}
+use Rattle.refusal.specs.Says.{Verdict}
+use Rattle.std.specs.Prelude.{List, ◌⊎◌, ◌≡◌, ℕ, suc, ◌+◌, ◌*◌, ◌<◌, ℤ, pos, negsuc, length, get_or, replicate, true, Err, Ok, Result}
 use Rattle.lists.specs.Rows.{rows}
 use Rattle.multiindex.specs.Sign.{Sign, plus, minus, times}
 use Rattle.complex.specs.Cells.{cells_of}
@@ -14,16 +13,22 @@ use Rattle.orientation.specs.Promise.{counted_of}
 use Rattle.orientation_laws.specs.Asked.{OrientByCalled, OrientationCalled}
 use Rattle.ordering_words.specs.Order.{AgreeOnFacets}
 use Rattle.refine_lattice.specs.Jacobian.{Matrix, laplace}
-use Rattle.refine_results.specs.declared.Refinement.TheVariants.{Made}
+use Rattle.refine_jacobian.specs.Entries.{nought}
+use Rattle.refine_results.specs.Says.{sizes}
 use Rattle.refine_results.specs.Refined.{order_words}
 use Rattle.refine_results.specs.Results.{Results}
 use Rattle.refine_values.specs.declared.Child.{Child}
 use Rattle.refine_values.specs.Reading.{child_of}
 use Rattle.refine_laws.specs.Calls.{Refine, RefineWith}
 
+-- what is read of a child: all zero where it is refused
+abbrev pub child_said : Result Child Refusal → Child
+child_said (Ok child) = child
+child_said (Err why) = record { parent = 0; jacobian = replicate 9 nought; whole = replicate 9 (pos 0) }
+
 -- child i of the lists h
 abbrev pub child_in : Results → ℕ → Child
-child_in h i = (child_of i h.parents_out h.jacobians_out h.wholes_out).child
+child_in h i = child_said (child_of i h.parents_out h.jacobians_out h.wholes_out)
 
 -- the matrix that a child's entries hold: d columns of d entries, column by column
 abbrev pub matrix_of : ℕ → List ℤ → Matrix
@@ -49,8 +54,8 @@ pub record Inherits (d m : ℕ) (h : Results) (σ : ℕ → Sign) : Type 0 where
   -- the inherited signs are coherent over the children
   pub coherent : Coherent d (cells_of d h.cells_out) (inherited d h σ)
   -- so `orient_by` says yes to them, above dimension 0, and `orientation` never says that there are none
-  pub agreed : 0 < d → (r : Verdict) → OrientByCalled d h.cells_out (sign_list (inherited d h σ) m) r → r ≡ Yes
-  pub two_sided : (r : Coherence) → OrientationCalled d h.cells_out r → counted_of r ≡ Refused no_signs 0 → ⊥
+  pub agreed : 0 < d → (r : Verdict) → OrientByCalled d h.cells_out (sign_list (inherited d h σ) m) r → r ≡ Ok true
+  pub two_sided : (r : Result Coherence Refusal) → OrientationCalled d h.cells_out r → counted_of r ≡ Err NoSigns → ⊥
   -- where cell i of the children is row i of their cells
   pub cells : cells_of d h.cells_out ≡ rows (suc d) h.cells_out
   pub many : length (cells_of d h.cells_out) ≡ m
@@ -60,7 +65,7 @@ pub record Inherits (d m : ℕ) (h : Results) (σ : ℕ → Sign) : Type 0 where
 unfoldable pub InheritLaw : ℕ → ℕ → List ℕ → List ℕ → Type 0
 InheritLaw d R ws os =
     (m N : ℕ) (h : Results) (σ : ℕ → Sign)
-    → RefineWith d R ws os (Made m N) h
+    → RefineWith d R ws os (sizes m N) h
     → AgreeOnFacets d (cells_of d ws) (order_words d ws os)
     → Coherent d (cells_of d ws) σ
     → Inherits d m h σ
@@ -68,4 +73,4 @@ InheritLaw d R ws os =
 -- and along the cells' sorted vertices, which always agree
 unfoldable pub InheritLawSorted : ℕ → ℕ → List ℕ → Type 0
 InheritLawSorted d R ws =
-    (m N : ℕ) (h : Results) (σ : ℕ → Sign) → Refine d R ws (Made m N) h → Coherent d (cells_of d ws) σ → Inherits d m h σ
+    (m N : ℕ) (h : Results) (σ : ℕ → Sign) → Refine d R ws (sizes m N) h → Coherent d (cells_of d ws) σ → Inherits d m h σ

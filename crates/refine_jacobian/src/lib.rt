@@ -24,10 +24,8 @@ pub fn shares(r: u32, weights: &[u32], to: &mut [f64])
     requires { length to.old ≡ length weights.now }
     ensures { to.new ≡ map (share_of r) weights.now }
 {
-    let mut i = 0;
-    while i < weights.len() {
-        to[i] = share(r, weights[i]);
-        i += 1;
+    for (i, &w) in weights.iter().enumerate() {
+        to[i] = share(r, w);
     }
 }
 
@@ -35,14 +33,12 @@ pub fn shares(r: u32, weights: &[u32], to: &mut [f64])
 fn place(word: &[u32], v: u32) -> usize
     ensures { result ≡ place_of word.now v }
 {
-    let mut i = 0;
-    while i < word.len() {
-        if word[i] == v {
+    for (i, &x) in word.iter().enumerate() {
+        if x == v {
             return i;
         }
-        i += 1;
     }
-    i
+    word.len()
 }
 
 // Where each number of a list stands in the word.
@@ -51,10 +47,8 @@ fn places(word: &[u32], list: &[u32]) -> [usize; ROW_MOST]
     ensures { (j : ℕ) → j < length list.now → get_or result j 0 ≡ place_of word.now (get_or list.now j 0) }
 {
     let mut to = [0; ROW_MOST];
-    let mut j = 0;
-    while j < list.len() {
-        to[j] = place(word, list[j]);
-        j += 1;
+    for (j, &v) in list.iter().enumerate() {
+        to[j] = place(word, v);
     }
     to
 }
@@ -108,17 +102,14 @@ pub fn both(
     let seats = places(names, cell);
     let slots = places(word, parent);
     let size = d * d;
-    let mut e = 0;
-    while e < SQUARE_MOST {
+    for e in 0..SQUARE_MOST {
         if size <= e {
             whole[e] = 0;
             float[e] = 0.0;
-            e += 1;
             continue;
         }
         let s = step(d, e, corners, seats, slots);
         whole[e] = s.to as i32 - s.from as i32;
         float[e] = share(r, s.to) - share(r, s.from);
-        e += 1;
     }
 }

@@ -1,4 +1,6 @@
 -- The law of three calls over what they say and hand out, from the law of their definitions: proofs/Demand reads it from the caller's lists. Assumes nothing.
+use Rattle.refusal.specs.declared.Refusal.{Refusal}
+use Rattle.std.specs.Prelude.{Result}
 use mathlib.Core.Path.{◌≡◌, sym, ap, ◌∙◌, subst}
 use mathlib.Core.List.{List}
 use Prim.Native.Nat.{ℕ, suc, ◌*◌, ◌≤◌, ◌<◌}
@@ -14,7 +16,7 @@ use Rattle.refine_lattice.specs.Refine.{vertices, share}
 use Rattle.lists.proofs.Sums.{sum-ext}
 use Rattle.refine_lattice.proofs.Fits.{Stage}
 use Rattle.refine_results.specs.declared.Refinement.{Refinement}
-use Rattle.refine_results.specs.declared.Refinement.TheVariants.{Made}
+use Rattle.refine_results.specs.Says.{sizes}
 use Rattle.refine_results.specs.Refined.{coarse, order_words, refined_cells, refined_words}
 use Rattle.refine_results.specs.Results.{Results, Refines, results_of}
 use Rattle.refine_laws.specs.Composition.{Accepted, Renamed, Composes}
@@ -100,22 +102,22 @@ module _ (d a b : ℕ) (ws : List ℕ) (Good : Type 0) (ks : List (List ℕ)) (s
         c.as_many_vertices renamed))
 
     -- the second call, on what the first hands out
-    over : (r₁ r₂ : Refinement) (h₂ : Results) → r₁ ≡ Made (length (refined_cells d a n ks)) (vertices d a n ks)
+    over : (r₁ r₂ : Result Refinement Refusal) (h₂ : Results) → r₁ ≡ sizes (length (refined_cells d a n ks)) (vertices d a n ks)
         → Makes d b ws₁ (Orders d (cells_of d ws₁) os₁) ks₁ r₂ h₂
         → Tower d a b ws (length (refined_cells d (a * b) n ks)) (vertices d (a * b) n ks) single r₁ first r₂ h₂
     over r₁ r₂ h₂ e m =
         record {
           children = length (refined_cells d a n ks);
-          first = e ∙ ap (Made (length (refined_cells d a n ks))) (sym c.counted);
-          second = m.says ∙ ap (λ (i : ℕ). Made i (vertices d b n₁ ks₁)) c.as_many_cells ∙ ap (Made (length (refined_cells d (a * b) n ks))) c.as_many_vertices;
+          first = e ∙ ap (sizes (length (refined_cells d a n ks))) (sym c.counted);
+          second = m.says ∙ ap (λ (i : ℕ). sizes i (vertices d b n₁ ks₁)) c.as_many_cells ∙ ap (sizes (length (refined_cells d (a * b) n ks))) c.as_many_vertices;
           words =
               subst
               (λ (y : Results). Renamed n N N (rows (suc d) y.words_out) (rows (suc d) single.words_out) (through n₁ (told d a n first) (told d b n₁ y)) (told d (a * b) n single))
               (sym m.hands) same_lists;
         }
 
-  pub tower-of : (m M : ℕ) (h : Results) (r₁ : Refinement) (h₁ : Results) (r₂ : Refinement) (h₂ : Results)
-      → Makes d (a * b) ws Good ks (Made m M) h
+  pub tower-of : (m M : ℕ) (h : Results) (r₁ : Result Refinement Refusal) (h₁ : Results) (r₂ : Result Refinement Refusal) (h₂ : Results)
+      → Makes d (a * b) ws Good ks (sizes m M) h
       → Makes d a ws Good ks r₁ h₁
       → Makes d b h₁.cells_out (Orders d (cells_of d h₁.cells_out) h₁.words_out) (order_words d h₁.cells_out h₁.words_out) r₂ h₂
       → Tower d a b ws m M h r₁ h₁ r₂ h₂

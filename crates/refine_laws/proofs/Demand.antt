@@ -1,5 +1,7 @@
 -- DEMAND 3 over the promise and the caller's own lists: what is read of a list at exit is what was handed out, and what was handed out obeys the law of three calls.
 -- Assumes nothing.
+use Rattle.refusal.specs.declared.Refusal.{Refusal}
+use Rattle.std.specs.Prelude.{Result}
 use mathlib.Core.Path.{◌≡◌, refl, sym, ap, ◌∙◌, subst}
 use mathlib.Core.List.Memᴰ
 use mathlib.Core.List.{List, map}
@@ -26,7 +28,7 @@ use Rattle.refine_births.specs.Support.{supporters, shares, padded}
 use Rattle.refine_births.specs.Promise.{birth_weights_of}
 use Rattle.refine_jacobian.specs.Entries.{share_of, whole_of, float_of}
 use Rattle.refine_results.specs.declared.Refinement.{Refinement}
-use Rattle.refine_results.specs.declared.Refinement.TheVariants.{Made}
+use Rattle.refine_results.specs.Says.{sizes}
 use Rattle.refine_results.specs.Refined.{coarse, order_words, refined_cells, refined_words, parent_of}
 use Rattle.refine_results.specs.Results.{Results, Refines, results_of, Stored}
 use Rattle.refine_laws.specs.Composition.{Accepted, Composes, Law, LawSorted}
@@ -84,15 +86,15 @@ module _ (d R : ℕ) (ws : List ℕ) (ks : List (List ℕ)) (some : 0 < R) (soun
   abbrev handed : Results
   handed = results_of d R (coarse ws) (cells_of d ws) ks
 
-  abbrev said : Refinement
-  said = Made (length (refined_cells d R (coarse ws) ks)) (vertices d R (coarse ws) ks)
+  abbrev said : Result Refinement Refusal
+  said = sizes (length (refined_cells d R (coarse ws) ks)) (vertices d R (coarse ws) ks)
 
   born : (vertices d R (coarse ws) ks - coarse ws) * suc d ≡ length (births d R (coarse ws) ks) * suc d
   born = ap (λ (k : ℕ). k * suc d) {x = vertices d R (coarse ws) ks - coarse ws} {y = length (births d R (coarse ws) ks)} (omega arith)
 
   read-stored : Stored (results_of d R (coarse ws) (cells_of d ws) ks) l.out_cells l'.out_cells l.out_words l'.out_words l.parents l'.parents
       l.jacobians l'.jacobians l.wholes l'.wholes l.birth_vertices l'.birth_vertices l.birth_weights l'.birth_weights l.birth_shares l'.birth_shares
-      → read_by d ws (Made (length (refined_cells d R (coarse ws) ks)) (vertices d R (coarse ws) ks)) l' ≡ results_of d R (coarse ws) (cells_of d ws) ks
+      → read_by d ws (sizes (length (refined_cells d R (coarse ws) ks)) (vertices d R (coarse ws) ks)) l' ≡ results_of d R (coarse ws) (cells_of d ws) ks
   read-stored s =
       let n : ℕ = coarse ws in
       let cs : List (List ℕ) = cells_of d ws in
@@ -116,10 +118,10 @@ module _ (d R : ℕ) (ws : List ℕ) (ks : List (List ℕ)) (some : 0 < R) (soun
       }
 
 -- the same of a call that is not refused
-pub read-handed : (d R : ℕ) (ws : List ℕ) (Good : Type 0) (ks : List (List ℕ)) → Sound d (coarse ws) (In ks) → Nodup ks → (r : Refinement) (l l' : Lists)
+pub read-handed : (d R : ℕ) (ws : List ℕ) (Good : Type 0) (ks : List (List ℕ)) → Sound d (coarse ws) (In ks) → Nodup ks → (r : Result Refinement Refusal) (l l' : Lists)
     → (x : Promised d R ws Good ks r l l') → Makes d R ws Good ks r x.handed → read_by d ws r l' ≡ x.handed
 read-handed d R ws Good ks sound nodup r l l' x k =
-    ap (λ (s : Refinement). read_by d ws s l') k.says
+    ap (λ (s : Result Refinement Refusal). read_by d ws s l') k.says
     ∙ read-stored d R ws ks k.fits.least sound nodup l l'
     (subst
     (λ (h : Results).
@@ -129,33 +131,33 @@ read-handed d R ws Good ks sound nodup r l l' x k =
     ∙ sym k.hands
 
 -- so the laws over what a call says and hands out (`Refine`, `RefineWith`) hold of the caller's own lists, whether an order agrees or not
-pub read-with : (d R : ℕ) (ws os : List ℕ) (m N : ℕ) (l l' : Lists) → RefineWithPromised d R ws os (Made m N) l l' → RefineWith d R ws os (Made m N) (read_by d ws (Made m N) l')
+pub read-with : (d R : ℕ) (ws os : List ℕ) (m N : ℕ) (l l' : Lists) → RefineWithPromised d R ws os (sizes m N) l l' → RefineWith d R ws os (sizes m N) (read_by d ws (sizes m N) l')
 unfolding IsMade
 read-with d R ws os m N l l' x =
     let ks : List (List ℕ) = order_words d ws os in
-    let k : Makes d R ws (Orders d (cells_of d ws) os) ks (Made m N) x.handed = tells d R ws _ ks _ _ _ (Made m N) x.handed x.comes tt in
+    let k : Makes d R ws (Orders d (cells_of d ws) os) ks (sizes m N) x.handed = tells d R ws _ ks _ _ _ (sizes m N) x.handed x.comes tt in
     let p : Passed d ws = fine-passed d ws k.accepted.fine in
     let h : Listed d (coarse ws) (cells_of d ws) ks = order-listed d ws p os k.good in
-    subst (λ (y : Results). RefineWith d R ws os (Made m N) y)
-    (sym (read-handed d R ws _ ks (sound-of d ws p ks h k.accepted.uncrowded) (listed-nodup d (coarse ws) (cells_of d ws) ks h) (Made m N) l l' x k))
+    subst (λ (y : Results). RefineWith d R ws os (sizes m N) y)
+    (sym (read-handed d R ws _ ks (sound-of d ws p ks h k.accepted.uncrowded) (listed-nodup d (coarse ws) (cells_of d ws) ks h) (sizes m N) l l' x k))
     (promised-called d R ws (Orders d (cells_of d ws) os) ks m N l l' x)
 
-pub read-sorted : (d R : ℕ) (ws : List ℕ) (m N : ℕ) (l l' : Lists) → RefinePromised d R ws (Made m N) l l' → Refine d R ws (Made m N) (read_by d ws (Made m N) l')
+pub read-sorted : (d R : ℕ) (ws : List ℕ) (m N : ℕ) (l l' : Lists) → RefinePromised d R ws (sizes m N) l l' → Refine d R ws (sizes m N) (read_by d ws (sizes m N) l')
 unfolding IsMade
 read-sorted d R ws m N l l' x =
     let ks : List (List ℕ) = cells_of d ws in
-    let k : Makes d R ws (Unit {0}) ks (Made m N) x.handed = tells d R ws _ ks _ _ _ (Made m N) x.handed x.comes tt in
+    let k : Makes d R ws (Unit {0}) ks (sizes m N) x.handed = tells d R ws _ ks _ _ _ (sizes m N) x.handed x.comes tt in
     let p : Passed d ws = fine-passed d ws k.accepted.fine in
     let h : Listed d (coarse ws) ks ks = cells-listed d ws p in
-    subst (λ (y : Results). Refine d R ws (Made m N) y)
-    (sym (read-handed d R ws _ ks (sound-of d ws p ks h k.accepted.uncrowded) (listed-nodup d (coarse ws) ks ks h) (Made m N) l l' x k))
+    subst (λ (y : Results). Refine d R ws (sizes m N) y)
+    (sym (read-handed d R ws _ ks (sound-of d ws p ks h k.accepted.uncrowded) (listed-nodup d (coarse ws) ks ks h) (sizes m N) l l' x k))
     (promised-called d R ws (Unit {0}) ks m N l l' x)
 
 -- ---- the tower
-module _ (d a b : ℕ) (ws : List ℕ) (Good : Type 0) (ks : List (List ℕ)) (stage : Accepted d ws → Good → Stage d (coarse ws) ks) (law : Accepted d ws → Good → Refines d (a * b) (coarse ws) ks → Composes d a b (coarse ws) ks (flat (refined_cells d a (coarse ws) ks)) (flat (refined_words d a (coarse ws) ks))) (m N : ℕ) (r₁ r₂ : Refinement) (l l' l₁ l₁' l₂ l₂' : Lists) where
+module _ (d a b : ℕ) (ws : List ℕ) (Good : Type 0) (ks : List (List ℕ)) (stage : Accepted d ws → Good → Stage d (coarse ws) ks) (law : Accepted d ws → Good → Refines d (a * b) (coarse ws) ks → Composes d a b (coarse ws) ks (flat (refined_cells d a (coarse ws) ks)) (flat (refined_words d a (coarse ws) ks))) (m N : ℕ) (r₁ r₂ : Result Refinement Refusal) (l l' l₁ l₁' l₂ l₂' : Lists) where
   -- what stands in the lists at exit
   abbrev single : Results
-  single = read_by d ws (Made m N) l'
+  single = read_by d ws (sizes m N) l'
 
   -- the second call, given what the first handed out
   abbrev Second : Results → Type 0
@@ -167,7 +169,7 @@ module _ (d a b : ℕ) (ws : List ℕ) (Good : Type 0) (ks : List (List ℕ)) (s
   abbrev first : Results
   first = results_of d a (coarse ws) (cells_of d ws) ks
 
-  over : (c : Composes d a b (coarse ws) ks first.cells_out first.words_out) → Makes d (a * b) ws Good ks (Made m N) single → Makes d a ws Good ks r₁ first
+  over : (c : Composes d a b (coarse ws) ks first.cells_out first.words_out) → Makes d (a * b) ws Good ks (sizes m N) single → Makes d a ws Good ks r₁ first
       → Second first → HadRoom r₂ → Done first
   over c y y₁ x₂ t =
       let ws₁ : List ℕ = first.cells_out in
@@ -179,17 +181,17 @@ module _ (d a b : ℕ) (ws : List ℕ) (Good : Type 0) (ks : List (List ℕ)) (s
       subst (λ (h : Results). Tower d a b ws m N single r₁ first r₂ h) (sym (read-handed d b ws₁ _ ks₁ s.sound s.nodup r₂ l₂ l₂' x₂ k))
       (tower-of d a b ws Good ks stage law m N single r₁ first r₂ x₂.handed y y₁ k)
 
-  pub demand-of : Promised d (a * b) ws Good ks (Made m N) l l' → Promised d a ws Good ks r₁ l₁ l₁' → HadRoom r₁ → Second (read_by d ws r₁ l₁') → HadRoom r₂
+  pub demand-of : Promised d (a * b) ws Good ks (sizes m N) l l' → Promised d a ws Good ks r₁ l₁ l₁' → HadRoom r₁ → Second (read_by d ws r₁ l₁') → HadRoom r₂
       → Done (read_by d ws r₁ l₁')
   unfolding IsMade
   demand-of x x₁ t₁ x₂ t₂ =
-      let k : Makes d (a * b) ws Good ks (Made m N) x.handed = tells d (a * b) ws Good ks _ _ _ (Made m N) x.handed x.comes tt in
+      let k : Makes d (a * b) ws Good ks (sizes m N) x.handed = tells d (a * b) ws Good ks _ _ _ (sizes m N) x.handed x.comes tt in
       let s : Stage d (coarse ws) ks = stage k.accepted k.good in
       let c : Composes d a b (coarse ws) ks first.cells_out first.words_out = law k.accepted k.good k.fits in
       let i : IsMade r₁ = is_made d a ws Good ks _ k.accepted k.good c.first _ _ r₁ x₁.handed t₁ x₁.comes in
       let k₁ : Makes d a ws Good ks r₁ x₁.handed = tells d a ws Good ks _ _ _ r₁ x₁.handed x₁.comes i in
-      let y : Makes d (a * b) ws Good ks (Made m N) single =
-      subst (λ (h : Results). Makes d (a * b) ws Good ks (Made m N) h) (sym (read-handed d (a * b) ws Good ks s.sound s.nodup (Made m N) l l' x k)) k in
+      let y : Makes d (a * b) ws Good ks (sizes m N) single =
+      subst (λ (h : Results). Makes d (a * b) ws Good ks (sizes m N) h) (sym (read-handed d (a * b) ws Good ks s.sound s.nodup (sizes m N) l l' x k)) k in
       let y₁ : Makes d a ws Good ks r₁ first = subst (λ (h : Results). Makes d a ws Good ks r₁ h) k₁.hands k₁ in
       let e : first ≡ read_by d ws r₁ l₁' = sym (read-handed d a ws Good ks s.sound s.nodup r₁ l₁ l₁' x₁ k₁ ∙ k₁.hands) in
       subst (λ (h : Results). Second h → HadRoom r₂ → Done h) e (over c y y₁) x₂ t₂

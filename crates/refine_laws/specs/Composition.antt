@@ -1,7 +1,7 @@
 -- Demand 3 over the definitions that the refinement calls promise: refining by a, then by b along the children's own words, against refining once by a times b.
 -- Assumes nothing.
+use Rattle.refusal.specs.Says.{fine}
 use Rattle.std.specs.Prelude.{List, map, ◌≡◌, ℕ, ◌*◌, ◌<◌, length}
-use Rattle.refusal.specs.declared.Answer.TheVariants.{Fine}
 use Rattle.lists.specs.Rows.{flat}
 use Rattle.complex.specs.Cells.{cells_of}
 use Rattle.complex.specs.Check.{answer_of}
@@ -14,7 +14,7 @@ use Rattle.refine_results.specs.Results.{Refines}
 
 -- an accepted complex: none of 1 to 7 applies
 pub record Accepted (d : ℕ) (ws : List ℕ) : Type 0 where
-  pub fine : answer_of d ws ≡ Fine
+  pub fine : answer_of d ws ≡ fine
   pub uncrowded : Crowded d (cells_of d ws) → ⊥
 
 -- an order of it that agrees on every facet of two cells: 16 does not apply

@@ -1,4 +1,8 @@
 -- The checks of `corners`, what they tell, and how it ends. Assumes nothing.
+use Rattle.refusal.specs.declared.Refusal.{Refusal}
+use Rattle.refusal.specs.declared.Refusal.TheVariants.{BadDimension, BadRefinement, TooManyCells, TooShort}
+use Rattle.refusal.specs.Says.{Answer, fine}
+use Rattle.std.specs.Prelude.{Err, Ok}
 use mathlib.Core.Path.{◌≡◌, refl, sym, ap, ◌∙◌}
 use mathlib.Core.Bool.{Bool, true, false, not}
 use mathlib.Core.List.{List}
@@ -10,9 +14,6 @@ use native.Mathlib.Omega.{arith}
 use lib.Dec.{ltb, leb}
 use lib.ListN.{length}
 use borrow.Author.Tests.{lt-ltb, le-ltb, ltb-false, le-leb, lt-leb}
-use Rattle.refusal.specs.declared.Answer.{Answer}
-use Rattle.refusal.specs.declared.Answer.TheVariants.{Fine, Refused}
-use Rattle.refusal.specs.declared.Counted.TheVariants as counted
 use Rattle.refusal.specs.Limits.{most_dimension, most_cells}
 use Rattle.refusal.specs.Refuse.{refuse}
 use Rattle.refusal.specs.Lent.{onto}
@@ -38,54 +39,54 @@ outside-no (suc R) e = ltb-false 64 (suc R) e
 -- the answer, test by test
 module _ (d R len : ℕ) where
   abbrev fourth : Answer
-  fourth = refuse (ltb len (R ^ d * (suc d * suc d))) 12 0 Fine
+  fourth = refuse (ltb len (R ^ d * (suc d * suc d))) TooShort fine
 
   abbrev third : Answer
-  third = refuse (ltb most_cells (R ^ d)) 3 0 fourth
+  third = refuse (ltb most_cells (R ^ d)) TooManyCells fourth
 
   abbrev second : Answer
-  second = refuse (outside R) 11 0 third
+  second = refuse (outside R) BadRefinement third
 
-  pub says-dimension : most_dimension < d → Refused 1 0 ≡ answer_of d R len
-  says-dimension h = sym (ap (λ (t : Bool). refuse t 1 0 second) (lt-ltb 3 d h))
+  pub says-dimension : most_dimension < d → Err BadDimension ≡ answer_of d R len
+  says-dimension h = sym (ap (λ (t : Bool). refuse t BadDimension second) (lt-ltb 3 d h))
 
   module _ (h : d ≤ most_dimension) where
     first-passed : second ≡ answer_of d R len
-    first-passed = sym (ap (λ (t : Bool). refuse t 1 0 second) (le-ltb 3 d h))
+    first-passed = sym (ap (λ (t : Bool). refuse t BadDimension second) (le-ltb 3 d h))
 
-    pub says-refinement : outside R ≡ true → Refused 11 0 ≡ answer_of d R len
-    says-refinement e = sym (ap (λ (t : Bool). refuse t 11 0 third) e) ∙ first-passed
+    pub says-refinement : outside R ≡ true → Err BadRefinement ≡ answer_of d R len
+    says-refinement e = sym (ap (λ (t : Bool). refuse t BadRefinement third) e) ∙ first-passed
 
     module _ (e : outside R ≡ false) where
       second-passed : third ≡ answer_of d R len
-      second-passed = sym (ap (λ (t : Bool). refuse t 11 0 third) e) ∙ first-passed
+      second-passed = sym (ap (λ (t : Bool). refuse t BadRefinement third) e) ∙ first-passed
 
-      pub says-cells : most_cells < R ^ d → Refused 3 0 ≡ answer_of d R len
-      says-cells l = sym (ap (λ (t : Bool). refuse t 3 0 fourth) (lt-ltb 4096 (R ^ d) l)) ∙ second-passed
+      pub says-cells : most_cells < R ^ d → Err TooManyCells ≡ answer_of d R len
+      says-cells l = sym (ap (λ (t : Bool). refuse t TooManyCells fourth) (lt-ltb 4096 (R ^ d) l)) ∙ second-passed
 
       module _ (l : R ^ d ≤ most_cells) where
         third-passed : fourth ≡ answer_of d R len
-        third-passed = sym (ap (λ (t : Bool). refuse t 3 0 fourth) (le-ltb 4096 (R ^ d) l)) ∙ second-passed
+        third-passed = sym (ap (λ (t : Bool). refuse t TooManyCells fourth) (le-ltb 4096 (R ^ d) l)) ∙ second-passed
 
-        pub says-short : len < R ^ d * (suc d * suc d) → Refused 12 0 ≡ answer_of d R len
-        says-short s = sym (ap (λ (t : Bool). refuse t 12 0 Fine) (lt-ltb len (R ^ d * (suc d * suc d)) s)) ∙ third-passed
+        pub says-short : len < R ^ d * (suc d * suc d) → Err TooShort ≡ answer_of d R len
+        says-short s = sym (ap (λ (t : Bool). refuse t TooShort fine) (lt-ltb len (R ^ d * (suc d * suc d)) s)) ∙ third-passed
 
-        pub says-fine : R ^ d * (suc d * suc d) ≤ len → Fine ≡ answer_of d R len
-        says-fine s = sym (ap (λ (t : Bool). refuse t 12 0 Fine) (le-ltb len (R ^ d * (suc d * suc d)) s)) ∙ third-passed
+        pub says-fine : R ^ d * (suc d * suc d) ≤ len → fine ≡ answer_of d R len
+        says-fine s = sym (ap (λ (t : Bool). refuse t TooShort fine) (le-ltb len (R ^ d * (suc d * suc d)) s)) ∙ third-passed
 
-  -- what Fine tells
-  module _ (e : answer_of d R len ≡ Fine) where
-    one : (ltb most_dimension d ≡ false) × (second ≡ Fine)
-    one = refuse-fine _ _ _ _ e
+  -- what fine tells
+  module _ (e : answer_of d R len ≡ fine) where
+    one : (ltb most_dimension d ≡ false) × (second ≡ fine)
+    one = refuse-fine _ _ _ e
 
-    two : (outside R ≡ false) × (third ≡ Fine)
-    two = refuse-fine _ _ _ _ one.1
+    two : (outside R ≡ false) × (third ≡ fine)
+    two = refuse-fine _ _ _ one.1
 
-    three : (ltb most_cells (R ^ d) ≡ false) × (fourth ≡ Fine)
-    three = refuse-fine _ _ _ _ two.1
+    three : (ltb most_cells (R ^ d) ≡ false) × (fourth ≡ fine)
+    three = refuse-fine _ _ _ two.1
 
-    four : (ltb len (R ^ d * (suc d * suc d)) ≡ false) × (Fine ≡ Fine)
-    four = refuse-fine _ _ _ _ three.1
+    four : (ltb len (R ^ d * (suc d * suc d)) ≡ false) × (fine ≡ fine)
+    four = refuse-fine _ _ _ three.1
 
     pub few : Few d R
     few = record {
@@ -114,15 +115,15 @@ corners-count d R n e =
 
 -- the ways to end
 module _ (d R : ℕ) (to : List ℕ) where
-  pub ends-refused : (n p : ℕ) → answer_of d R (length to) ≡ Refused n p → Corners d R (counted.Refused n p) to to
-  ends-refused n p e = record {
+  pub ends-refused : (why : Refusal) → answer_of d R (length to) ≡ Err why → Corners d R (Err why) to to
+  ends-refused why e = record {
     says = sym (ap (λ (a : Answer). said a (pattern_of d R)) e);
     list = sym (ap (λ (a : Answer). onto (handed a (pattern_of d R)) to) e);
   }
 
-  pub ends-listed : (n : ℕ) (to' : List ℕ) → answer_of d R (length to) ≡ Fine → n ≡ length (pattern_of d R) → to' ≡ onto (flat (pattern_of d R)) to
-      → Corners d R (counted.Count n) to to'
+  pub ends-listed : (n : ℕ) (to' : List ℕ) → answer_of d R (length to) ≡ fine → n ≡ length (pattern_of d R) → to' ≡ onto (flat (pattern_of d R)) to
+      → Corners d R (Ok n) to to'
   ends-listed n to' e m l = record {
-    says = ap counted.Count m ∙ sym (ap (λ (a : Answer). said a (pattern_of d R)) e);
+    says = ap Ok m ∙ sym (ap (λ (a : Answer). said a (pattern_of d R)) e);
     list = l ∙ sym (ap (λ (a : Answer). onto (handed a (pattern_of d R)) to) e);
   }

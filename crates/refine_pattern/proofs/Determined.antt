@@ -1,9 +1,9 @@
 -- The promise of `corners` and of `corners_stepping` determines what is said and the list: the path by the table and the path by stepping give equal results on all
 -- inputs. Assumes nothing.
+use Rattle.refusal.specs.Says.{Counted}
 use mathlib.Core.List.{List}
 use mathlib.Core.Path.{◌≡◌, sym, ◌∙◌}
 use Prim.Native.Nat.{ℕ}
-use Rattle.refusal.specs.declared.Counted.{Counted}
 use Rattle.refine_pattern.specs.Promise.{Corners}
 
 -- THE TWO PATHS: two exits, of one call or of one of each, on equal inputs

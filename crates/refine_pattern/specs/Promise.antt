@@ -1,11 +1,8 @@
 -- What the calls `corners` and `corners_stepping` come to, on every input. Assumes nothing.
-use Rattle.std.specs.Prelude.{◌≡◌, Bool, true, List, [], ℕ, zero, suc, ◌*◌, ◌^◌, ◌≤◌, ltb, length}
-use Rattle.refusal.specs.declared.Answer.{Answer}
-use Rattle.refusal.specs.declared.Answer.TheVariants.{Fine, Refused}
-use Rattle.refusal.specs.declared.Counted.{Counted}
-use Rattle.refusal.specs.declared.Counted.TheVariants as counted
+use Rattle.refusal.specs.declared.Refusal.TheVariants.{BadDimension, BadRefinement, TooManyCells, TooShort}
+use Rattle.refusal.specs.Says.{Answer, Counted, fine}
+use Rattle.std.specs.Prelude.{◌≡◌, Bool, true, List, [], ℕ, zero, suc, ◌*◌, ◌^◌, ◌≤◌, ltb, length, Err, Ok}
 use Rattle.refusal.specs.Limits.{most_dimension, most_cells, most_refinement}
-use Rattle.refusal.specs.Table.{bad_dimension, bad_refinement, too_many_cells, too_short}
 use Rattle.refusal.specs.Refuse.{refuse}
 use Rattle.refusal.specs.Lent.{onto}
 use Rattle.lists.specs.Rows.{flat}
@@ -19,19 +16,19 @@ outside (suc R) = ltb most_refinement (suc R)
 -- the checks in their order, where the result list has `len` numbers: R^d children have d + 1 corners of d + 1 weights each
 abbrev pub answer_of : ℕ → ℕ → ℕ → Answer
 answer_of d R len =
-    refuse (ltb most_dimension d) bad_dimension 0
-    (refuse (outside R) bad_refinement 0
-    (refuse (ltb most_cells (R ^ d)) too_many_cells 0
-    (refuse (ltb len (R ^ d * (suc d * suc d))) too_short 0 Fine)))
+    refuse (ltb most_dimension d) BadDimension
+    (refuse (outside R) BadRefinement
+    (refuse (ltb most_cells (R ^ d)) TooManyCells
+    (refuse (ltb len (R ^ d * (suc d * suc d))) TooShort fine)))
 
 -- what is said and handed out after the checks: all rows, or the refusal and nothing
 abbrev pub said : Answer → List (List ℕ) → Counted
-said Fine rows = counted.Count (length rows)
-said (Refused number place) rows = counted.Refused number place
+said (Ok _) rows = Ok (length rows)
+said (Err why) rows = Err why
 
 abbrev pub handed : Answer → List (List ℕ) → List ℕ
-handed Fine rows = flat rows
-handed (Refused number place) rows = []
+handed (Ok _) rows = flat rows
+handed (Err why) rows = []
 
 -- the call says r, and the result list becomes that with '
 pub record Corners (d R : ℕ) (r : Counted) (to to' : List ℕ) : Type 0 where

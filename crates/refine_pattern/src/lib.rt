@@ -11,7 +11,7 @@
 
 mod table;
 
-ghost use Rattle.std.specs.Prelude.{◌≡◌, true, not, suc, ◌≤◌, length, replicate};
+ghost use Rattle.std.specs.Prelude.{◌≡◌, true, not, suc, ◌≤◌, length};
 ghost use Rattle.refusal.specs.Limits.{most_dimension, most_refinement};
 ghost use Rattle.refusal.specs.Lent.{onto};
 ghost use Rattle.lists.specs.Rows.{flat};
@@ -22,10 +22,7 @@ ghost use Rattle.refine_pattern.specs.WorkChains.{chain_at, keeps, weighed, give
 ghost use Rattle.refine_pattern.specs.Promise.{outside, answer_of, Few, Corners};
 
 use multiindex::{cartesian, permutation};
-use refusal::{
-    Answer, BAD_DIMENSION, BAD_REFINEMENT, Counted, MOST_CELLS, MOST_DIMENSION, MOST_REFINEMENT,
-    TOO_MANY_CELLS, TOO_SHORT,
-};
+use refusal::{MOST_CELLS, MOST_DIMENSION, MOST_REFINEMENT, Refusal};
 
 const AXES: usize = MOST_DIMENSION as usize;
 
@@ -41,14 +38,11 @@ fn falls(r: u32, s: &[u32]) -> bool
     ensures { result ≡ qualifies r s.now }
 {
     let mut top = r;
-    let mut j = 0;
-    while j < s.len() {
-        let x = s[j];
+    for &x in s {
         if top < x {
             return false;
         }
         top = x;
-        j += 1;
     }
     true
 }
@@ -59,14 +53,11 @@ fn weigh(r: u32, s: &[u32], to: &mut [u32])
     ensures { to.new ≡ weights r s.now }
 {
     let mut top = r;
-    let mut j = 0;
-    while j < s.len() {
-        let x = s[j];
+    for (j, &x) in s.iter().enumerate() {
         to[j] = top - x;
         top = x;
-        j += 1;
     }
-    to[j] = top;
+    to[s.len()] = top;
 }
 
 // Whether all points of the cursor's chain qualify.
@@ -76,14 +67,12 @@ fn kept(d: usize, r: u32, c: Cursor) -> bool
 {
     let mut s = c.base;
     let k = c.order;
-    let mut i = 0;
-    while i < d {
+    for i in 0..d {
         if !falls(r, &s[..d]) {
             return false;
         }
         let j = permutation::axis(d, k, i);
-        s[j] = s[j] + 1;
-        i += 1;
+        s[j] += 1;
     }
     falls(r, &s[..d])
 }
@@ -97,14 +86,12 @@ fn write(d: usize, r: u32, c: Cursor, to: &mut [u32])
     let mut s = c.base;
     let k = c.order;
     let mut at = 0;
-    let mut i = 0;
-    while i < d {
+    for i in 0..d {
         let end = at + n;
         weigh(r, &s[..d], &mut to[at..end]);
         let j = permutation::axis(d, k, i);
-        s[j] = s[j] + 1;
+        s[j] += 1;
         at = end;
-        i += 1;
     }
     weigh(r, &s[..d], &mut to[at..]);
 }
@@ -123,32 +110,19 @@ fn give(d: usize, r: u32, c: Cursor, to: &mut [u32]) -> usize
     size
 }
 
-// Makes all numbers of a list the same.
-fn fill(list: &mut [u32], x: u32)
-    ensures { list.new ≡ replicate (length list.old) x }
-{
-    let mut i = 0;
-    while i < list.len() {
-        list[i] = x;
-        i += 1;
-    }
-}
-
 // Goes on to the next point that falls from r: the first coordinate below r goes up by one, and those before it become its equal. After the last point all are 0.
 fn rise(r: u32, s: &mut [u32])
     ensures { s.new ≡ risen r s.old }
 {
-    let mut j = 0;
-    while j < s.len() {
+    for j in 0..s.len() {
         let x = s[j];
-        let end = j + 1;
         if x < r {
-            fill(&mut s[..end], x + 1);
+            let end = j + 1;
+            s[..end].fill(x + 1);
             return;
         }
-        j = end;
     }
-    fill(s, 0);
+    s.fill(0);
 }
 
 // The cursor's next place: the next axis order, and after the last one the next base that falls from r and the first order.
@@ -171,12 +145,8 @@ fn chain_count(d: usize, r: u32) -> usize
     ensures { result ≡ length (falling_chains d r) }
 {
     let mut total = 1;
-    let mut next = r as usize;
-    let mut j = 0;
-    while j < d {
-        next += 1;
-        total = total * next;
-        j += 1;
+    for j in 0..d {
+        total *= r as usize + j + 1;
     }
     total
 }
@@ -192,12 +162,10 @@ fn stepped(d: usize, r: u32, to: &mut [u32])
         order: 0,
     };
     let mut at = 0;
-    let mut m = 0;
-    while m < chains {
+    for _ in 0..chains {
         let used = give(d, r, c, &mut to[at..]);
         c = step(d, r, c);
         at += used;
-        m += 1;
     }
 }
 
@@ -229,24 +197,24 @@ fn inside(r: u32) -> bool
 }
 
 // What is wrong with asking for the corners of a cell of dimension d refined by r in a list of this length: 1, 11, 3, 12, or nothing.
-fn check(d: u32, r: u32, len: usize) -> Answer
+fn check(d: u32, r: u32, len: usize) -> Result<(), Refusal>
     ensures { result ≡ answer_of d r len }
 {
     if MOST_DIMENSION < d {
-        return Answer::Refused(BAD_DIMENSION, 0);
+        return Err(Refusal::BadDimension);
     }
     if !inside(r) {
-        return Answer::Refused(BAD_REFINEMENT, 0);
+        return Err(Refusal::BadRefinement);
     }
     let axes = d as usize;
     let children = cartesian::count(axes, r as usize);
     if MOST_CELLS < children {
-        return Answer::Refused(TOO_MANY_CELLS, 0);
+        return Err(Refusal::TooManyCells);
     }
     if len < children * ((axes + 1) * (axes + 1)) {
-        return Answer::Refused(TOO_SHORT, 0);
+        return Err(Refusal::TooShort);
     }
-    Answer::Fine
+    Ok(())
 }
 
 // How many corners the children of a cell of dimension d refined by r have.
@@ -258,28 +226,25 @@ fn count(d: usize, r: u32) -> u32
 }
 
 // Both calls: what is wrong, or the pattern and how many corners it has.
-fn listed(d: u32, r: u32, to: &mut [u32], by_steps: bool) -> Counted
+fn listed(d: u32, r: u32, to: &mut [u32], by_steps: bool) -> Result<u32, Refusal>
     ensures { Corners d r result to.old to.new }
 {
-    let checked = check(d, r, to.len());
-    if let Answer::Refused(number, place) = checked {
-        return Counted::Refused(number, place);
-    }
+    check(d, r, to.len())?;
     let axes = d as usize;
     pattern(axes, r, to, by_steps);
-    Counted::Count(count(axes, r))
+    Ok(count(axes, r))
 }
 
 // Writes the corners of the children of a cell of dimension d refined by r, d + 1 weights each, and says how many corners; those that the table has are read there.
 // Refused: 1, 11, 3 where there are too many children, 12 where the list is too short. A refusal changes no number.
-pub fn corners(d: u32, r: u32, to: &mut [u32]) -> Counted
+pub fn corners(d: u32, r: u32, to: &mut [u32]) -> Result<u32, Refusal>
     ensures { Corners d r result to.old to.new }
 {
     listed(d, r, to, false)
 }
 
 // The same by the stepping rule alone: it says and writes what `corners` does, on every input.
-pub fn corners_stepping(d: u32, r: u32, to: &mut [u32]) -> Counted
+pub fn corners_stepping(d: u32, r: u32, to: &mut [u32]) -> Result<u32, Refusal>
     ensures { Corners d r result to.old to.new }
 {
     listed(d, r, to, true)

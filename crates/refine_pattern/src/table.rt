@@ -48,11 +48,9 @@ fn unpack(corner: u16, to: &mut [u32])
     ensures { to.new ≡ unpacked (length to.old) corner }
 {
     let mut rest = corner as u32;
-    let mut j = 0;
-    while j < to.len() {
-        to[j] = rest % 16;
-        rest = rest / 16;
-        j += 1;
+    for weight in to.iter_mut() {
+        *weight = rest % 16;
+        rest /= 16;
     }
 }
 
@@ -66,12 +64,10 @@ pub(crate) fn tabled(d: usize, r: u32, to: &mut [u32])
     let first = start(d, r);
     let table = corners();
     let mut at = 0;
-    let mut i = 0;
-    while i < count {
+    for i in 0..count {
         let end = at + n;
         unpack(table[first + i], &mut to[at..end]);
         at = end;
-        i += 1;
     }
 }
 

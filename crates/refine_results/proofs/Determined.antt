@@ -1,4 +1,6 @@
 -- How a refinement ends determines what it says and hands out: two refinements of equal cells and words, with result lists as long, end alike. Assumes nothing.
+use Rattle.refusal.specs.declared.Refusal.{Refusal}
+use Rattle.std.specs.Prelude.{Result}
 use mathlib.Core.List.{List}
 use mathlib.Core.Path.{◌≡◌, refl, sym, ap, ◌∙◌}
 use Prim.Native.Nat.{ℕ, suc}
@@ -14,7 +16,7 @@ use Rattle.refine_results.specs.WorkStage.{Handed}
 within : (d R n : ℕ) (ks : List (List ℕ)) → Refines d R n ks → Inside R
 within d R n ks f = record { least = f.least; most = f.most }
 
-pub finishes-one : (d R n : ℕ) (cs ks : List (List ℕ)) (g : Lengths) (r r' : Refinement) (h h' : Results) → Finishes d R n cs ks g r h → Finishes d R n cs ks g r' h' → (r ≡ r') × (h ≡ h')
+pub finishes-one : (d R n : ℕ) (cs ks : List (List ℕ)) (g : Lengths) (r r' : Result Refinement Refusal) (h h' : Results) → Finishes d R n cs ks g r h → Finishes d R n cs ks g r' h' → (r ≡ r') × (h ≡ h')
 finishes-one d R n cs ks g r r' h h' (outside x) (outside y) = (refl, refl)
 finishes-one d R n cs ks g r r' h h' (outside x) (many_cells w y) = absurd (x w)
 finishes-one d R n cs ks g r r' h h' (outside x) (many_vertices w f y) = absurd (x w)
@@ -68,7 +70,7 @@ stored_one h h' e cells x x' words y y' parents z z' jacobians j j' wholes w w' 
     }
 
 -- two exits of one refinement: what is said and every result list are equal
-pub handed-one : (d R n m : ℕ) (coarse along : List ℕ) (r r' : Refinement) (cells x x' words y y' parents z z' : List ℕ) (jacobians j j' : List Float) (wholes w w' : List ℤ) (vertices v v' weights u u' : List ℕ) (shares s s' : List Float)
+pub handed-one : (d R n m : ℕ) (coarse along : List ℕ) (r r' : Result Refinement Refusal) (cells x x' words y y' parents z z' : List ℕ) (jacobians j j' : List Float) (wholes w w' : List ℤ) (vertices v v' weights u u' : List ℕ) (shares s s' : List Float)
     → Handed d R n m coarse along r cells x words y parents z jacobians j wholes w vertices v weights u shares s
     → Handed d R n m coarse along r' cells x' words y' parents z' jacobians j' wholes w' vertices v' weights u' shares s'
     → (r ≡ r') × Same x x' y y' z z' j j' w w' v v' u u' s s'

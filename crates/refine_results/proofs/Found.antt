@@ -1,4 +1,6 @@
 -- Finding the children's words: what is asked of the pattern and the births, and how it ends. Assumes nothing.
+use Rattle.refusal.specs.declared.Refusal.TheVariants.{TooManyVertices}
+use Rattle.std.specs.Prelude.{Err, Ok}
 use mathlib.Core.List.{List, [], Memᴰ}
 use mathlib.Core.Path.{◌≡◌, refl, sym, ap, ◌∙◌, subst}
 use Prim.Native.Nat.{ℕ, suc, ◌+◌, ◌*◌, ◌/◌, ◌%◌, ◌^◌, ◌<◌, ◌≤◌}
@@ -21,8 +23,7 @@ use Rattle.refine_lattice.proofs.Refines.{mem-at, words-below}
 use Rattle.refine_pattern.specs.WorkChains as chains
 use Rattle.refine_births.specs.Promise.{Resolving, Resolved}
 use Rattle.refine_births.proofs.Complex.{words-cut, words-many, vertices-many}
-use Rattle.refine_results.specs.declared.Refinement.{Refinement}
-use Rattle.refine_results.specs.declared.Refinement.TheVariants.{Made, Refused}
+use Rattle.refine_results.specs.declared.Counts.{Counts}
 use Rattle.refine_results.specs.WorkFlat.{Refining}
 use Rattle.refine_results.specs.Results.{Inside}
 use Rattle.refine_results.specs.WorkStage.{Spacious, Ready}
@@ -72,12 +73,12 @@ module _ (d R n m : ℕ) (along pattern keys rows spare counts : List ℕ) (q : 
         pub born-few : born < 2 ^ 32
         born-few = omega (arith, r.most, all-corners, mul-le-mul_right (suc d) f, mul-le-mul_left {m = suc d} {n = row_most} most_cells (omega (arith, q.ready.dim)))
 
-        pub sought-many : (s : ℕ) → s ≡ n → most_vertices < s + born → Sought d R n m along pattern' keys' fresh corners (Refused 6 0)
+        pub sought-many : (s : ℕ) → s ≡ n → most_vertices < s + born → Sought d R n m along pattern' keys' fresh corners (Err TooManyVertices)
         sought-many s i h = many_vertices w f (omega (arith, vertices-many d R n m p (cut (suc d) m along) born keys' fresh corners r))
 
-        pub sought-found : (s : ℕ) → s ≡ R ^ d → (v : ℕ) → v ≡ n → v + born ≤ most_vertices → Sought d R n m along pattern' keys' fresh corners (Made (m * s) born)
+        pub sought-found : (s : ℕ) → s ≡ R ^ d → (v : ℕ) → v ≡ n → v + born ≤ most_vertices → Sought d R n m along pattern' keys' fresh corners (Ok (record { children = m * s; births = born }))
         sought-found s i v j h =
-            subst (λ (x : ℕ). Sought d R n m along pattern' keys' fresh corners (Made (m * x) born)) (sym i)
+            subst (λ (x : ℕ). Sought d R n m along pattern' keys' fresh corners (Ok (record { children = m * x; births = born }))) (sym i)
             (found born (record {
               within = w;
               few_cells = f;
@@ -87,17 +88,17 @@ module _ (d R n m : ℕ) (along pattern keys rows spare counts : List ℕ) (q : 
             }))
 
 -- ---- what is found is asked for next
-found_of : (d R n m : ℕ) (along pattern keys fresh corners : List ℕ) (children born : ℕ) → Sought d R n m along pattern keys fresh corners (Made children born)
-    → (children ≡ m * R ^ d) × Found d R n m along pattern keys fresh corners born
-found_of d R n m along pattern keys fresh corners children born (found b f) = (refl, f)
+found_of : (d R n m : ℕ) (along pattern keys fresh corners : List ℕ) (counted : Counts) → Sought d R n m along pattern keys fresh corners (Ok counted)
+    → (counted.children ≡ m * R ^ d) × Found d R n m along pattern keys fresh corners counted.births
+found_of d R n m along pattern keys fresh corners counted (found b f) = (refl, f)
 
 module _ (d R n m : ℕ) (cells along pattern keys rows spare counts sorted firsts buckets : List ℕ) (q : Ready d R n m cells along pattern keys rows spare counts sorted firsts buckets)
-    (pattern' keys' rows' fresh corners : List ℕ) (said : Refinement) (sought : Sought d R n m along pattern' keys' fresh corners said) (children born : ℕ) (e : said ≡ Made children born)
-    (lk : length keys' ≡ length keys) (lr : length rows' ≡ length rows) (ls : length fresh ≡ length spare) (lc : length corners ≡ length counts) (count : ℕ) (ec : count ≡ children) where
-  told : (children ≡ m * R ^ d) × Found d R n m along pattern' keys' fresh corners born
-  told = found_of d R n m along pattern' keys' fresh corners children born (subst (λ (r : Refinement). Sought d R n m along pattern' keys' fresh corners r) e sought)
+    (pattern' keys' rows' fresh corners : List ℕ) (counted : Counts) (sought : Sought d R n m along pattern' keys' fresh corners (Ok counted))
+    (lk : length keys' ≡ length keys) (lr : length rows' ≡ length rows) (ls : length fresh ≡ length spare) (lc : length corners ≡ length counts) (count : ℕ) (ec : count ≡ counted.children) where
+  told : (counted.children ≡ m * R ^ d) × Found d R n m along pattern' keys' fresh corners counted.births
+  told = found_of d R n m along pattern' keys' fresh corners counted sought
 
-  f : Found d R n m along pattern' keys' fresh corners born
+  f : Found d R n m along pattern' keys' fresh corners counted.births
   f = told.1
 
   wide : Spacious d R n (m * R ^ d) pattern keys rows spare counts sorted firsts buckets
@@ -122,7 +123,7 @@ module _ (d R n m : ℕ) (cells along pattern keys rows spare counts sorted firs
   many = words-many d R n (cut (suc d) m along) ∙ ap (λ (x : ℕ). x * R ^ d) (cut-length (suc d) m along)
 
   -- the words stand in the first of the numbers
-  read : Resolved d R n m (R ^ d * suc d) (cut (suc d) m along) born keys' fresh (take (count * (d + 1)) corners)
+  read : Resolved d R n m (R ^ d * suc d) (cut (suc d) m along) counted.births keys' fresh (take (count * (d + 1)) corners)
   read = record {
     most = f.resolved.most;
     reads = take-take (m * (R ^ d * suc d)) (count * (d + 1)) corners (omega (arith, all, len_is)) ∙ f.resolved.reads;
@@ -141,11 +142,11 @@ module _ (d R n m : ℕ) (cells along pattern keys rows spare counts sorted firs
     words_of = q.words_of;
     pattern_is = f.pattern_is;
     names_long = omega (arith, length-names);
-    names_are = ap (λ (x : ℕ). cut (suc d) x (take (count * (d + 1)) corners)) (sym many) ∙ words-cut d R n m (R ^ d * suc d) (cut (suc d) m along) born keys' fresh (take (count * (d + 1)) corners) read;
+    names_are = ap (λ (x : ℕ). cut (suc d) x (take (count * (d + 1)) corners)) (sym many) ∙ words-cut d R n m (R ^ d * suc d) (cut (suc d) m along) counted.births keys' fresh (take (count * (d + 1)) corners) read;
   }
 
   -- every number of a word is below the number of vertices
-  low : (i : ℕ) → i < length (take (count * (d + 1)) corners) → get_or (take (count * (d + 1)) corners) i 0 < n + born
+  low : (i : ℕ) → i < length (take (count * (d + 1)) corners) → get_or (take (count * (d + 1)) corners) i 0 < n + counted.births
   low i l =
       let one : 0 < suc d = omega arith in
       let a : i / suc d < m * R ^ d = (div-lt_iff_lt-mul one).1 (omega (arith, length-names)) in
@@ -161,9 +162,9 @@ module _ (d R n m : ℕ) (cells along pattern keys rows spare counts sorted firs
       (subst (λ (w : List ℕ). Memᴰ w (words d R n (cut (suc d) m along))) is (mem-at (words d R n (cut (suc d) m along)) (i / suc d) (omega (arith, many))))
       (get_or (row (take (count * (d + 1)) corners) (suc d) (i / suc d)) (i % suc d) 0)
       (times-at (row (take (count * (d + 1)) corners) (suc d) (i / suc d)) (i % suc d) (omega (arith, long))) in
-      omega (arith, under, here, f.few_vertices, vertices-many d R n m (R ^ d * suc d) (cut (suc d) m along) born keys' fresh corners f.resolved)
+      omega (arith, under, here, f.few_vertices, vertices-many d R n m (R ^ d * suc d) (cut (suc d) m along) counted.births keys' fresh corners f.resolved)
 
-  within-keys : (b : ℕ) → b < born → get_or fresh b 0 * (suc d + suc d) + (suc d + suc d) ≤ length keys'
+  within-keys : (b : ℕ) → b < counted.births → get_or fresh b 0 * (suc d + suc d) + (suc d + suc d) ≤ length keys'
   within-keys b h =
       omega (
         arith,
@@ -174,7 +175,7 @@ module _ (d R n m : ℕ) (cells along pattern keys rows spare counts sorted firs
         ap (λ (x : ℕ). x * (suc d + suc d)) all,
       )
 
-  pub finishing : Finishing d R n m born cells along pattern' keys' rows' fresh (take (count * (d + 1)) corners) (take (count * (d + 1)) sorted) firsts buckets
+  pub finishing : Finishing d R n m counted.births cells along pattern' keys' rows' fresh (take (count * (d + 1)) corners) (take (count * (d + 1)) sorted) firsts buckets
   finishing = record {
     refining = refining;
     few_cells = f.few_cells;

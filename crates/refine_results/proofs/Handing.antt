@@ -1,4 +1,7 @@
 -- The results of a refinement from the children's words in colex order: each result list is what is written, and so the refinement ends as it is promised. Assumes nothing.
+use Rattle.refusal.specs.declared.Refusal.{Refusal}
+use Rattle.refusal.specs.declared.Refusal.TheVariants.{TooShort}
+use Rattle.std.specs.Prelude.{Err, Result}
 use mathlib.Core.Bool.{Bool, true, false}
 use mathlib.Core.List.{List, [], ◌∷◌, ◌++◌, map, append_assoc, append-nil}
 use mathlib.Core.Path.{◌≡◌, refl, sym, ap, ◌∙◌, subst}
@@ -7,7 +10,6 @@ use native.Mathlib.Omega.{arith}
 use lib.IntN.{ℤ}
 use lib.Ieee.{Float}
 use lib.ListN.{length, get_or, take, length-map}
-use Rattle.refusal.specs.Table.{too_short}
 use Rattle.refusal.specs.Lent.{onto}
 use Rattle.lists.specs.Rows.{cut, flat, row}
 use Rattle.lists.proofs.Laws.{map_at}
@@ -27,7 +29,7 @@ use Rattle.refine_children.specs.WorkColex.{Arranging, Arranged}
 use Rattle.refine_children.specs.WorkFamily.{joined, whole_at, float_at, Families}
 use Rattle.refine_births.specs.Promise.{Supports, birth_weights_of}
 use Rattle.refine_results.specs.declared.Refinement.{Refinement}
-use Rattle.refine_results.specs.declared.Refinement.TheVariants.{Made, Refused}
+use Rattle.refine_results.specs.Says.{sizes}
 use Rattle.refine_results.specs.Refined.{visit_of, refined_cells, refined_words, parent_of, parents, wholes, jacobians}
 use Rattle.refine_results.specs.Results.{Results, Lengths, Holds, Refines, Finishes, outside, many_cells, many_vertices, short, made, nothing, results_of, lengths_of}
 use Rattle.refine_results.specs.WorkStage.{Handed}
@@ -184,7 +186,7 @@ module _ (d R n m born : ℕ) (cells along pattern keys rows fresh names sorted�
       given = lengths_of cells₀ words₀ parents₀ jacobians₀ wholes₀ vertices₀ weights₀ shares₀
 
       pub handed-short : (b : Bool) → b ≡ false → Fits d kinds born given b
-          → Handed d R n m cells along (Refused too_short 0) cells₀ cells₀ words₀ words₀ parents₀ parents₀ jacobians₀ jacobians₀ wholes₀ wholes₀ vertices₀ vertices₀ weights₀ weights₀ shares₀ shares₀
+          → Handed d R n m cells along (Err TooShort) cells₀ cells₀ words₀ words₀ parents₀ parents₀ jacobians₀ jacobians₀ wholes₀ wholes₀ vertices₀ vertices₀ weights₀ weights₀ shares₀ shares₀
       handed-short b e f = record {
         handed = nothing;
         ends = short refines (f.no e results sized);
@@ -221,16 +223,16 @@ module _ (d R n m born : ℕ) (cells along pattern keys rows fresh names sorted�
           in_shares = omega (arith, holds.of_shares, sized.shares_size);
         }
 
-        ends : Finishes d R n (cut (suc d) m cells) (cut (suc d) m along) given (Made kinds (n + born)) results
+        ends : Finishes d R n (cut (suc d) m cells) (cut (suc d) m along) given (sizes kinds (n + born)) results
         ends =
-            subst (λ (x : ℕ). Finishes d R n (cut (suc d) m cells) (cut (suc d) m along) given (Made x (n + born)) results) many
-            (subst (λ (y : ℕ). Finishes d R n (cut (suc d) m cells) (cut (suc d) m along) given (Made (length (refined_cells d R n (cut (suc d) m along))) (n + y)) results) q.supports.long
+            subst (λ (x : ℕ). Finishes d R n (cut (suc d) m cells) (cut (suc d) m along) given (sizes x (n + born)) results) many
+            (subst (λ (y : ℕ). Finishes d R n (cut (suc d) m cells) (cut (suc d) m along) given (sizes (length (refined_cells d R n (cut (suc d) m along))) (n + y)) results) q.supports.long
             (made refines holds))
 
         pub handed-made : (cells' words' parents' : List ℕ) (jacobians' : List Float) (wholes' : List ℤ) (vertices' weights' : List ℕ) (shares' : List Float) (s : ℕ) → s ≡ R ^ d
             → Wrote d R s kinds firsts pattern names sorted along cells cells₀ cells' words₀ words' parents₀ parents' jacobians₀ jacobians' wholes₀ wholes'
             → ((bs : List (List ℕ)) → Supports (suc d) n born bs keys fresh → Bore d R bs vertices₀ vertices' weights₀ weights' shares₀ shares')
-            → Handed d R n m cells along (Made kinds (n + born)) cells₀ cells' words₀ words' parents₀ parents' jacobians₀ jacobians' wholes₀ wholes' vertices₀ vertices' weights₀ weights' shares₀ shares'
+            → Handed d R n m cells along (sizes kinds (n + born)) cells₀ cells' words₀ words' parents₀ parents' jacobians₀ jacobians' wholes₀ wholes' vertices₀ vertices' weights₀ weights' shares₀ shares'
         handed-made cells' words' parents' jacobians' wholes' vertices' weights' shares' s es c g =
             let w : Wrote d R (R ^ d) kinds firsts pattern names sorted along cells cells₀ cells' words₀ words' parents₀ parents' jacobians₀ jacobians' wholes₀ wholes' =
             subst (λ (x : ℕ). Wrote d R x kinds firsts pattern names sorted along cells cells₀ cells' words₀ words' parents₀ parents' jacobians₀ jacobians' wholes₀ wholes') es c in
@@ -254,7 +256,7 @@ module _ (d R n m born : ℕ) (cells along pattern keys rows fresh names sorted�
 -- ---- the refusals before the results are measured
 module _ (d R n m : ℕ) (cells along pattern keys fresh corners : List ℕ) (cells₀ words₀ parents₀ : List ℕ) (jacobians₀ : List Float) (wholes₀ : List ℤ) (vertices₀ weights₀ : List ℕ) (shares₀ : List Float) where
   -- a refusal hands out nothing
-  handed-nothing : (r : Refinement) → Finishes d R n (cut (suc d) m cells) (cut (suc d) m along) (lengths_of cells₀ words₀ parents₀ jacobians₀ wholes₀ vertices₀ weights₀ shares₀) r nothing
+  handed-nothing : (r : Result Refinement Refusal) → Finishes d R n (cut (suc d) m cells) (cut (suc d) m along) (lengths_of cells₀ words₀ parents₀ jacobians₀ wholes₀ vertices₀ weights₀ shares₀) r nothing
       → Handed d R n m cells along r cells₀ cells₀ words₀ words₀ parents₀ parents₀ jacobians₀ jacobians₀ wholes₀ wholes₀ vertices₀ vertices₀ weights₀ weights₀ shares₀ shares₀
   handed-nothing r f = record {
     handed = nothing;
@@ -262,14 +264,12 @@ module _ (d R n m : ℕ) (cells along pattern keys fresh corners : List ℕ) (ce
     stored = record { in_cells = refl; in_words = refl; in_parents = refl; in_jacobians = refl; in_wholes = refl; in_vertices = refl; in_weights = refl; in_shares = refl };
   }
 
-  refusals : (x y : ℕ) → Sought d R n m along pattern keys fresh corners (Refused x y)
-      → Finishes d R n (cut (suc d) m cells) (cut (suc d) m along) (lengths_of cells₀ words₀ parents₀ jacobians₀ wholes₀ vertices₀ weights₀ shares₀) (Refused x y) nothing
-  refusals x y (steps.outside h) = outside h
-  refusals x y (steps.many_cells w h) = many_cells w (omega (arith, ap (λ (k : ℕ). k * R ^ d) (cut-length (suc d) m along)))
-  refusals x y (steps.many_vertices w f h) = many_vertices w (omega (arith, ap (λ (k : ℕ). k * R ^ d) (cut-length (suc d) m along))) h
+  refusals : (why : Refusal) → Sought d R n m along pattern keys fresh corners (Err why)
+      → Finishes d R n (cut (suc d) m cells) (cut (suc d) m along) (lengths_of cells₀ words₀ parents₀ jacobians₀ wholes₀ vertices₀ weights₀ shares₀) (Err why) nothing
+  refusals why (steps.outside h) = outside h
+  refusals why (steps.many_cells w h) = many_cells w (omega (arith, ap (λ (k : ℕ). k * R ^ d) (cut-length (suc d) m along)))
+  refusals why (steps.many_vertices w f h) = many_vertices w (omega (arith, ap (λ (k : ℕ). k * R ^ d) (cut-length (suc d) m along))) h
 
-  pub handed-refused : (r : Refinement) (x y : ℕ) → r ≡ Refused x y → Sought d R n m along pattern keys fresh corners r
-      → Handed d R n m cells along r cells₀ cells₀ words₀ words₀ parents₀ parents₀ jacobians₀ jacobians₀ wholes₀ wholes₀ vertices₀ vertices₀ weights₀ weights₀ shares₀ shares₀
-  handed-refused r x y e s =
-      subst (λ (r : Refinement). Handed d R n m cells along r cells₀ cells₀ words₀ words₀ parents₀ parents₀ jacobians₀ jacobians₀ wholes₀ wholes₀ vertices₀ vertices₀ weights₀ weights₀ shares₀ shares₀) (sym e)
-      (handed-nothing (Refused x y) (refusals x y (subst (λ (r : Refinement). Sought d R n m along pattern keys fresh corners r) e s)))
+  pub handed-refused : (why : Refusal) → Sought d R n m along pattern keys fresh corners (Err why)
+      → Handed d R n m cells along (Err why) cells₀ cells₀ words₀ words₀ parents₀ parents₀ jacobians₀ jacobians₀ wholes₀ wholes₀ vertices₀ vertices₀ weights₀ weights₀ shares₀ shares₀
+  handed-refused why s = handed-nothing (Err why) (refusals why s)

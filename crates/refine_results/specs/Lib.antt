@@ -1,4 +1,5 @@
 pub mod Refined
+pub mod Says
 pub mod WorkFlat
 pub mod Results
 pub mod WorkStage

@@ -1,14 +1,15 @@
 -- Document 01, "Refinement": the eight result lists of a refinement, and how it ends once the coarse cells and the words refined by are known. Assumes nothing.
-use Rattle.std.specs.Prelude.{List, [], map, ◌≡◌, ℕ, suc, ◌*◌, ◌^◌, ◌≤◌, ◌<◌, ℤ, Float, length}
+use Rattle.refusal.specs.declared.Refusal.{Refusal}
+use Rattle.refusal.specs.declared.Refusal.TheVariants.{BadRefinement, TooManyCells, TooManyVertices, TooShort}
+use Rattle.std.specs.Prelude.{List, [], map, ◌≡◌, ℕ, suc, ◌*◌, ◌^◌, ◌≤◌, ◌<◌, ℤ, Float, length, Result, Err}
 use Rattle.refusal.specs.Limits.{most_cells, most_vertices, most_refinement}
-use Rattle.refusal.specs.Table.{too_many_cells, too_many_vertices, bad_refinement, too_short}
 use Rattle.refusal.specs.Lent.{onto}
 use Rattle.lists.specs.Rows.{flat}
 use Rattle.refine_lattice.specs.Refine.{births, vertices}
 use Rattle.refine_births.specs.Promise.{birth_vertices_of, birth_weights_of}
 use Rattle.refine_jacobian.specs.Entries.{share_of}
 use Rattle.refine_results.specs.declared.Refinement.{Refinement}
-use Rattle.refine_results.specs.declared.Refinement.TheVariants.{Made, Refused}
+use Rattle.refine_results.specs.Says.{sizes}
 use Rattle.refine_results.specs.Refined.{refined_cells, refined_words, parents, wholes, jacobians}
 
 -- what is handed out
@@ -88,17 +89,17 @@ pub record Refines (d R n : ℕ) (ks : List (List ℕ)) : Type 0 where
   pub few_vertices : vertices d R n ks ≤ most_vertices
 
 -- how the refinement of n vertices and the words ks of the cells cs by R ends: 11, 3, 6, 12, or the results
-pub data Finishes (d R n : ℕ) (cs ks : List (List ℕ)) (given : Lengths) : Refinement → Results → Type 0 where
+pub data Finishes (d R n : ℕ) (cs ks : List (List ℕ)) (given : Lengths) : Result Refinement Refusal → Results → Type 0 where
   -- R is 0 or more than 64
-  outside : (Inside R → ⊥) → Finishes d R n cs ks given (Refused bad_refinement 0) nothing
+  outside : (Inside R → ⊥) → Finishes d R n cs ks given (Err BadRefinement) nothing
   -- too many children
-  many_cells : Inside R → most_cells < length ks * R ^ d → Finishes d R n cs ks given (Refused too_many_cells 0) nothing
+  many_cells : Inside R → most_cells < length ks * R ^ d → Finishes d R n cs ks given (Err TooManyCells) nothing
   -- too many vertices
-  many_vertices : Inside R → length ks * R ^ d ≤ most_cells → most_vertices < vertices d R n ks → Finishes d R n cs ks given (Refused too_many_vertices 0) nothing
+  many_vertices : Inside R → length ks * R ^ d ≤ most_cells → most_vertices < vertices d R n ks → Finishes d R n cs ks given (Err TooManyVertices) nothing
   -- a result list is too short
-  short : Refines d R n ks → (Holds given (results_of d R n cs ks) → ⊥) → Finishes d R n cs ks given (Refused too_short 0) nothing
+  short : Refines d R n ks → (Holds given (results_of d R n cs ks) → ⊥) → Finishes d R n cs ks given (Err TooShort) nothing
   -- the results are handed out; the call says how many children and how many vertices there are
-  made : Refines d R n ks → Holds given (results_of d R n cs ks) → Finishes d R n cs ks given (Made (length (refined_cells d R n ks)) (vertices d R n ks)) (results_of d R n cs ks)
+  made : Refines d R n ks → Holds given (results_of d R n cs ks) → Finishes d R n cs ks given (sizes (length (refined_cells d R n ks)) (vertices d R n ks)) (results_of d R n cs ks)
 
 -- each lent result list afterwards: what is handed out stands at its start
 pub record Stored (h : Results) (cells cells' words words' parents parents' : List ℕ) (jacobians jacobians' : List Float) (wholes wholes' : List ℤ) (vertices vertices' weights weights' : List ℕ) (shares shares' : List Float) : Type 0 where

@@ -1,5 +1,6 @@
 -- What the refinement of words that stand in the working lists asks of these lists, and what it gives. Assumes nothing.
-use Rattle.std.specs.Prelude.{List, ℕ, suc, ◌+◌, ◌*◌, ◌^◌, ◌≤◌, ℤ, Float, length}
+use Rattle.refusal.specs.declared.Refusal.{Refusal}
+use Rattle.std.specs.Prelude.{List, ℕ, suc, ◌+◌, ◌*◌, ◌^◌, ◌≤◌, ℤ, Float, length, Result}
 use Rattle.refusal.specs.Limits.{most_dimension, most_cells, most_vertices}
 use Rattle.lists.specs.Rows.{cut}
 use Rattle.refine_results.specs.declared.Refinement.{Refinement}
@@ -28,7 +29,7 @@ pub record Ready (d R n m : ℕ) (cells along pattern keys rows spare counts sor
   pub room : Inside R → m * R ^ d ≤ most_cells → Spacious d R n (m * R ^ d) pattern keys rows spare counts sorted firsts buckets
 
 -- r is what is said, and a result list with ' is what it holds at exit
-pub record Handed (d R n m : ℕ) (cells along : List ℕ) (r : Refinement) (out_cells out-cells' out_words out-words' parents parents' : List ℕ) (jacobians jacobians' : List Float) (wholes wholes' : List ℤ) (vertices vertices' weights weights' : List ℕ) (shares shares' : List Float) : Type 0 where
+pub record Handed (d R n m : ℕ) (cells along : List ℕ) (r : Result Refinement Refusal) (out_cells out-cells' out_words out-words' parents parents' : List ℕ) (jacobians jacobians' : List Float) (wholes wholes' : List ℤ) (vertices vertices' weights weights' : List ℕ) (shares shares' : List Float) : Type 0 where
   pub handed : Results
   pub ends : Finishes d R n (cut (suc d) m cells) (cut (suc d) m along) (lengths_of out_cells out_words parents jacobians wholes vertices weights shares) r handed
   pub stored : Stored handed out_cells out-cells' out_words out-words' parents parents' jacobians jacobians' wholes wholes' vertices vertices' weights weights' shares shares'

@@ -1,7 +1,7 @@
 -- What the steps of a refinement ask and give: the children's words are found, the result lists are measured, and the children and the births are written. Assumes nothing.
-use Rattle.std.specs.Prelude.{Bool, true, false, List, map, ◌≡◌, ℕ, suc, ◌+◌, ◌*◌, ◌/◌, ◌^◌, ◌≤◌, ◌<◌, ℤ, Float, length, get_or, take}
+use Rattle.refusal.specs.declared.Refusal.TheVariants.{BadRefinement, TooManyCells, TooManyVertices}
+use Rattle.std.specs.Prelude.{Bool, true, false, List, map, ◌≡◌, ℕ, suc, ◌+◌, ◌*◌, ◌/◌, ◌^◌, ◌≤◌, ◌<◌, ℤ, Float, length, get_or, take, Err, Ok, Result}
 use Rattle.refusal.specs.Limits.{most_dimension, most_cells, most_vertices, square_most}
-use Rattle.refusal.specs.Table.{too_many_cells, too_many_vertices, bad_refinement}
 use Rattle.refusal.specs.Lent.{onto}
 use Rattle.lists.specs.Rows.{cut, flat}
 use Rattle.sorting.specs.Gather.{rows_of}
@@ -11,8 +11,8 @@ use Rattle.refine_lattice.specs.Refine.{births, vertices}
 use Rattle.refine_jacobian.specs.Entries.{share_of}
 use Rattle.refine_children.specs.WorkFamily.{joined, whole_at, float_at, Families}
 use Rattle.refine_births.specs.Promise.{Supports, Resolved, birth_vertices_of, birth_weights_of}
-use Rattle.refine_results.specs.declared.Refinement.{Refinement}
-use Rattle.refine_results.specs.declared.Refinement.TheVariants.{Made, Refused}
+use Rattle.refusal.specs.declared.Refusal.{Refusal}
+use Rattle.refine_results.specs.declared.Counts.{Counts}
 use Rattle.refine_results.specs.WorkFlat.{Refining}
 use Rattle.refine_results.specs.Results.{Results, Lengths, Holds, Inside}
 use Rattle.refine_results.specs.WorkStage.{Ready}
@@ -41,11 +41,11 @@ pub record Found (d R n m : ℕ) (along pattern keys fresh corners : List ℕ) (
   pub resolved : Resolved d R n m (R ^ d * suc d) (cut (suc d) m along) born keys fresh corners
 
 -- 11, 3 or 6, or how many children and how many births there are
-pub data Sought (d R n m : ℕ) (along pattern keys fresh corners : List ℕ) : Refinement → Type 0 where
-  outside : (Inside R → ⊥) → Sought d R n m along pattern keys fresh corners (Refused bad_refinement 0)
-  many_cells : Inside R → most_cells < m * R ^ d → Sought d R n m along pattern keys fresh corners (Refused too_many_cells 0)
-  many_vertices : Inside R → m * R ^ d ≤ most_cells → most_vertices < vertices d R n (cut (suc d) m along) → Sought d R n m along pattern keys fresh corners (Refused too_many_vertices 0)
-  found : (born : ℕ) → Found d R n m along pattern keys fresh corners born → Sought d R n m along pattern keys fresh corners (Made (m * R ^ d) born)
+pub data Sought (d R n m : ℕ) (along pattern keys fresh corners : List ℕ) : Result Counts Refusal → Type 0 where
+  outside : (Inside R → ⊥) → Sought d R n m along pattern keys fresh corners (Err BadRefinement)
+  many_cells : Inside R → most_cells < m * R ^ d → Sought d R n m along pattern keys fresh corners (Err TooManyCells)
+  many_vertices : Inside R → m * R ^ d ≤ most_cells → most_vertices < vertices d R n (cut (suc d) m along) → Sought d R n m along pattern keys fresh corners (Err TooManyVertices)
+  found : (born : ℕ) → Found d R n m along pattern keys fresh corners born → Sought d R n m along pattern keys fresh corners (Ok (record { children = m * R ^ d; births = born }))
 
 -- ---- the lengths of the results
 

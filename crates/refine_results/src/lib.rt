@@ -25,22 +25,20 @@ ghost use Rattle.refine_results.specs.WorkStage.{Ready, Handed};
 ghost use Rattle.refine_results.specs.WorkSteps.{Tested, Seeking, Sought, lent, Fits, Writing, Wrote, Bears, Bore, Finishing};
 
 use multiindex::cartesian;
-use refusal::{
-    BAD_REFINEMENT, MOST_CELLS, MOST_REFINEMENT, MOST_VERTICES, SQUARE_MOST, TOO_MANY_CELLS,
-    TOO_MANY_VERTICES, TOO_SHORT,
-};
+use refusal::{MOST_CELLS, MOST_REFINEMENT, MOST_VERTICES, Refusal, SQUARE_MOST};
 
-// What a refinement says: how many children and how many vertices there are, or its refusal.
-#[derive(Clone, Copy)]
-pub enum Refinement {
-    Made(u32, u32),
-    Refused(u32, u32),
+// What a refinement says: how many children and how many vertices there are.
+#[derive(Clone, Copy, Debug, PartialEq, Eq)]
+pub struct Refinement {
+    pub children: u32,
+    pub vertices: u32,
 }
 
-fn wide(x: u32) -> usize
-    ensures { result ≡ x }
-{
-    x as usize
+// How many children and how many births there are.
+#[derive(Clone, Copy)]
+struct Counts {
+    children: u32,
+    births: u32,
 }
 
 // Whether r is a refinement number.
@@ -67,27 +65,30 @@ fn seek(
     spare: &mut [u32],
     counts: &mut [u32],
     by_steps: bool,
-) -> Refinement
+) -> Result<Counts, Refusal>
     requires { Seeking d r n m along.now pattern.old keys.old rows.old spare.old counts.old }
     ensures { Sought d r n m along.now pattern.new keys.new spare.new counts.new result }
 {
     if !inside(r) {
-        return Refinement::Refused(BAD_REFINEMENT, 0);
+        return Err(Refusal::BadRefinement);
     }
-    let size = cartesian::count(d, wide(r));
+    let size = cartesian::count(d, r as usize);
     let children = m * size;
     if MOST_CELLS < children {
-        return Refinement::Refused(TOO_MANY_CELLS, 0);
+        return Err(Refusal::TooManyCells);
     }
     refine_pattern::pattern(d, r, pattern, by_steps);
     let corners = size * (d + 1);
     let born = refine_births::resolve(
         d, r, n, m, corners, along, pattern, keys, rows, spare, counts,
     );
-    if MOST_VERTICES < wide(n) + born {
-        return Refinement::Refused(TOO_MANY_VERTICES, 0);
+    if MOST_VERTICES < n as usize + born {
+        return Err(Refusal::TooManyVertices);
     }
-    Refinement::Made(children as u32, born as u32)
+    Ok(Counts {
+        children: children as u32,
+        births: born as u32,
+    })
 }
 
 // Whether result lists of these lengths take m refined cells and b births.
@@ -225,7 +226,7 @@ fn ordered(
     refine_children::colex(
         size,
         count,
-        wide(n) + wide(born),
+        n as usize + born as usize,
         names,
         sorted,
         rows,
@@ -259,13 +260,13 @@ fn finish(
     sorted: &mut [u32],
     firsts: &mut [u32],
     buckets: &mut [u32],
-) -> Refinement
+) -> Result<Refinement, Refusal>
     requires { Finishing d r n m born coarse.now along.now pattern.now keys.now rows.old spare.now names.now sorted.old firsts.old buckets.old }
     ensures { Handed d r n m coarse.now along.now result out_cells.old out_cells.new out_words.old out_words.new
         parents.old parents.new jacobians.old jacobians.new wholes.old wholes.new
         birth_vertices.old birth_vertices.new birth_weights.old birth_weights.new birth_shares.old birth_shares.new }
 {
-    let size = cartesian::count(d, wide(r));
+    let size = cartesian::count(d, r as usize);
     let kinds = ordered(
         d + 1,
         m * size,
@@ -277,7 +278,7 @@ fn finish(
         firsts,
         buckets,
     );
-    let fresh = wide(born);
+    let fresh = born as usize;
     if !fits(
         d,
         kinds,
@@ -291,7 +292,7 @@ fn finish(
         birth_weights.len(),
         birth_shares.len(),
     ) {
-        return Refinement::Refused(TOO_SHORT, 0);
+        return Err(Refusal::TooShort);
     }
     write_children(
         d, r, size, kinds, firsts, pattern, names, sorted, along, coarse, out_cells, out_words,
@@ -308,7 +309,10 @@ fn finish(
         birth_weights,
         birth_shares,
     );
-    Refinement::Made(kinds as u32, n + born)
+    Ok(Refinement {
+        children: kinds as u32,
+        vertices: n + born,
+    })
 }
 
 // The refinement of m cells, which stand in `coarse`, along their words in `along`: the results, and how many children and how many vertices there are, or 11, 3, 6, 12.
@@ -337,25 +341,22 @@ pub fn refined(
     firsts: &mut [u32],
     buckets: &mut [u32],
     by_steps: bool,
-) -> Refinement
+) -> Result<Refinement, Refusal>
     requires { Ready d r n m coarse.now along.now pattern.old keys.old rows.old spare.old counts.old sorted.old firsts.old buckets.old }
     ensures { Handed d r n m coarse.now along.now result out_cells.old out_cells.new out_words.old out_words.new
         parents.old parents.new jacobians.old jacobians.new wholes.old wholes.new
         birth_vertices.old birth_vertices.new birth_weights.old birth_weights.new birth_shares.old birth_shares.new }
 {
-    let said = seek(
+    let found = seek(
         d, r, n, m, along, pattern, keys, rows, spare, counts, by_steps,
-    );
-    let Refinement::Made(children, born) = said else {
-        return said;
-    };
-    let len = wide(children) * (d + 1);
+    )?;
+    let len = found.children as usize * (d + 1);
     finish(
         d,
         r,
         n,
         m,
-        born,
+        found.births,
         coarse,
         along,
         out_cells,

@@ -1,5 +1,7 @@
 -- The values by number, read from what a refinement and an order hand out: each child's parent and Jacobian are those of its refined cell, each birth's vertices and weights
 -- those of its support, each word is the word of its cell, and a number past the last one is refused. Assumes nothing.
+use Rattle.refusal.specs.declared.Refusal.TheVariants.{TooShort}
+use Rattle.std.specs.Prelude.{Err, Ok}
 use mathlib.Core.Bool.{true, false}
 use mathlib.Core.List.{List, [], ◌∷◌, ◌++◌, map}
 use mathlib.Core.Path.{◌≡◌, refl, sym, ap, ◌∙◌}
@@ -13,8 +15,6 @@ use lib.IntN.{ℤ}
 use lib.Ieee.{Float}
 use lib.ListN.{length, get_or, take, drop, length-append, length-map}
 use lib.Seq.{take_at, drop-append-add}
-use Rattle.refusal.specs.declared.Answer.TheVariants.{Fine, Refused}
-use Rattle.refusal.specs.Table.{too_short}
 use Rattle.lists.specs.Rows.{flat, row}
 use Rattle.lists.proofs.Laws.{map_at}
 use Rattle.lists.proofs.Words.{first-none, first-at}
@@ -30,7 +30,7 @@ use Rattle.refine_births.proofs.Points.{supporters-high, supporters-past}
 use Rattle.refine_jacobian.specs.Entries.{nought, share_of, whole_of, float_of}
 use Rattle.refine_results.specs.Refined.{refined_cells, parent_of}
 use Rattle.refine_results.specs.Results.{results_of}
-use Rattle.refine_values.specs.Reading.{reaches, child_of, no_child, four, support, birth_of, no_birth, word_in}
+use Rattle.refine_values.specs.Reading.{reaches, child_of, four, support, birth_of, word_in}
 
 -- ---- lists of one length, one after the other
 gather-part : {A : Type 0} (f : List ℕ → List A) (s : ℕ) → ((x : List ℕ) → length (f x) ≡ s) → (ls : List (List ℕ)) (k : ℕ) → k < length ls → row (gather f ls) s k ≡ f (get_or ls k [])
@@ -90,7 +90,7 @@ module _ (d R n : ℕ) (cs ks : List (List ℕ)) where
 
   pub child-handed : (c : ℕ) → c < length (refined_cells d R n ks)
       → child_of c (results_of d R n cs ks).parents_out (results_of d R n cs ks).jacobians_out (results_of d R n cs ks).wholes_out
-      ≡ record { answer = Fine; child = record { parent = parent c; jacobian = float_of d R (share d R n ks) (cell_at cs (parent c)) (cell c); whole = whole_of d (share d R n ks) (cell_at cs (parent c)) (cell c) } }
+      ≡ Ok (record { parent = parent c; jacobian = float_of d R (share d R n ks) (cell_at cs (parent c)) (cell c); whole = whole_of d (share d R n ks) (cell_at cs (parent c)) (cell c) })
   child-handed c h =
       rw (
         lt-ltb c (length (results_of d R n cs ks).parents_out) (omega (arith, many-parents)),
@@ -102,7 +102,7 @@ module _ (d R n : ℕ) (cs ks : List (List ℕ)) where
       )
 
   pub child-past : (c : ℕ) → length (refined_cells d R n ks) ≤ c
-      → child_of c (results_of d R n cs ks).parents_out (results_of d R n cs ks).jacobians_out (results_of d R n cs ks).wholes_out ≡ record { answer = Refused too_short 0; child = no_child }
+      → child_of c (results_of d R n cs ks).parents_out (results_of d R n cs ks).jacobians_out (results_of d R n cs ks).wholes_out ≡ Err TooShort
   child-past c h = rw (le-ltb c (length (results_of d R n cs ks).parents_out) (omega (arith, many-parents)))
 
   -- ---- the births
@@ -135,16 +135,12 @@ module _ (d R n : ℕ) (cs ks : List (List ℕ)) where
 
   pub birth-handed : d ≤ 3 → (b : ℕ) → b < length (births d R n ks)
       → birth_of d b (results_of d R n cs ks).birth_vertices (results_of d R n cs ks).birth_weights (results_of d R n cs ks).birth_shares
-      ≡ record {
-        answer = Fine;
-        birth =
-            record {
-              count = support (named (get_or (births d R n ks) b []));
-              vertices = four none (named (get_or (births d R n ks) b []));
-              weights = four 0 (weighed (get_or (births d R n ks) b []));
-              shares = four nought (map (share_of R) (weighed (get_or (births d R n ks) b [])));
-            };
-      }
+      ≡ Ok (record {
+        count = support (named (get_or (births d R n ks) b []));
+        vertices = four none (named (get_or (births d R n ks) b []));
+        weights = four 0 (weighed (get_or (births d R n ks) b []));
+        shares = four nought (map (share_of R) (weighed (get_or (births d R n ks) b [])));
+      })
   birth-handed s b h =
       rw (
         le-ltb 3 d s,
@@ -157,7 +153,7 @@ module _ (d R n : ℕ) (cs ks : List (List ℕ)) where
       )
 
   pub birth-past : d ≤ 3 → (b : ℕ) → length (births d R n ks) ≤ b
-      → birth_of d b (results_of d R n cs ks).birth_vertices (results_of d R n cs ks).birth_weights (results_of d R n cs ks).birth_shares ≡ record { answer = Refused too_short 0; birth = no_birth }
+      → birth_of d b (results_of d R n cs ks).birth_vertices (results_of d R n cs ks).birth_weights (results_of d R n cs ks).birth_shares ≡ Err TooShort
   birth-past s b h = rw (le-ltb 3 d s, outside (suc d) b (length (births d R n ks)) (length (results_of d R n cs ks).birth_vertices) (omega arith) many_vertices h)
 
 -- how many vertices a padded support has: as many as shares are positive

@@ -1,4 +1,6 @@
 -- Entries copied from the front, and the values by number where they are read and where they are refused. Assumes nothing.
+use Rattle.refusal.specs.declared.Refusal.TheVariants.{BadDimension, TooShort}
+use Rattle.std.specs.Prelude.{Err, Ok}
 use mathlib.Core.Bool.{Bool, true, false, cond, ◌&&◌}
 use mathlib.Core.List.{List, [], ◌∷◌, ◌++◌, append-nil}
 use mathlib.Core.Path.{◌≡◌, refl, sym, ap, ◌∙◌, subst}
@@ -15,13 +17,9 @@ use lib.ListN.{length, get_or, take, drop, set, replicate, length-drop, drop_of_
 use lib.Seq.{length-take-le, take_all}
 use Rattle.lists.proofs.Rows.{part-row}
 use Rattle.lists.specs.Rows.{row}
-use Rattle.refusal.specs.declared.Answer.TheVariants.{Fine, Refused}
-use Rattle.refusal.specs.Table.{bad_dimension, too_short}
 use Rattle.lists.specs.Words.{none}
 use Rattle.refine_jacobian.specs.Entries.{nought}
-use Rattle.refine_values.specs.declared.Child.{Child}
-use Rattle.refine_values.specs.declared.Birth.{Birth}
-use Rattle.refine_values.specs.Reading.{reaches, has_child, no_child, child_of, word_in, word_along, four, support, has_birth, no_birth, birth_of}
+use Rattle.refine_values.specs.Reading.{reaches, has_child, child_of, word_in, word_along, four, support, has_birth, birth_of}
 
 -- ---- a copy from the front
 module _ {A : Type 0} where
@@ -75,8 +73,8 @@ more-none p i f e j h = elim (dec_lt j i) [ yes l ↦ f j l | no l ↦ let q : i
 
 -- ---- a child
 module _ (k : ℕ) (parents : List ℕ) (jacobians : List Float) (wholes : List ℤ) where
-  pub child-none : (x : Child) → x ≡ no_child → has_child k (length parents) (length jacobians) (length wholes) ≡ false → record { answer = Refused too_short 0; child = x } ≡ child_of k parents jacobians wholes
-  child-none x f e = rw (e, f)
+  pub child-none : has_child k (length parents) (length jacobians) (length wholes) ≡ false → Err TooShort ≡ child_of k parents jacobians wholes
+  child-none e = rw e
 
   module _ (e : has_child k (length parents) (length jacobians) (length wholes) ≡ true) where
     pub parent_in : k < length parents
@@ -92,7 +90,7 @@ module _ (k : ℕ) (parents : List ℕ) (jacobians : List Float) (wholes : List 
     whole_in = leb-true (k * 9 + 9) (length wholes) rest.1
 
     pub child-there : (js : List Float) (ws : List ℤ) → js ≡ take (k * 9 + 9 - k * 9) (drop (k * 9) jacobians) → ws ≡ take (k * 9 + 9 - k * 9) (drop (k * 9) wholes)
-        → record { answer = Fine; child = record { parent = get_or parents k 0; jacobian = js; whole = ws } } ≡ child_of k parents jacobians wholes
+        → Ok (record { parent = get_or parents k 0; jacobian = js; whole = ws }) ≡ child_of k parents jacobians wholes
     child-there js ws f g = rw (e, f ∙ part-row jacobians 9 k, g ∙ part-row wholes 9 k)
 
 -- ---- a word
@@ -125,14 +123,14 @@ pub row-end : (n k : ℕ) → n ≤ 4 → k < 4294967296 → k * n + n < 1717986
 row-end n k h l = omega (arith, mul-le-mul_left k h)
 
 module _ (d k : ℕ) (vertices weights : List ℕ) (shares : List Float) where
-  pub birth-dimension : (x : Birth) → x ≡ no_birth → 3 < d → record { answer = Refused bad_dimension 0; birth = x } ≡ birth_of d k vertices weights shares
-  birth-dimension x f h = rw (lt-ltb 3 d h, f)
+  pub birth-dimension : 3 < d → Err BadDimension ≡ birth_of d k vertices weights shares
+  birth-dimension h = rw (lt-ltb 3 d h)
 
   module _ (h : d ≤ 3) where
-    pub birth-none : (x : Birth) → x ≡ no_birth → has_birth (d + 1) k (length vertices) (length weights) (length shares) ≡ false → record { answer = Refused too_short 0; birth = x } ≡ birth_of d k vertices weights shares
-    birth-none x g e =
+    pub birth-none : has_birth (d + 1) k (length vertices) (length weights) (length shares) ≡ false → Err TooShort ≡ birth_of d k vertices weights shares
+    birth-none e =
         let f : has_birth (suc d) k (length vertices) (length weights) (length shares) ≡ false = subst (λ (n : ℕ). has_birth n k (length vertices) (length weights) (length shares) ≡ false) (add-one d) e in
-        rw (le-ltb 3 d h, f, g)
+        rw (le-ltb 3 d h, f)
 
     module _ (e : has_birth (d + 1) k (length vertices) (length weights) (length shares) ≡ true) where
       tests : (reaches (d + 1) k (length vertices) ≡ true) × ((reaches (d + 1) k (length weights) && reaches (d + 1) k (length shares)) ≡ true)
@@ -153,7 +151,7 @@ module _ (d k : ℕ) (vertices weights : List ℕ) (shares : List Float) where
       pub birth-there : (count : ℕ) (vs ws : List ℕ) (ss : List Float) → count ≡ support (take (k * (d + 1) + (d + 1) - k * (d + 1)) (drop (k * (d + 1)) vertices))
           → vs ≡ four none (take (k * (d + 1) + (d + 1) - k * (d + 1)) (drop (k * (d + 1)) vertices)) → ws ≡ four 0 (take (k * (d + 1) + (d + 1) - k * (d + 1)) (drop (k * (d + 1)) weights))
           → ss ≡ four nought (take (k * (d + 1) + (d + 1) - k * (d + 1)) (drop (k * (d + 1)) shares))
-          → record { answer = Fine; birth = record { count = count; vertices = vs; weights = ws; shares = ss } } ≡ birth_of d k vertices weights shares
+          → Ok (record { count = count; vertices = vs; weights = ws; shares = ss }) ≡ birth_of d k vertices weights shares
       birth-there count vs ws ss f g i j =
           let p : take (k * (d + 1) + (d + 1) - k * (d + 1)) (drop (k * (d + 1)) vertices) ≡ row vertices (suc d) k = part-row vertices (d + 1) k ∙ ap (λ (n : ℕ). row vertices n k) (add-one d) in
           let q : take (k * (d + 1) + (d + 1) - k * (d + 1)) (drop (k * (d + 1)) weights) ≡ row weights (suc d) k = part-row weights (d + 1) k ∙ ap (λ (n : ℕ). row weights n k) (add-one d) in

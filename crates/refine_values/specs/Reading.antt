@@ -1,15 +1,13 @@
 -- Values by number: one child, one word refined by and one birth, read from the lists that a refinement hands out. Assumes nothing.
-use Rattle.std.specs.Prelude.{Bool, cond, ◌&&◌, List, [], ◌++◌, ℕ, suc, ◌+◌, ◌-◌, ◌*◌, eqb, ltb, leb, ℤ, pos, Float, length, get_or, replicate}
+use Rattle.refusal.specs.declared.Refusal.{Refusal}
+use Rattle.refusal.specs.declared.Refusal.TheVariants.{BadDimension, TooShort}
+use Rattle.std.specs.Prelude.{Bool, cond, ◌&&◌, List, [], ◌++◌, ℕ, suc, ◌+◌, ◌-◌, ◌*◌, eqb, ltb, leb, ℤ, Float, length, get_or, replicate, Err, Ok, Result}
 use Rattle.lists.specs.Rows.{row}
-use Rattle.refusal.specs.declared.Answer.TheVariants.{Fine, Refused}
 use Rattle.refusal.specs.Limits.{most_dimension}
-use Rattle.refusal.specs.Table.{bad_dimension, too_short}
 use Rattle.lists.specs.Words.{first_where, none}
 use Rattle.refine_jacobian.specs.Entries.{nought}
 use Rattle.refine_values.specs.declared.Child.{Child}
-use Rattle.refine_values.specs.declared.OneChild.{OneChild}
 use Rattle.refine_values.specs.declared.Birth.{Birth}
-use Rattle.refine_values.specs.declared.OneBirth.{OneBirth}
 
 -- a list of so many entries has those of number k
 abbrev pub reaches : ℕ → ℕ → ℕ → Bool
@@ -25,16 +23,12 @@ has_child k parents jacobians wholes = ltb k parents && (reaches 9 k jacobians &
 abbrev pub child_at : ℕ → List ℕ → List Float → List ℤ → Child
 child_at k parents jacobians wholes = record { parent = get_or parents k 0; jacobian = row jacobians 9 k; whole = row wholes 9 k }
 
--- what stands for it where a list is too short
-abbrev pub no_child : Child
-no_child = record { parent = 0; jacobian = replicate 9 nought; whole = replicate 9 (pos 0) }
-
 -- child k, or 12
-abbrev pub child_of : ℕ → List ℕ → List Float → List ℤ → OneChild
+abbrev pub child_of : ℕ → List ℕ → List Float → List ℤ → Result Child Refusal
 child_of k parents jacobians wholes =
     cond (has_child k (length parents) (length jacobians) (length wholes))
-    (record { answer = Fine; child = child_at k parents jacobians wholes })
-    (record { answer = Refused too_short 0; child = no_child })
+    (Ok (child_at k parents jacobians wholes))
+    (Err TooShort)
 
 -- ---- a word
 
@@ -70,15 +64,11 @@ birth_at n k vertices weights shares =
       shares = four nought (row shares n k);
     }
 
--- what stands for it where there is none
-abbrev pub no_birth : Birth
-no_birth = record { count = 0; vertices = replicate 4 none; weights = replicate 4 0; shares = replicate 4 nought }
-
 -- birth k in dimension d, or 1, or 12
-abbrev pub birth_of : ℕ → ℕ → List ℕ → List ℕ → List Float → OneBirth
+abbrev pub birth_of : ℕ → ℕ → List ℕ → List ℕ → List Float → Result Birth Refusal
 birth_of d k vertices weights shares =
     cond (ltb most_dimension d)
-    (record { answer = Refused bad_dimension 0; birth = no_birth })
+    (Err BadDimension)
     (cond (has_birth (suc d) k (length vertices) (length weights) (length shares))
-    (record { answer = Fine; birth = birth_at (suc d) k vertices weights shares })
-    (record { answer = Refused too_short 0; birth = no_birth }))
+    (Ok (birth_at (suc d) k vertices weights shares))
+    (Err TooShort))

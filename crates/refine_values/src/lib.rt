@@ -5,40 +5,26 @@
 
 ghost use Rattle.std.specs.Prelude.{◌++◌, ◌≡◌, ℕ, suc, ◌+◌, ◌*◌, ◌<◌, ◌≤◌, length};
 ghost use Rattle.refine_jacobian.specs.Entries.{nought};
-ghost use Rattle.refine_values.specs.Reading.{has_child, no_child, child_of, word_in, word_along, four, support, has_birth, no_birth, birth_of};
+ghost use Rattle.refine_values.specs.Reading.{has_child, child_of, word_in, word_along, four, support, has_birth, birth_of};
 
 use refine_births::NONE;
-use refusal::{Answer, BAD_DIMENSION, MOST_DIMENSION, TOO_SHORT};
+use refusal::{MOST_DIMENSION, Refusal};
 
 // A child: the number of its parent, and its Jacobian in the parent's local coordinates, by column and then zeros, in floats and as whole numbers over R.
-#[derive(Clone, Copy)]
+#[derive(Clone, Copy, Debug, PartialEq)]
 pub struct Child {
     pub parent: u32,
     pub jacobian: [f64; 9],
     pub whole: [i32; 9],
 }
 
-// What `child_of` says, and the child: all zero where it is refused.
-#[derive(Clone, Copy)]
-pub struct OneChild {
-    pub answer: Answer,
-    pub child: Child,
-}
-
 // A birth: how many coarse vertices support it, these vertices, their weights over R and the shares in floats. Past them stand 4294967295, 0 and 0.0.
-#[derive(Clone, Copy)]
+#[derive(Clone, Copy, Debug, PartialEq)]
 pub struct Birth {
     pub count: u32,
     pub vertices: [u32; 4],
     pub weights: [u32; 4],
     pub shares: [f64; 4],
-}
-
-// What `birth_of` says, and the birth: of no vertex where it is refused.
-#[derive(Clone, Copy)]
-pub struct OneBirth {
-    pub answer: Answer,
-    pub birth: Birth,
 }
 
 // Nine floats as a value.
@@ -47,11 +33,7 @@ fn nine_floats(part: &[f64]) -> [f64; 9]
     ensures { result ≡ part.now }
 {
     let mut nine = [0.0; 9];
-    let mut i = 0;
-    while i < 9 {
-        nine[i] = part[i];
-        i += 1;
-    }
+    nine.copy_from_slice(part);
     nine
 }
 
@@ -61,11 +43,7 @@ fn nine_wholes(part: &[i32]) -> [i32; 9]
     ensures { result ≡ part.now }
 {
     let mut nine = [0; 9];
-    let mut i = 0;
-    while i < 9 {
-        nine[i] = part[i];
-        i += 1;
-    }
+    nine.copy_from_slice(part);
     nine
 }
 
@@ -84,41 +62,29 @@ fn has_child(k: usize, parents: usize, jacobians: usize, wholes: usize) -> bool
     end <= wholes
 }
 
-// The child that stands beside a refusal.
-fn no_child() -> Child
-    ensures { result ≡ no_child }
-{
-    Child {
-        parent: 0,
-        jacobian: [0.0; 9],
-        whole: [0; 9],
-    }
-}
-
 // The child of that number. Refused: 12 where a list has none of that number.
-pub fn child_of(number: u32, parents: &[u32], jacobians: &[f64], wholes: &[i32]) -> OneChild
+pub fn child_of(
+    number: u32,
+    parents: &[u32],
+    jacobians: &[f64],
+    wholes: &[i32],
+) -> Result<Child, Refusal>
     ensures { result ≡ child_of number parents.now jacobians.now wholes.now }
 {
     let k = number as usize;
     if !has_child(k, parents.len(), jacobians.len(), wholes.len()) {
-        return OneChild {
-            answer: Answer::Refused(TOO_SHORT, 0),
-            child: no_child(),
-        };
+        return Err(Refusal::TooShort);
     }
     let at = k * 9;
     let end = at + 9;
     let parent = parents[k];
     let jacobian = nine_floats(&jacobians[at..end]);
     let whole = nine_wholes(&wholes[at..end]);
-    OneChild {
-        answer: Answer::Fine,
-        child: Child {
-            parent,
-            jacobian,
-            whole,
-        },
-    }
+    Ok(Child {
+        parent,
+        jacobian,
+        whole,
+    })
 }
 
 // The word of that number in a list of words of d + 1 numbers; no number where the list has none, or d is more than 3.
@@ -160,11 +126,7 @@ fn four_numbers(part: &[u32], past: u32) -> [u32; 4]
     ensures { result ≡ four past part.now }
 {
     let mut row = [past; 4];
-    let mut i = 0;
-    while i < part.len() {
-        row[i] = part[i];
-        i += 1;
-    }
+    row[..part.len()].copy_from_slice(part);
     row
 }
 
@@ -174,11 +136,7 @@ fn four_floats(part: &[f64]) -> [f64; 4]
     ensures { result ≡ four nought part.now }
 {
     let mut row = [0.0; 4];
-    let mut i = 0;
-    while i < part.len() {
-        row[i] = part[i];
-        i += 1;
-    }
+    row[..part.len()].copy_from_slice(part);
     row
 }
 
@@ -187,14 +145,12 @@ fn vertices_in(row: &[u32]) -> u32
     requires { length row.now ≤ 4 }
     ensures { result ≡ support row.now }
 {
-    let mut i = 0;
-    while i < row.len() {
-        if row[i] == NONE {
+    for (i, &v) in row.iter().enumerate() {
+        if v == NONE {
             return i as u32;
         }
-        i += 1;
     }
-    i as u32
+    row.len() as u32
 }
 
 // Whether lists of these lengths have birth k, n entries each.
@@ -212,35 +168,23 @@ fn has_birth(n: usize, k: usize, vertices: usize, weights: usize, shares: usize)
     end <= shares
 }
 
-// The birth that stands beside a refusal.
-fn no_birth() -> Birth
-    ensures { result ≡ no_birth }
-{
-    Birth {
-        count: 0,
-        vertices: [NONE; 4],
-        weights: [0; 4],
-        shares: [0.0; 4],
-    }
-}
-
 // The birth of that number, counted from the first new vertex on, in dimension d. Refused: 1 where d is more than 3, 12 where a list has none of that number.
-pub fn birth_of(d: u32, number: u32, vertices: &[u32], weights: &[u32], shares: &[f64]) -> OneBirth
+pub fn birth_of(
+    d: u32,
+    number: u32,
+    vertices: &[u32],
+    weights: &[u32],
+    shares: &[f64],
+) -> Result<Birth, Refusal>
     ensures { result ≡ birth_of d number vertices.now weights.now shares.now }
 {
     if MOST_DIMENSION < d {
-        return OneBirth {
-            answer: Answer::Refused(BAD_DIMENSION, 0),
-            birth: no_birth(),
-        };
+        return Err(Refusal::BadDimension);
     }
     let n = d as usize + 1;
     let k = number as usize;
     if !has_birth(n, k, vertices.len(), weights.len(), shares.len()) {
-        return OneBirth {
-            answer: Answer::Refused(TOO_SHORT, 0),
-            birth: no_birth(),
-        };
+        return Err(Refusal::TooShort);
     }
     let at = k * n;
     let end = at + n;
@@ -249,13 +193,10 @@ pub fn birth_of(d: u32, number: u32, vertices: &[u32], weights: &[u32], shares: 
     let named = four_numbers(row, NONE);
     let weighed = four_numbers(&weights[at..end], 0);
     let shared = four_floats(&shares[at..end]);
-    OneBirth {
-        answer: Answer::Fine,
-        birth: Birth {
-            count,
-            vertices: named,
-            weights: weighed,
-            shares: shared,
-        },
-    }
+    Ok(Birth {
+        count,
+        vertices: named,
+        weights: weighed,
+        shares: shared,
+    })
 }

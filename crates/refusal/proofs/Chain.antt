@@ -1,22 +1,22 @@
--- What a chain of refusals that ends in Fine tells. Assumes nothing.
-use mathlib.Core.Path.{◌≡◌, refl}
-use Prim.Native.Nat.{ℕ}
-use mathlib.Core.Bool.{Bool, true, false}
-use native.Mathlib.Omega.{arith}
-use Rattle.refusal.specs.declared.Answer.{Answer}
-use Rattle.refusal.specs.declared.Answer.TheVariants.{Fine, Refused}
+-- What a chain of refusals that ends in Ok tells. Assumes nothing.
+use Rattle.std.proofs.Common.{◌≡◌, refl, Bool, true, false, Result, Ok, Err, ap}
+use Rattle.std.specs.Result.{IsErrAnd}
+use Rattle.refusal.specs.declared.Refusal.{Refusal}
+use Rattle.refusal.specs.Says.{Answer, fine}
 use Rattle.refusal.specs.Refuse.{refuse}
 
--- it passed the first test, and the rest of the chain is Fine
-pub refuse-fine : (t : Bool) (number place : ℕ) (rest : Answer) → refuse t number place rest ≡ Fine → (t ≡ false) × (rest ≡ Fine)
-refuse-fine true number place rest e = let z : ◌≡◌ {A = ℕ} 0 1 = cc in absurd (omega arith)
-refuse-fine false number place rest e = (refl, e)
+pub fine-refused : (why : Refusal) → ◌≡◌ {A = Answer} (Err why) fine → ⊥
+fine-refused why e = cc
 
-pub fine-refused : (n p : ℕ) → Refused n p ≡ Fine → ⊥
-fine-refused n p e = let z : ◌≡◌ {A = ℕ} 0 1 = cc in omega arith
+pub refused-same : (why why' : Refusal) → ◌≡◌ {A = Answer} (Err why) (Err why') → why ≡ why'
+refused-same why why' e = cc
 
-pub refused-number : (n p n' p' : ℕ) → Refused n p ≡ Refused n' p' → n ≡ n'
-refused-number n p n' p' e = cc
+-- it passed the first test, and the rest of the chain is fine
+pub refuse-fine : (t : Bool) (why : Refusal) (rest : Answer) → refuse t why rest ≡ fine → (t ≡ false) × (rest ≡ fine)
+refuse-fine true why rest e = absurd (fine-refused why e)
+refuse-fine false why rest e = (refl, e)
 
-pub refused-place : (n p n' p' : ℕ) → Refused n p ≡ Refused n' p' → p ≡ p'
-refused-place n p n' p' e = cc
+-- a `?` hands on the refusal that it met
+pub passed_on : {T : Type 0} {r : Result T Refusal} {why : Refusal} → IsErrAnd r (λ x. x ≡ why) → r ≡ Err why
+passed_on {r = Ok x} e = absurd e
+passed_on {r = Err x} e = ap Err e

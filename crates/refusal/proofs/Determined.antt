@@ -2,26 +2,26 @@
 use mathlib.Core.List.{List}
 use mathlib.Core.Path.{◌≡◌, refl, sym, ap, ◌∙◌}
 use Prim.Native.Nat.{ℕ}
-use Rattle.refusal.specs.declared.Answer.{Answer}
+use Rattle.refusal.specs.declared.Refusal.{Refusal}
+use Rattle.refusal.specs.Says.{Answer}
 use Rattle.refusal.specs.declared.Room.{Room}
 use Rattle.refusal.specs.Lent.{zeroed, untouched, Roomy, Cleared}
 use Rattle.refusal.specs.Call.{Call, Comes, refused, cramped, ended}
-use Rattle.refusal.proofs.Chain.{fine-refused, refused-number, refused-place}
+use Rattle.refusal.proofs.Chain.{fine-refused, refused-same}
 
-module _ {S H K : Type 0} (no : ℕ → ℕ → S) (nothing : H) (unused : K) (checked : Answer) (need : K) (Fits : Type 0) (Ends : S → H → Type 0) (one : (r r' : S) (h h' : H) → Ends r h → Ends r' h' → (r ≡ r') × (h ≡ h')) where
+module _ {S H K : Type 0} (no : Refusal → S) (nothing : H) (unused : K) (checked : Answer) (need : K) (Fits : Type 0) (Ends : S → H → Type 0) (one : (r r' : S) (h h' : H) → Ends r h → Ends r' h' → (r ≡ r') × (h ≡ h')) where
   pub call-one : {r r' : S} {h h' : H} {u u' : K} → Call no nothing unused checked need Fits Ends r h u → Call no nothing unused checked need Fits Ends r' h' u' → (r ≡ r') × (h ≡ h') × (u ≡ u')
-  call-one (refused {n = n} {p = p} e) (refused {n = m} {p = q} f) =
-      let a = refused-number n p m q (sym e ∙ f) in let b = refused-place n p m q (sym e ∙ f) in (cc, refl, refl)
-  call-one (refused {n = n} {p = p} e) (cramped f _) = absurd (fine-refused n p (sym e ∙ f))
-  call-one (refused {n = n} {p = p} e) (ended f _ _) = absurd (fine-refused n p (sym e ∙ f))
-  call-one (cramped e _) (refused {n = n} {p = p} f) = absurd (fine-refused n p (sym f ∙ e))
+  call-one (refused {why = a} e) (refused {why = b} f) = (ap no (refused-same a b (sym e ∙ f)), refl, refl)
+  call-one (refused {why = a} e) (cramped f _) = absurd (fine-refused a (sym e ∙ f))
+  call-one (refused {why = a} e) (ended f _ _) = absurd (fine-refused a (sym e ∙ f))
+  call-one (cramped e _) (refused {why = a} f) = absurd (fine-refused a (sym f ∙ e))
   call-one (cramped e n) (cramped f m) = (refl, refl, refl)
   call-one (cramped e n) (ended f m _) = absurd (n m)
-  call-one (ended e _ _) (refused {n = n} {p = p} f) = absurd (fine-refused n p (sym f ∙ e))
+  call-one (ended e _ _) (refused {why = a} f) = absurd (fine-refused a (sym f ∙ e))
   call-one (ended e m _) (cramped f n) = absurd (n m)
   call-one (ended {r = r} {h = h} e _ x) (ended {r = r'} {h = h'} f _ y) = let w = one r r' h h' x y in (w.0, w.1, refl)
 
-module _ {S H : Type 0} (no : ℕ → ℕ → S) (nothing : H) (checked : Answer) (need have : Room) (Ends : S → H → Type 0) (one : (r r' : S) (h h' : H) → Ends r h → Ends r' h' → (r ≡ r') × (h ≡ h')) where
+module _ {S H : Type 0} (no : Refusal → S) (nothing : H) (checked : Answer) (need have : Room) (Ends : S → H → Type 0) (one : (r r' : S) (h h' : H) → Ends r h → Ends r' h' → (r ≡ r') × (h ≡ h')) where
   pub comes-one : {r r' : S} {h h' : H} {u u' : Room} → Comes no nothing checked need have Ends r h u → Comes no nothing checked need have Ends r' h' u' → (r ≡ r') × (h ≡ h') × (u ≡ u')
   comes-one = call-one no nothing untouched checked need (Roomy need have) Ends one
 

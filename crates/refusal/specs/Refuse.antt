@@ -1,9 +1,9 @@
 -- A refusal, and the chain of refusals in document 01's order. Assumes nothing.
-use Rattle.std.specs.Prelude.{ℕ, Bool, true, false}
-use Rattle.refusal.specs.declared.Answer.{Answer}
-use Rattle.refusal.specs.declared.Answer.TheVariants.{Refused}
+use Rattle.std.specs.Prelude.{Bool, true, false, Err}
+use Rattle.refusal.specs.declared.Refusal.{Refusal}
+use Rattle.refusal.specs.Says.{Answer}
 
--- the refusal with this number and place where the test holds, and what comes after it where it does not
-abbrev pub refuse : Bool → ℕ → ℕ → Answer → Answer
-refuse true number place rest = Refused number place
-refuse false number place rest = rest
+-- this refusal where the test holds, and what comes after it where it does not
+abbrev pub refuse : Bool → Refusal → Answer → Answer
+refuse true why rest = Err why
+refuse false why rest = rest

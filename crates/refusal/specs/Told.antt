@@ -1,9 +1,8 @@
 -- What an answer holds. Assumes nothing.
-use Rattle.std.specs.Prelude.{ℕ}
-use Rattle.refusal.specs.declared.Counted.{Counted}
-use Rattle.refusal.specs.declared.Counted.TheVariants.{Count, Refused}
+use Rattle.std.specs.Prelude.{ℕ, Ok, Err}
+use Rattle.refusal.specs.Says.{Counted}
 
 -- how many rows a call hands out: none where it refuses
 abbrev pub count_of : Counted → ℕ
-count_of (Count n) = n
-count_of (Refused number place) = 0
+count_of (Ok n) = n
+count_of (Err why) = 0

@@ -3,57 +3,9 @@ use crate::show;
 use planner_complexes::complexes::{planner_border, planner_cells, planner_edges, planner_facets};
 use planner_complexes::orders::{planner_induced_orientation, planner_ordering};
 use planner_grids::grids::{planner_cell_words, planner_triangulate_ordered};
+use replay_reading::printing::numbers;
 
-// The calls with numbers 9 to 12.
-fn of_cells(
-    kind: u64,
-    d: u32,
-    words: &[u32],
-    out: &mut [u32],
-    more: &mut [u32],
-    keys: &mut [u32],
-    rows: &mut [u32],
-    spare: &mut [u32],
-    counts: &mut [u32],
-) -> u64 {
-    if kind == 9 {
-        return planner_cells(d, words, out, keys, rows, spare, counts);
-    }
-    if kind == 10 {
-        return planner_edges(d, words, out, keys, rows, spare, counts);
-    }
-    if kind == 11 {
-        return planner_border(d, words, out, keys, rows, spare, counts);
-    }
-    planner_facets(d, words, out, more, keys, rows, spare, counts)
-}
-
-// The calls with numbers 13 to 16.
-fn of_orders(
-    kind: u64,
-    d: u32,
-    first: &[u32],
-    order: &[u32],
-    out: &mut [u32],
-    more: &mut [u32],
-    keys: &mut [u32],
-    rows: &mut [u32],
-    spare: &mut [u32],
-    counts: &mut [u32],
-) -> u64 {
-    if kind == 13 {
-        return planner_ordering(d, first, order, out, keys, rows, spare, counts);
-    }
-    if kind == 14 {
-        return planner_induced_orientation(d, first, order, keys, rows, spare, counts);
-    }
-    if kind == 15 {
-        return planner_cell_words(d, first, out, keys, rows, spare, counts);
-    }
-    planner_triangulate_ordered(d, first, out, more, keys, rows, spare, counts)
-}
-
-// The call, whichever it is.
+// The call, whichever of those with numbers 9 to 16 it is.
 fn answer(
     kind: u64,
     d: u32,
@@ -66,43 +18,36 @@ fn answer(
     spare: &mut [u32],
     counts: &mut [u32],
 ) -> u64 {
-    if kind < 13 {
-        return of_cells(kind, d, first, out, more, keys, rows, spare, counts);
+    match kind {
+        9 => planner_cells(d, first, out, keys, rows, spare, counts),
+        10 => planner_edges(d, first, out, keys, rows, spare, counts),
+        11 => planner_border(d, first, out, keys, rows, spare, counts),
+        12 => planner_facets(d, first, out, more, keys, rows, spare, counts),
+        13 => planner_ordering(d, first, second, out, keys, rows, spare, counts),
+        14 => planner_induced_orientation(d, first, second, keys, rows, spare, counts),
+        15 => planner_cell_words(d, first, out, keys, rows, spare, counts),
+        _ => planner_triangulate_ordered(d, first, out, more, keys, rows, spare, counts),
     }
-    of_orders(kind, d, first, second, out, more, keys, rows, spare, counts)
 }
 
 // How many numbers of the first result list belong to a row.
-fn width(kind: u64, d: u32) -> u32 {
-    if kind == 10 {
-        return 2;
+fn width(kind: u64, d: u32) -> usize {
+    match kind {
+        10 => 2,
+        14 => 0,
+        _ if refusal::MOST_DIMENSION < d => 0,
+        11 | 12 => d as usize,
+        _ => d as usize + 1,
     }
-    if kind == 14 {
-        return 0;
-    }
-    if refusal::MOST_DIMENSION < d {
-        return 0;
-    }
-    if kind == 11 {
-        return d;
-    }
-    if kind == 12 {
-        return d;
-    }
-    d + 1
 }
 
 // How many numbers of the second result list belong to a row.
-fn more_width(kind: u64, d: u32, said: u64) -> u32 {
-    if kind == 12 {
-        return 4;
+fn more_width(kind: u64, d: u32, said: u64) -> usize {
+    match kind {
+        12 => 4,
+        16 if 2147483647 < said => width(kind, d),
+        _ => 0,
     }
-    if kind == 16 {
-        if 2147483647 < said {
-            return width(kind, d);
-        }
-    }
-    0
 }
 
 // A call, and what it handed out.
@@ -127,7 +72,7 @@ pub(crate) fn list(kind: u64, d: u32, first: &[u32], second: &[u32]) {
     );
     let n = show::rows(said);
     show::answer(said);
-    show::numbers(&out, show::size(n, width(kind, d)));
-    show::numbers(&more, show::size(n, more_width(kind, d, said)));
+    numbers(&out, n.saturating_mul(width(kind, d)));
+    numbers(&more, n.saturating_mul(more_width(kind, d, said)));
     show::end();
 }

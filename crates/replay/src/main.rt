@@ -21,20 +21,17 @@ fn request(text: &[u8], from: usize) -> usize
     let mut second = [0u32; 128];
     let one = replay_reading::list(text, b.end, &mut first);
     let two = replay_reading::list(text, one.end, &mut second);
-    let end = two.end;
-    if from < end {
+    if from < two.end {
         if 0 < kind.value {
-            requests::cut(
+            requests::call(
                 kind.value,
                 replay_reading::low(a.value),
                 replay_reading::low(b.value),
-                &first,
-                one.count,
-                &second,
-                two.count,
+                &first[..one.count],
+                &second[..two.count],
             );
         }
-        return end;
+        return two.end;
     }
     from + 1
 }
@@ -42,6 +39,7 @@ fn request(text: &[u8], from: usize) -> usize
 // Every request.
 fn replay(text: &[u8]) {
     let mut at = 0;
+    // Kept: each request says where the next begins, so there is no range or list to count over.
     while at < text.len() {
         at = request(text, at);
     }

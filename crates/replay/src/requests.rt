@@ -8,50 +8,38 @@ use planner_grids::grids::{
     planner_quasi_uniform, planner_reduce, planner_torus,
 };
 use planner_grids::lengths::{planner_edge_length_sq, planner_edge_lengths_sq};
+use replay_reading::printing::{floats, numbers};
 
 // A side from its numerator and denominator.
 fn side(list: &[u32], top: usize, bottom: usize) -> f64 {
-    if top < list.len() {
-        if bottom < list.len() {
-            return (list[top] as f64) / (list[bottom] as f64);
-        }
+    if top < list.len() && bottom < list.len() {
+        f64::from(list[top]) / f64::from(list[bottom])
+    } else {
+        0.0
     }
-    0.0
-}
-
-fn made(said: u64, axes: &[u32; 6]) {
-    show::answer(said);
-    show::numbers(axes, 6);
-    show::end();
 }
 
 // One call of a maker.
 fn make(kind: u64, a: u32, b: u32, gluings: &[u32], sides: &[f64; 3]) {
     let mut axes = [7u32; 6];
-    let mut said = 0;
-    if kind == 1 {
-        said = planner_torus(a, b, sides, &mut axes);
-    } else if kind == 2 {
-        said = planner_klein(a, b, sides, &mut axes);
-    } else if kind == 3 {
-        said = planner_moebius(b, sides[0], sides[1], &mut axes);
-    } else {
-        said = planner_quasi_uniform(a, b, gluings, sides, &mut axes);
-    }
-    made(said, &axes);
+    let said = match kind {
+        1 => planner_torus(a, b, sides, &mut axes),
+        2 => planner_klein(a, b, sides, &mut axes),
+        3 => planner_moebius(b, sides[0], sides[1], &mut axes),
+        _ => planner_quasi_uniform(a, b, gluings, sides, &mut axes),
+    };
+    show::answer(said);
+    numbers(&axes, 6);
+    show::end();
 }
 
 // One question of a grid.
 fn ask(kind: u64, a: u32, b: u32, axes: &[u32]) {
-    let mut said = 0;
-    if kind == 5 {
-        said = planner_reduce(a, b, axes);
-    } else if kind == 6 {
-        said = planner_nvertices(a, axes);
-    } else {
-        said = planner_is_orientation_preserving(a, axes);
-    }
-    show::answer(said);
+    show::answer(match kind {
+        5 => planner_reduce(a, b, axes),
+        6 => planner_nvertices(a, axes),
+        _ => planner_is_orientation_preserving(a, axes),
+    });
     show::end();
 }
 
@@ -77,24 +65,17 @@ fn orient(d: u32, words: &[u32]) {
 
 // The sign that a number stands for: 1 is +1, 2 is -1, and 3 is no sign.
 fn sign(n: u32) -> i32 {
-    if n == 1 {
-        return 1;
+    match n {
+        1 => 1,
+        2 => -1,
+        _ => 3,
     }
-    if n == 2 {
-        return -1;
-    }
-    3
 }
 
 // Writes the signs that the numbers stand for.
 fn read_signs(numbers: &[u32], signs: &mut [i32]) {
-    let mut i = 0;
-    while i < numbers.len() {
-        if i >= signs.len() {
-            return;
-        }
-        signs[i] = sign(numbers[i]);
-        i += 1;
+    for (to, &n) in signs.iter_mut().zip(numbers) {
+        *to = sign(n);
     }
 }
 
@@ -117,22 +98,13 @@ fn test_signs(d: u32, words: &[u32], signs: &[i32]) {
     show::end();
 }
 
-// The test of the first n signs of the list.
-fn test_first(d: u32, words: &[u32], signs: &[i32], n: usize) {
-    if n <= signs.len() {
-        test_signs(d, words, &signs[..n]);
-    }
-}
-
-fn test_some(d: u32, words: &[u32], signs: &[i32; 128], n: usize) {
-    test_first(d, words, signs, n);
-}
-
 // The test of as many signs as there are numbers.
 fn orient_by(d: u32, words: &[u32], numbers: &[u32]) {
     let mut signs = [7i32; 128];
     read_signs(numbers, &mut signs);
-    test_some(d, words, &signs, numbers.len());
+    if let Some(signs) = signs.get(..numbers.len()) {
+        test_signs(d, words, signs);
+    }
 }
 
 // The lengths of all edges.
@@ -153,50 +125,32 @@ fn lengths(d: u32, axes: &[u32], sides: &[f64; 3]) {
         &mut counts,
     );
     show::answer(said);
-    show::floats(&lengths, show::rows(said));
-    show::end();
-}
-
-fn measured(said: u64, squares: &[f64; 2]) {
-    show::answer(said);
-    show::floats(squares, 2);
+    floats(&lengths, show::rows(said));
     show::end();
 }
 
 // One edge: its ends are the first two numbers, the axes come after them.
 fn edge(d: u32, list: &[u32], sides: &[f64; 3]) {
-    if 2 <= list.len() {
-        let mut squares = [7.0; 2];
-        let said = planner_edge_length_sq(d, list[0], list[1], &list[2..], sides, &mut squares);
-        measured(said, &squares);
-    }
+    let [from, to, axes @ ..] = list else {
+        return;
+    };
+    let mut squares = [7.0; 2];
+    let said = planner_edge_length_sq(d, *from, *to, axes, sides, &mut squares);
+    show::answer(said);
+    floats(&squares, 2);
+    show::end();
 }
 
 // The call with this number: its numbers, the list that it reads first, and a second list.
-fn call(kind: u64, a: u32, b: u32, first: &[u32], second: &[u32]) {
+pub(crate) fn call(kind: u64, a: u32, b: u32, first: &[u32], second: &[u32]) {
     let sides = [side(second, 0, 1), side(second, 2, 3), side(second, 4, 5)];
-    if kind < 5 {
-        make(kind, a, b, first, &sides);
-    } else if kind < 8 {
-        ask(kind, a, b, first);
-    } else if kind == 8 {
-        orient(a, first);
-    } else if kind < 17 {
-        listing::list(kind, a, first, second);
-    } else if kind == 17 {
-        orient_by(a, first, second);
-    } else if kind == 18 {
-        lengths(a, first, &sides);
-    } else {
-        edge(a, first, &sides);
-    }
-}
-
-// The call on the first n and m numbers of the two lists.
-pub(crate) fn cut(kind: u64, a: u32, b: u32, first: &[u32], n: usize, second: &[u32], m: usize) {
-    if n <= first.len() {
-        if m <= second.len() {
-            call(kind, a, b, &first[..n], &second[..m]);
-        }
+    match kind {
+        0..=4 => make(kind, a, b, first, &sides),
+        5..=7 => ask(kind, a, b, first),
+        8 => orient(a, first),
+        9..=16 => listing::list(kind, a, first, second),
+        17 => orient_by(a, first, second),
+        18 => lengths(a, first, &sides),
+        _ => edge(a, first, &sides),
     }
 }

@@ -1,5 +1,7 @@
-// Added by the port: how the programs that replay stored requests read them. Numbers in a text are decimal, with anything but digits between them.
+// Added by the port: how the programs that replay stored requests read them and print the answers. Numbers in a text are decimal, with anything but digits between them.
 #![tactic(auto)]
+
+pub mod printing;
 
 ghost use Rattle.std.specs.Prelude.{◌≤◌, ◌<◌, length};
 
@@ -19,24 +21,14 @@ pub struct Listed {
 
 // Whether the byte is a digit.
 fn digit(b: u8) -> bool {
-    if b < 48 {
-        return false;
-    }
-    b < 58
+    matches!(b, b'0'..=b'9')
 }
 
 // Where the byte first stands, or the text's length.
 pub fn place(text: &[u8], byte: u8) -> usize
     ensures { result ≤ length text.now }
 {
-    let mut i = 0;
-    while i < text.len() {
-        if text[i] == byte {
-            return i;
-        }
-        i += 1;
-    }
-    i
+    text.iter().position(|b| *b == byte).unwrap_or(text.len())
 }
 
 // Where the line that begins at `from` ends: past its line feed.
@@ -44,14 +36,12 @@ pub fn line_end(text: &[u8], from: usize) -> usize
     requires { from < length text.now }
     ensures { (from < result) × (result ≤ length text.now) }
 {
-    let mut i = from;
-    while i < text.len() {
+    for i in from..text.len() {
         if text[i] == b'\n' {
             return i + 1;
         }
-        i += 1;
     }
-    i
+    text.len()
 }
 
 // Where the first digit stands from `from` on, or the text's length.
@@ -59,14 +49,12 @@ fn skip(text: &[u8], from: usize) -> usize
     requires { from ≤ length text.now }
     ensures { result ≤ length text.now }
 {
-    let mut i = from;
-    while i < text.len() {
+    for i in from..text.len() {
         if digit(text[i]) {
             return i;
         }
-        i += 1;
     }
-    i
+    text.len()
 }
 
 // The value with one more digit; past what 64 bits hold it stays.
@@ -75,7 +63,7 @@ fn more(value: u64, b: u8) -> u64 {
         if b < 48 {
             return value;
         }
-        return value * 10 + ((b - 48) % 10) as u64;
+        return value * 10 + u64::from((b - 48) % 10);
     }
     value
 }
@@ -85,21 +73,16 @@ pub fn number(text: &[u8], from: usize) -> Found
     requires { from ≤ length text.now }
     ensures { result.end ≤ length text.now }
 {
-    let mut i = skip(text, from);
     let mut value = 0;
-    while i < text.len() {
-        if !digit(text[i]) {
-            return Found {
-                value: value,
-                end: i,
-            };
+    for end in skip(text, from)..text.len() {
+        if !digit(text[end]) {
+            return Found { value, end };
         }
-        value = more(value, text[i]);
-        i += 1;
+        value = more(value, text[end]);
     }
     Found {
-        value: value,
-        end: i,
+        value,
+        end: text.len(),
     }
 }
 
@@ -115,17 +98,17 @@ pub fn list(text: &[u8], from: usize, to: &mut [u32]) -> Listed
     ensures end_in_bounds { result.end ≤ length text.now }
 {
     let first = number(text, from);
-    let count = first.value;
     let mut end = first.end;
-    let mut i = 0;
-    while i < to.len() {
-        if i as u64 >= count {
-            return Listed { count: i, end: end };
+    for i in 0..to.len() {
+        if i as u64 >= first.value {
+            return Listed { count: i, end };
         }
         let next = number(text, end);
         to[i] = low(next.value);
         end = next.end;
-        i += 1;
     }
-    Listed { count: i, end: end }
+    Listed {
+        count: to.len(),
+        end,
+    }
 }

@@ -17,15 +17,6 @@ fn call(kind: u64, d: u32, r: u32, words: &[u32], order: &[u32]) {
     }
 }
 
-// The call on the first n and m numbers of the two lists.
-fn cut(kind: u64, d: u32, r: u32, words: &[u32], n: usize, order: &[u32], m: usize) {
-    if n <= words.len() {
-        if m <= order.len() {
-            call(kind, d, r, &words[..n], &order[..m]);
-        }
-    }
-}
-
 // The request that begins at `from`; where the next one begins.
 fn request(text: &[u8], from: usize) -> usize
     requires { from < length text.now }
@@ -38,20 +29,17 @@ fn request(text: &[u8], from: usize) -> usize
     let mut order = [0u32; 64];
     let one = replay_reading::list(text, r.end, &mut words);
     let two = replay_reading::list(text, one.end, &mut order);
-    let end = two.end;
-    if from < end {
+    if from < two.end {
         if 0 < kind.value {
-            cut(
+            call(
                 kind.value,
                 replay_reading::low(d.value),
                 replay_reading::low(r.value),
-                &words,
-                one.count,
-                &order,
-                two.count,
+                &words[..one.count],
+                &order[..two.count],
             );
         }
-        return end;
+        return two.end;
     }
     from + 1
 }
@@ -59,6 +47,7 @@ fn request(text: &[u8], from: usize) -> usize
 // Every request.
 fn replay(text: &[u8]) {
     let mut at = 0;
+    // Kept: each request says where the next begins, so there is no range or list to count over.
     while at < text.len() {
         at = request(text, at);
     }

@@ -1,8 +1,8 @@
 // The refinement calls, with room for every complex of the limits.
 ghost use Rattle.std.specs.Prelude.{◌≡◌, ◌≤◌};
 
-use crate::wide;
 use refine_results::Refinement;
+use refusal::Refusal;
 
 // How many cells and vertices a refinement has; none where it was refused.
 #[derive(Clone, Copy)]
@@ -12,30 +12,18 @@ pub(crate) struct Sizes {
 }
 
 // What a call said.
-fn told(said: Refinement) -> Sizes
+fn told(said: Result<Refinement, Refusal>) -> Sizes
     ensures { (result.cells ≤ 4096) × (result.vertices ≤ 4096) }
 {
-    let Refinement::Made(cells, vertices) = said else {
-        return Sizes {
+    match said {
+        Ok(Refinement { children, vertices }) if children <= 4096 && vertices <= 4096 => Sizes {
+            cells: children as usize,
+            vertices: vertices as usize,
+        },
+        _ => Sizes {
             cells: 0,
             vertices: 0,
-        };
-    };
-    if 4096 < cells {
-        return Sizes {
-            cells: 0,
-            vertices: 0,
-        };
-    }
-    if 4096 < vertices {
-        return Sizes {
-            cells: 0,
-            vertices: 0,
-        };
-    }
-    Sizes {
-        cells: wide(cells),
-        vertices: wide(vertices),
+        },
     }
 }
 

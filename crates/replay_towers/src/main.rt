@@ -12,16 +12,7 @@ mod shares;
 mod show;
 mod tower;
 
-ghost use Rattle.std.specs.Prelude.{◌≡◌};
-
 use tower::Counts;
-
-// A number as an index.
-pub(crate) fn wide(x: u32) -> usize
-    ensures { result ≡ x }
-{
-    x as usize
-}
 
 // One complex.
 fn line(text: &[u8]) -> Counts {
@@ -39,7 +30,7 @@ fn line(text: &[u8]) -> Counts {
         return Counts::fault();
     }
     let sizes = tower::sizes(d, &words[..n], &order[..m]);
-    show::begin(&text[..colon], d as u64, sizes.cells as u64);
+    show::begin(&text[..colon], d, sizes.cells);
     let counts = tower::complex(
         d,
         sizes.vertices,
@@ -55,6 +46,7 @@ fn line(text: &[u8]) -> Counts {
 fn every(text: &[u8]) -> Counts {
     let mut counts = Counts::none();
     let mut at = 0;
+    // Kept: each line says where the next begins, so there is no range or list to count over.
     while at < text.len() {
         let end = replay_reading::line_end(text, at);
         counts = counts.plus(line(&text[at..end]));

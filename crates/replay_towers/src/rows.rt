@@ -2,37 +2,17 @@
 ghost use Rattle.std.specs.Prelude.{◌≡◌, true, false, ◌*◌, ◌≤◌, length};
 ghost use Rattle.replay_towers.specs.WorkRows.{First, Only, Matched, Renamed};
 
-use crate::wide;
-
-// Whether two rows are equal.
-fn same(a: &[u32], b: &[u32]) -> bool
-    requires { length a.now ≡ length b.now }
-    ensures equal { result ≡ true → a.now ≡ b.now }
-    ensures differ { result ≡ false → a.now ≡ b.now → ⊥ }
-{
-    let mut i = 0;
-    while i < a.len() {
-        if a[i] != b[i] {
-            return false;
-        }
-        i += 1;
-    }
-    true
-}
-
 // The number of the first row from number `from` on that is equal to this one, or the number of rows.
 fn first(width: usize, row: &[u32], among: &[u32], count: usize, from: usize) -> usize
     requires { (width ≡ length row.now) × (from ≤ count) × (count * width ≤ length among.now) }
     ensures { First width row.now among.now count from result }
 {
-    let mut i = from;
     let mut at = from * width;
-    while i < count {
+    for i in from..count {
         let end = at + width;
-        if same(row, &among[at..end]) {
+        if row == &among[at..end] {
             return i;
         }
-        i += 1;
         at = end;
     }
     count
@@ -65,9 +45,8 @@ pub(crate) fn matched(
     requires { (count * width ≤ length rows.now) × (count * width ≤ length among.now) × (count ≤ 4096) × (count ≤ length names.old) × (count ≤ length taken.old) }
     ensures { result ≡ true → Matched width count rows.now among.now names.new }
 {
-    let mut x = 0;
     let mut at = 0;
-    while x < count {
+    for x in 0..count {
         let end = at + width;
         let y = only(width, &rows[at..end], among, count);
         if y >= count {
@@ -78,7 +57,6 @@ pub(crate) fn matched(
         }
         taken[y] = 1;
         names[x] = y as u32;
-        x += 1;
         at = end;
     }
     true
@@ -89,14 +67,12 @@ pub(crate) fn rename(words: &[u32], names: &[u32], renamed: &mut [u32]) -> bool
     requires { length words.now ≤ length renamed.old }
     ensures { result ≡ true → Renamed names.now words.now renamed.new }
 {
-    let mut i = 0;
-    while i < words.len() {
-        let v = wide(words[i]);
+    for (i, &word) in words.iter().enumerate() {
+        let v = word as usize;
         if v >= names.len() {
             return false;
         }
         renamed[i] = names[v];
-        i += 1;
     }
     true
 }

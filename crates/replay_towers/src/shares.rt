@@ -1,8 +1,6 @@
 // Shares of the coarse vertices, whole numbers over the refinement number. A table has a row of 32 shares for each vertex: share v of row x is how much of x is the coarse vertex v.
 ghost use Rattle.std.specs.Prelude.{◌≡◌, ◌+◌, ◌*◌, ◌≤◌, ◌<◌, length};
 
-use crate::wide;
-
 // No share: what a sum comes to that is larger than any share can be.
 const NONE: u32 = 4294967295;
 
@@ -26,12 +24,10 @@ fn plus(have: u32, weight: u32, share: u32) -> u32
 fn add_row(weight: u32, y: usize, from: &[u32; 131072], x: usize, to: &mut [u32; 131072])
     requires { (x < 4096) × (y < 4096) }
 {
-    let mut v = 0;
-    while v < 32 {
+    for v in 0..32 {
         let at = x * 32 + v;
         let share = from[y * 32 + v];
         to[at] = plus(to[at], weight, share);
-        v += 1;
     }
 }
 
@@ -39,20 +35,16 @@ fn add_row(weight: u32, y: usize, from: &[u32; 131072], x: usize, to: &mut [u32;
 fn add_kept(n: usize, r: u32, from: &[u32; 131072], to: &mut [u32; 131072])
     requires { n ≤ 4096 }
 {
-    let mut x = 0;
-    while x < n {
+    for x in 0..n {
         add_row(r, x, from, x, to);
-        x += 1;
     }
 }
 
 // One weight of the birth x.
 fn add_weight(x: usize, vertex: u32, weight: u32, from: &[u32; 131072], to: &mut [u32; 131072]) {
-    let y = wide(vertex);
-    if x < 4096 {
-        if y < 4096 {
-            add_row(weight, y, from, x, to);
-        }
+    let y = vertex as usize;
+    if x < 4096 && y < 4096 {
+        add_row(weight, y, from, x, to);
     }
 }
 
@@ -66,10 +58,8 @@ fn add_birth(
 )
     requires { length weights.now ≡ length vertices.now }
 {
-    let mut j = 0;
-    while j < vertices.len() {
-        add_weight(x, vertices[j], weights[j], from, to);
-        j += 1;
+    for (&vertex, &weight) in vertices.iter().zip(weights) {
+        add_weight(x, vertex, weight, from, to);
     }
 }
 
@@ -86,6 +76,7 @@ fn add_births(
 {
     let mut x = n;
     let mut at = 0;
+    // Kept: tried `chunks_exact` with `zip` and `enumerate`; the proof that n + the birth's place fits did not close.
     while at + width <= vertices.len() {
         let end = at + width;
         add_birth(x, &vertices[at..end], &weights[at..end], from, to);
@@ -112,9 +103,7 @@ pub(crate) fn through(
 
 // The table of the coarse vertices: each is itself, over 1.
 pub(crate) fn alone(to: &mut [u32; 131072]) {
-    let mut v = 0;
-    while v < 32 {
+    for v in 0..32 {
         to[v * 33] = 1;
-        v += 1;
     }
 }

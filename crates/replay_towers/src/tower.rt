@@ -14,16 +14,6 @@ pub(crate) struct Counts {
     pub(crate) faults: u64,
 }
 
-// A sum of counts; far past what any run counts it stays.
-fn add(a: u64, b: u64) -> u64 {
-    if a < 4294967296 {
-        if b < 4294967296 {
-            return a + b;
-        }
-    }
-    a
-}
-
 impl Counts {
     // Nothing tried.
     pub(crate) fn none() -> Counts {
@@ -48,10 +38,10 @@ impl Counts {
     // These and those together.
     pub(crate) fn plus(self, more: Counts) -> Counts {
         Counts {
-            pairs: add(self.pairs, more.pairs),
-            vertices: add(self.vertices, more.vertices),
-            words: add(self.words, more.words),
-            faults: add(self.faults, more.faults),
+            pairs: self.pairs.saturating_add(more.pairs),
+            vertices: self.vertices.saturating_add(more.vertices),
+            words: self.words.saturating_add(more.words),
+            faults: self.faults.saturating_add(more.faults),
         }
     }
 }
@@ -237,8 +227,7 @@ fn pairs(
     requires { (d ≤ 3) × (n ≤ 4096) × (r ≤ 64) × (single.cells * (d + 1) ≤ length fine_words.now) }
 {
     let mut counts = Counts::none();
-    let mut a = 1;
-    while a <= r {
+    for a in 1..=r {
         if r % a == 0 {
             counts = counts.plus(pair(
                 d,
@@ -253,7 +242,6 @@ fn pairs(
                 fine,
             ));
         }
-        a += 1;
     }
     counts
 }
@@ -305,10 +293,8 @@ pub(crate) fn complex(d: u32, n: usize, most: usize, given: &[u32], order: &[u32
     requires { (d ≤ 3) × (n ≤ 4096) }
 {
     let mut counts = Counts::none();
-    let mut r = 1;
-    while r <= 64 {
+    for r in 1..=64 {
         counts = counts.plus(single(d, n, most, given, order, r));
-        r += 1;
     }
     counts
 }

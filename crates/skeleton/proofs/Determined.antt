@@ -1,11 +1,11 @@
 -- The promises determine what is said and every list: two calls on equal inputs end alike. Assumes nothing.
+use Rattle.refusal.specs.Says.{Counted}
+use Rattle.std.specs.Prelude.{Err}
 use mathlib.Core.List.{List, []}
 use mathlib.Core.Path.{◌≡◌, refl, sym, ap, ◌∙◌}
 use Prim.Native.Nat.{ℕ}
 use native.Mathlib.Omega.{arith}
 use lib.ListN.{length}
-use Rattle.refusal.specs.declared.Counted.{Counted}
-use Rattle.refusal.specs.declared.Counted.TheVariants.{Refused}
 use Rattle.refusal.specs.declared.Room.{Room}
 use Rattle.refusal.specs.Lent.{onto, lengths}
 use Rattle.refusal.proofs.Determined.{comes-one, cleared-one}
@@ -34,7 +34,7 @@ module _ {H : Type 0} (nothing : H) (d : ℕ) (Rest : Counted → H → Type 0) 
   pub call-one : (need : Room) (ws : List ℕ) (r r' : Counted) (h h' : H) (keys k k' rows o o' spare p p' counts c c' : List ℕ) → Call nothing need Rest d ws r h keys k rows o spare p counts c → Call nothing need Rest d ws r' h' keys k' rows o' spare p' counts c' →
       (r ≡ r') × (h ≡ h') × ((k ≡ k') × (o ≡ o') × (p ≡ p') × (c ≡ c'))
   call-one need ws r r' h h' keys k k' rows o o' spare p p' counts c c' a b =
-      let w = comes-one Refused nothing (answer_of d ws) need (lengths keys rows spare counts) (Ends nothing d (cells_of d ws) Rest) (ends-one (cells_of d ws)) a.comes b.comes in
+      let w = comes-one Err nothing (answer_of d ws) need (lengths keys rows spare counts) (Ends nothing d (cells_of d ws) Rest) (ends-one (cells_of d ws)) a.comes b.comes in
       (w.0, w.1, cleared-one a.used b.used keys k k' rows o o' spare p p' counts c c' w.2 a.room b.room)
 
 -- the calls `cells`, `edges` and `border`

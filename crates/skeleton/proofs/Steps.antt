@@ -1,4 +1,7 @@
 -- The work of the calls, step by step: what each inner call asks follows from what the calls before it gave. Assumes nothing.
+use Rattle.refusal.specs.declared.Refusal.TheVariants.{CrowdedFacet, TooShort}
+use Rattle.refusal.specs.Says.{Counted}
+use Rattle.std.specs.Prelude.{Err, Ok, Option, Some, None}
 use mathlib.Core.Bool.{Bool, true, false}
 use mathlib.Core.List.{List, [], ◌++◌}
 use mathlib.Core.Path.{◌≡◌, refl, sym, ap, ◌∙◌, subst}
@@ -7,10 +10,7 @@ use native.Mathlib.Nat.{mul_comm, mul-zero, suc-mul, mul-suc, mul-le-mul_left, m
 use native.Mathlib.Numerals.{add-one}
 use native.Mathlib.Omega.{arith}
 use lib.ListN.{length, take, drop}
-use Rattle.refusal.specs.declared.Counted.{Counted}
-use Rattle.refusal.specs.declared.Counted.TheVariants.{Count, Refused}
 use Rattle.refusal.specs.declared.Room.{Room}
-use Rattle.refusal.specs.Table.{crowded_facet, too_short}
 use Rattle.refusal.specs.Lent.{lengths, Roomy}
 use Rattle.lists.specs.Rows.{cut, flat}
 use Rattle.lists.proofs.Flat.{flat-cut}
@@ -84,24 +84,24 @@ still need d ws keys rows spare counts keys' rows' spare' counts' lk lr ls lc w 
     }
 
 -- ---- handing out
-pub handed-short : (ws : List (List ℕ)) (out : List ℕ) → length out < length (flat ws) → Handed ws (Refused too_short 0) out out
+pub handed-short : (ws : List (List ℕ)) (out : List ℕ) → length out < length (flat ws) → Handed ws (Err TooShort) out out
 handed-short ws out h = record { handed = []; gives = short h; result = refl }
 
-pub handed-all : (ws : List (List ℕ)) (m : ℕ) (out out' : List ℕ) → length ws ≡ m → length (flat ws) ≤ length out → out' ≡ flat ws ++ drop (length (flat ws)) out → Handed ws (Count m) out out'
-handed-all ws m out out' e h q = record { handed = flat ws; gives = subst (λ (n : ℕ). Gives ws (length out) (Count n) (flat ws)) e (listed h); result = q }
+pub handed-all : (ws : List (List ℕ)) (m : ℕ) (out out' : List ℕ) → length ws ≡ m → length (flat ws) ≤ length out → out' ≡ flat ws ++ drop (length (flat ws)) out → Handed ws (Ok m) out out'
+handed-all ws m out out' e h q = record { handed = flat ws; gives = subst (λ (n : ℕ). Gives ws (length out) (Ok n) (flat ws)) e (listed h); result = q }
 
 -- a copy of the flat list, and the rest of the result list
-pub handed-copy : (ws : List (List ℕ)) (m : ℕ) (from out part : List ℕ) → flat ws ≡ from → length ws ≡ m → length from ≤ length out → part ≡ from → Handed ws (Count m) out (part ++ drop (length from) out)
+pub handed-copy : (ws : List (List ℕ)) (m : ℕ) (from out part : List ℕ) → flat ws ≡ from → length ws ≡ m → length from ≤ length out → part ≡ from → Handed ws (Ok m) out (part ++ drop (length from) out)
 handed-copy ws m from out part f e h p = handed-all ws m out (part ++ drop (length from) out) e (rw f h) (rw (f, p))
 
 module _ (stride m : ℕ) (keys list : List ℕ) (a : Naming stride m keys list) (ws : List (List ℕ)) (f : flat ws ≡ rows_of keys stride (take m list)) where
   rows_long : length (flat ws) ≡ m * stride
   rows_long = ap length f ∙ rows_of-pos keys stride list m m a.inside (omega arith) a.long
 
-  pub handed-less : (out : List ℕ) → length out < m * stride → Handed ws (Refused too_short 0) out out
+  pub handed-less : (out : List ℕ) → length out < m * stride → Handed ws (Err TooShort) out out
   handed-less out h = handed-short ws out (omega (arith, rows_long))
 
-  pub handed-rows : (out out' : List ℕ) → length ws ≡ m → m * stride ≤ length out → out' ≡ rows_of keys stride (take m list) ++ drop (m * stride) out → Handed ws (Count m) out out'
+  pub handed-rows : (out out' : List ℕ) → length ws ≡ m → m * stride ≤ length out → out' ≡ rows_of keys stride (take m list) ++ drop (m * stride) out → Handed ws (Ok m) out out'
   handed-rows out out' e h q = handed-all ws m out out' e (omega (arith, rows_long)) (rw (rows_long, f) q)
 
 -- ---- the cells
@@ -192,28 +192,28 @@ module _ (d : ℕ) (ws keys rows spare counts : List ℕ) (w : Working (need_of 
   pub passing : Meeting d m (length ws) keys' rows' spare' counts' × (m * slots d * d < 4294967296)
   passing = (meeting d ws keys rows spare counts w m keys' rows' spare' counts' lk lr ls lc a, room-narrow d m (length ws) w.passed.small a.corners a.most)
 
-  module _ (ok : Bool) (f : ℕ) (keys'' rows'' spare'' counts'' : List ℕ) (lr'' : length rows'' ≡ length rows') (c : Found d (cut (suc d) m rows') ok f keys'' spare'' counts'' rows'') where
-    crowd : ok ≡ false → Crowded d (cells_of d ws)
+  module _ (said : Option ℕ) (f : ℕ) (keys'' rows'' spare'' counts'' : List ℕ) (lr'' : length rows'' ≡ length rows') (c : Found d (cut (suc d) m rows') said keys'' spare'' counts'' rows'') where
+    crowd : said ≡ None → Crowded d (cells_of d ws)
     crowd e = subst (λ (cs : List (List ℕ)). Crowded d cs) a.same (c.no e)
 
     -- 7
-    pub border-crowded : (out : List ℕ) → ok ≡ false → Worked d ws (border_of d (cells_of d ws)) (Refused crowded_facet 0) out out
+    pub border-crowded : (out : List ℕ) → said ≡ None → Worked d ws (border_of d (cells_of d ws)) (Err CrowdedFacet) out out
     border-crowded out e = record { handed = []; ends = crowded (crowd e); result = refl }
 
-    pub both-crowded : (beside out list : List ℕ) → ok ≡ false → WorkedBoth beside d ws (Refused crowded_facet 0) out out list list
+    pub both-crowded : (beside out list : List ℕ) → said ≡ None → WorkedBoth beside d ws (Err CrowdedFacet) out out list list
     both-crowded beside out list e = record { handed = ([], []); ends = crowded (crowd e); result = refl; sides = refl }
 
-    module _ (e : ok ≡ true) where
+    module _ (e : said ≡ Some f) where
       free : Crowded d (cells_of d ws) → ⊥
-      free x = not-crowded d m (cut (suc d) m rows') (cut-length (suc d) m rows') rows'' (c.yes e).mates (omega (arith, a.most, a.corners)) (subst (λ (cs : List (List ℕ)). Crowded d cs) (sym a.same) x)
+      free x = not-crowded d m (cut (suc d) m rows') (cut-length (suc d) m rows') rows'' (c.yes f e).mates (omega (arith, a.most, a.corners)) (subst (λ (cs : List (List ℕ)). Crowded d cs) (sym a.same) x)
 
       pub pass_of : Pass d (cells_of d ws) f keys'' spare'' counts'' rows''
-      pass_of = subst (λ (cs : List (List ℕ)). Pass d cs f keys'' spare'' counts'' rows'') a.same (c.yes e)
+      pass_of = subst (λ (cs : List (List ℕ)). Pass d cs f keys'' spare'' counts'' rows'') a.same (c.yes f e)
 
       most-facets : f ≤ length ws
       most-facets =
           let q : length (cut (suc d) m rows') * slots d ≡ m * slots d = ap (λ (n : ℕ). n * slots d) (cut-length (suc d) m rows') in
-          omega (arith, (c.yes e).classes.most, mul-le-mul_left m (slots-most d), a.most)
+          omega (arith, (c.yes f e).classes.most, mul-le-mul_left m (slots-most d), a.most)
 
       pub loning : (f ≤ length spare'') × (f ≤ length counts'') × (f ≤ length rows'')
       loning = (pass_of.classes.named.rows.long, pass_of.classes.long, omega (arith, most-facets, w.room.in_rows))
@@ -228,7 +228,7 @@ module _ (d : ℕ) (ws keys rows spare counts : List ℕ) (w : Working (need_of 
       pub besides : (beside : Beside) (k : ℕ) (list : List ℕ) → k ≡ slots d → f * width_of beside ≤ length list → Besides beside d k f spare'' counts'' list
       besides beside k list q h =
           record {
-            some = λ l. rw q (positive (slots d) l (c.yes e).classes.most);
+            some = λ l. rw q (positive (slots d) l (c.yes f e).classes.most);
             few = rw q (slots-most d);
             dim = omega (arith, w.passed.small);
             in_reps = pass_of.classes.named.rows.long;
@@ -260,20 +260,20 @@ module _ (d : ℕ) (ws keys rows spare counts : List ℕ) (w : Working (need_of 
       beside_long : (beside : Beside) → length (beside_for beside d (cells_of d ws)) ≡ f * width_of beside
       beside_long beside = ap length (beside-is beside) ∙ beside-width beside
 
-      pub both-words-short : (beside : Beside) (out list : List ℕ) → length out < f * d → WorkedBoth (beside_for beside d (cells_of d ws)) d ws (Refused too_short 0) out out list list
+      pub both-words-short : (beside : Beside) (out list : List ℕ) → length out < f * d → WorkedBoth (beside_for beside d (cells_of d ws)) d ws (Err TooShort) out out list list
       both-words-short beside out list h = record { handed = ([], []); ends = rest free (words_short (omega (arith, facets-long))); result = refl; sides = refl }
 
-      pub both-list-short : (beside : Beside) (out list : List ℕ) → length list < f * width_of beside → WorkedBoth (beside_for beside d (cells_of d ws)) d ws (Refused too_short 0) out out list list
+      pub both-list-short : (beside : Beside) (out list : List ℕ) → length list < f * width_of beside → WorkedBoth (beside_for beside d (cells_of d ws)) d ws (Err TooShort) out out list list
       both-list-short beside out list h = record { handed = ([], []); ends = rest free (table_short (omega (arith, beside_long beside))); result = refl; sides = refl }
 
       pub both-handed : (beside : Beside) (out out' list list' : List ℕ) (k : ℕ) → k ≡ slots d → f * d ≤ length out → f * width_of beside ≤ length list → out' ≡ rows_of keys'' d (take f spare'') ++ drop (f * d) out → list' ≡ beside_as beside d k f spare'' counts'' ++ drop (f * width_of beside) list →
-          WorkedBoth (beside_for beside d (cells_of d ws)) d ws (Count f) out out' list list'
+          WorkedBoth (beside_for beside d (cells_of d ws)) d ws (Ok f) out out' list list'
       both-handed beside out out' list list' k q h g o l =
           record {
             handed = (flat (facets_of d (cells_of d ws)), beside_for beside d (cells_of d ws));
             ends =
                 rest free
-                (subst (λ (n : ℕ). GivesBoth (facets_of d (cells_of d ws)) (beside_for beside d (cells_of d ws)) (length out) (length list) (Count n) (flat (facets_of d (cells_of d ws)), beside_for beside d (cells_of d ws))) (named-many (facets_of d (cells_of d ws)) d f keys'' spare'' pass_of.classes.named)
+                (subst (λ (n : ℕ). GivesBoth (facets_of d (cells_of d ws)) (beside_for beside d (cells_of d ws)) (length out) (length list) (Ok n) (flat (facets_of d (cells_of d ws)), beside_for beside d (cells_of d ws))) (named-many (facets_of d (cells_of d ws)) d f keys'' spare'' pass_of.classes.named)
                 (both_listed (omega (arith, facets-long)) (omega (arith, beside_long beside))));
             result = rw (facets-long, facets-flat) o;
             sides = rw (beside_long beside, beside-is beside) (l ∙ ap (λ (z : ℕ). beside_as beside d z f spare'' counts'' ++ drop (f * width_of beside) list) q);
@@ -281,7 +281,7 @@ module _ (d : ℕ) (ws keys rows spare counts : List ℕ) (w : Working (need_of 
 
 -- ---- after 7
 module _ (d : ℕ) (ws : List ℕ) (ok : Bool) (s : Sound d ws ok) (words : List (List ℕ)) where
-  pub worked-crowded : (out : List ℕ) → ok ≡ false → Worked d ws words (Refused crowded_facet 0) out out
+  pub worked-crowded : (out : List ℕ) → ok ≡ false → Worked d ws words (Err CrowdedFacet) out out
   worked-crowded out e = record { handed = []; ends = crowded (s.no e); result = refl }
 
   pub worked-rest : (r : Counted) (out out' : List ℕ) → ok ≡ true → Handed words r out out' → Worked d ws words r out out'

@@ -1,6 +1,6 @@
 -- What the inner functions ask of their lists and give. Assumes nothing.
+use Rattle.refusal.specs.Says.{Counted}
 use Rattle.std.specs.Prelude.{Bool, true, false, List, [], ◌≡◌, ℕ, suc, ◌*◌, ◌<◌, ◌≤◌, length}
-use Rattle.refusal.specs.declared.Counted.{Counted}
 use Rattle.refusal.specs.declared.Room.{Room}
 use Rattle.refusal.specs.Lent.{onto, lengths, Roomy}
 use Rattle.complex.specs.Check.{Passed}

@@ -21,7 +21,7 @@ ghost use Rattle.skeleton.specs.Promise.{Listed, BothListed, FacetsListed, Recor
 ghost use Rattle.skeleton.specs.Parts.{edge_need, need_for, words_for, width_of, beside_for, beside_as};
 ghost use Rattle.skeleton.specs.Work.{Working, Sound, Handed, Worked, Besides, WorkedBoth};
 
-use refusal::{Answer, CROWDED_FACET, Counted, Room, TOO_SHORT};
+use refusal::{Refusal, Room};
 
 // Which list of words is asked for.
 #[derive(Clone, Copy)]
@@ -55,28 +55,34 @@ pub fn sound(
 }
 
 // Hands out a flat list of m words.
-pub fn hand_out(m: usize, from: &[u32], out: &mut [u32]) -> Counted
+pub fn hand_out(m: usize, from: &[u32], out: &mut [u32]) -> Result<u32, Refusal>
     requires { m < 4294967296 }
     ensures { (ws : List (List ℕ)) → flat ws ≡ from.now → length ws ≡ m → Handed ws result out.old out.new }
 {
     let long = from.len();
     if out.len() < long {
-        return Counted::Refused(TOO_SHORT, 0);
+        return Err(Refusal::TooShort);
     }
-    lists::copy(from, &mut out[..long]);
-    Counted::Count(m as u32)
+    out[..long].copy_from_slice(from);
+    Ok(m as u32)
 }
 
 // Hands out the rows of `keys` that the first m of `list` name.
-fn hand_rows(stride: usize, m: usize, keys: &[u32], list: &[u32], out: &mut [u32]) -> Counted
+fn hand_rows(
+    stride: usize,
+    m: usize,
+    keys: &[u32],
+    list: &[u32],
+    out: &mut [u32],
+) -> Result<u32, Refusal>
     requires { Naming stride m keys.now list.now }
     ensures { (ws : List (List ℕ)) → flat ws ≡ rows_of keys.now stride (take m list.now) → length ws ≡ m → Handed ws result out.old out.new }
 {
     if out.len() < m * stride {
-        return Counted::Refused(TOO_SHORT, 0);
+        return Err(Refusal::TooShort);
     }
     sorting::gather(keys, stride, list, m, out);
-    Counted::Count(m as u32)
+    Ok(m as u32)
 }
 
 // Hands out the cells, or 7.
@@ -88,12 +94,12 @@ fn list_cells(
     rows: &mut [u32],
     spare: &mut [u32],
     counts: &mut [u32],
-) -> Counted
+) -> Result<u32, Refusal>
     requires { Working (need_of d (length words.now)) d words.now keys.old rows.old spare.old counts.old }
     ensures { Worked d words.now (cells_of d words.now) result out.old out.new }
 {
     if !sound(d, words, keys, rows, spare, counts) {
-        return Counted::Refused(CROWDED_FACET, 0);
+        return Err(Refusal::CrowdedFacet);
     }
     let m = complex_cells::cells(d, words, keys, rows, spare, counts);
     let long = m * (d + 1);
@@ -109,12 +115,12 @@ fn list_edges(
     rows: &mut [u32],
     spare: &mut [u32],
     counts: &mut [u32],
-) -> Counted
+) -> Result<u32, Refusal>
     requires { Working (edge_need d (length words.now)) d words.now keys.old rows.old spare.old counts.old }
     ensures { Worked d words.now (edges_of (cells_of d words.now)) result out.old out.new }
 {
     if !sound(d, words, keys, rows, spare, counts) {
-        return Counted::Refused(CROWDED_FACET, 0);
+        return Err(Refusal::CrowdedFacet);
     }
     let m = complex_cells::cells(d, words, keys, rows, spare, counts);
     let e = complex_edges::edges(d, m, words.len(), keys, rows, spare, counts);
@@ -130,16 +136,15 @@ fn list_border(
     rows: &mut [u32],
     spare: &mut [u32],
     counts: &mut [u32],
-) -> Counted
+) -> Result<u32, Refusal>
     requires { Working (need_of d (length words.now)) d words.now keys.old rows.old spare.old counts.old }
     ensures { Worked d words.now (border_of d (cells_of d words.now)) result out.old out.new }
 {
     let m = complex_cells::cells(d, words, keys, rows, spare, counts);
-    let found = complex_facets::facets(d, m, words.len(), keys, rows, spare, counts);
-    if !found.sound {
-        return Counted::Refused(CROWDED_FACET, 0);
-    }
-    let j = complex_facets::lone(found.count, spare, counts, rows);
+    let Some(f) = complex_facets::facets(d, m, words.len(), keys, rows, spare, counts) else {
+        return Err(Refusal::CrowdedFacet);
+    };
+    let j = complex_facets::lone(f, spare, counts, rows);
     hand_rows(d, j, keys, rows, out)
 }
 
@@ -183,26 +188,24 @@ fn list_facets(
     rows: &mut [u32],
     spare: &mut [u32],
     counts: &mut [u32],
-) -> Counted
+) -> Result<u32, Refusal>
     requires { Working (need_of d (length words.now)) d words.now keys.old rows.old spare.old counts.old }
     ensures { WorkedBoth (beside_for beside d (cells_of d words.now)) d words.now result out.old out.new list.old
         list.new }
 {
     let m = complex_cells::cells(d, words, keys, rows, spare, counts);
-    let found = complex_facets::facets(d, m, words.len(), keys, rows, spare, counts);
-    if !found.sound {
-        return Counted::Refused(CROWDED_FACET, 0);
-    }
-    let f = found.count;
+    let Some(f) = complex_facets::facets(d, m, words.len(), keys, rows, spare, counts) else {
+        return Err(Refusal::CrowdedFacet);
+    };
     if out.len() < f * d {
-        return Counted::Refused(TOO_SHORT, 0);
+        return Err(Refusal::TooShort);
     }
     if list.len() < f * width(beside) {
-        return Counted::Refused(TOO_SHORT, 0);
+        return Err(Refusal::TooShort);
     }
     sorting::gather(keys, d, spare, f, out);
     write_beside(beside, d, complex_mates::slots(d), f, spare, counts, list);
-    Counted::Count(f as u32)
+    Ok(f as u32)
 }
 
 // What the call for a part needs of its working lists.
@@ -236,7 +239,7 @@ fn work(
     rows: &mut [u32],
     spare: &mut [u32],
     counts: &mut [u32],
-) -> Counted
+) -> Result<u32, Refusal>
     requires { Working (need_for part d (length words.now)) d words.now keys.old rows.old spare.old counts.old }
     ensures { Worked d words.now (words_for part d (cells_of d words.now)) result out.old out.new }
 {
@@ -257,7 +260,7 @@ fn cleared(
     rows: &mut [u32],
     spare: &mut [u32],
     counts: &mut [u32],
-) -> Counted
+) -> Result<u32, Refusal>
     requires { Working (need_for part d (length words.now)) d words.now keys.old rows.old spare.old counts.old }
     ensures work { Worked d words.now (words_for part d (cells_of d words.now)) result out.old out.new }
     ensures room { AllZero keys.old keys.new rows.old rows.new spare.old spare.new counts.old
@@ -278,15 +281,12 @@ fn checked(
     rows: &mut [u32],
     spare: &mut [u32],
     counts: &mut [u32],
-) -> Counted
+) -> Result<u32, Refusal>
     ensures { Listed (need_for part d (length words.now)) (words_for part d (cells_of d words.now)) d words.now result out.old
         out.new keys.old keys.new rows.old rows.new spare.old spare.new
         counts.old counts.new }
 {
-    let answer = complex::check_cells(d, words);
-    if let Answer::Refused(number, place) = answer {
-        return Counted::Refused(number, place);
-    }
+    complex::check_cells(d, words)?;
     let dim = d as usize;
     let need = need(part, dim, words.len());
     let have = Room {
@@ -296,7 +296,7 @@ fn checked(
         counts: counts.len(),
     };
     if !refusal::has_room(need, have) {
-        return Counted::Refused(TOO_SHORT, 0);
+        return Err(Refusal::TooShort);
     }
     let k = need.keys;
     let r = need.rows;
@@ -324,7 +324,7 @@ pub fn cells(
     rows: &mut [u32],
     spare: &mut [u32],
     counts: &mut [u32],
-) -> Counted
+) -> Result<u32, Refusal>
     ensures { Listed (need_of d (length words.now)) (cells_of d words.now) d words.now result cells.old cells.new
         keys.old keys.new rows.old rows.new spare.old spare.new counts.old
         counts.new }
@@ -341,7 +341,7 @@ pub fn edges(
     rows: &mut [u32],
     spare: &mut [u32],
     counts: &mut [u32],
-) -> Counted
+) -> Result<u32, Refusal>
     ensures { Listed (edge_need d (length words.now)) (edges_of (cells_of d words.now)) d words.now result edges.old
         edges.new keys.old keys.new rows.old rows.new spare.old spare.new
         counts.old counts.new }
@@ -358,7 +358,7 @@ pub fn border(
     rows: &mut [u32],
     spare: &mut [u32],
     counts: &mut [u32],
-) -> Counted
+) -> Result<u32, Refusal>
     ensures { Listed (need_of d (length words.now)) (border_of d (cells_of d words.now)) d words.now result border.old
         border.new keys.old keys.new rows.old rows.new spare.old spare.new
         counts.old counts.new }
@@ -377,7 +377,7 @@ fn facet_cleared(
     rows: &mut [u32],
     spare: &mut [u32],
     counts: &mut [u32],
-) -> Counted
+) -> Result<u32, Refusal>
     requires { Working (need_of d (length words.now)) d words.now keys.old rows.old spare.old counts.old }
     ensures work { WorkedBoth (beside_for beside d (cells_of d words.now)) d words.now result out.old out.new list.old
         list.new }
@@ -400,15 +400,12 @@ fn checked_facets(
     rows: &mut [u32],
     spare: &mut [u32],
     counts: &mut [u32],
-) -> Counted
+) -> Result<u32, Refusal>
     ensures { BothListed (beside_for beside d (cells_of d words.now)) d words.now result facets.old facets.new list.old
         list.new keys.old keys.new rows.old rows.new spare.old spare.new
         counts.old counts.new }
 {
-    let answer = complex::check_cells(d, words);
-    if let Answer::Refused(number, place) = answer {
-        return Counted::Refused(number, place);
-    }
+    complex::check_cells(d, words)?;
     let dim = d as usize;
     let need = complex::need(dim, words.len());
     let have = Room {
@@ -418,7 +415,7 @@ fn checked_facets(
         counts: counts.len(),
     };
     if !refusal::has_room(need, have) {
-        return Counted::Refused(TOO_SHORT, 0);
+        return Err(Refusal::TooShort);
     }
     let k = need.keys;
     let r = need.rows;
@@ -448,7 +445,7 @@ pub fn facets(
     rows: &mut [u32],
     spare: &mut [u32],
     counts: &mut [u32],
-) -> Counted
+) -> Result<u32, Refusal>
     ensures { FacetsListed d words.now result facets.old facets.new table.old table.new keys.old
         keys.new rows.old rows.new spare.old spare.new counts.old counts.new }
 {
@@ -477,7 +474,7 @@ pub fn facet_records(
     rows: &mut [u32],
     spare: &mut [u32],
     counts: &mut [u32],
-) -> Counted
+) -> Result<u32, Refusal>
     ensures { RecordsListed d words.now result facets.old facets.new records.old records.new keys.old
         keys.new rows.old rows.new spare.old spare.new counts.old counts.new }
 {

@@ -2,9 +2,8 @@
 use mathlib.Core.Path.{◌≡◌, refl, sym, ap, subst, ◌∙◌}
 use mathlib.Core.Bool.{Bool, true, false, cond}
 use mathlib.Core.List.{List, [], ◌∷◌, ◌++◌, append_assoc}
-use Prim.Native.Nat.{ℕ, zero, suc, ◌+◌, ◌-◌, ◌*◌, ◌/◌, ◌%◌, ◌≤◌, ◌<◌, ◌^◌}
-use native.Mathlib.Nat.{pow-suc, pow-le-pow_right}
-use native.Mathlib.Numerals.{add-one}
+use Prim.Native.Nat.{ℕ, zero, suc, ◌+◌, ◌-◌, ◌/◌, ◌%◌, ◌≤◌, ◌<◌, ◌^◌}
+use native.Mathlib.Nat.{pow-le-pow_right}
 use native.Mathlib.Omega.{arith}
 use lib.ListN.{length, length-append}
 use lib.Dec.{ltb}
@@ -14,14 +13,11 @@ use Rattle.text.specs.Decimal.{digit_at, digits_down, decimal_down}
 use Rattle.text.specs.Adds.{Adds}
 use Rattle.text.proofs.Adding.{adds_none, adds-more}
 
-pub power-fits : (i p : ℕ) → i < 9 → p ≡ 10 ^ i → p ≤ 100000000
-power-fits i p h e = subst (λ (x : ℕ). x ≤ 100000000) (sym e) (pow-le-pow_right {n = 10} (omega arith) {i = i} {j = 8} (omega arith))
+pub power-fits : (k : ℕ) → k < 10 → 10 ^ k ≤ 1000000000
+power-fits k h = pow-le-pow_right {n = 10} (omega arith) {i = k} {j = 9} (omega arith)
 
 pub power_pos : (i p : ℕ) → p ≡ 10 ^ i → 0 < p
 power_pos i p e = subst (λ (x : ℕ). 0 < x) (sym e) (pow-le-pow_right {n = 10} (omega arith) {i = 0} {j = i} (omega arith))
-
-pub power-more : (i p : ℕ) → p ≡ 10 ^ i → p * 10 ≡ 10 ^ (i + 1)
-power-more i p e = ap (λ (x : ℕ). x * 10) e ∙ sym (ap (λ (j : ℕ). 10 ^ j) (add-one i) ∙ pow-suc 10 i)
 
 -- ---- where the digits begin
 

@@ -18,13 +18,7 @@ pub fn power(k: u32) -> u32
     requires { k < 10 }
     ensures { result ≡ 10 ^ k }
 {
-    let mut p = 1u32;
-    let mut i = 0u32;
-    while i < k {
-        p *= 10;
-        i += 1;
-    }
-    p
+    10u32.pow(k)
 }
 
 // The power of ten at which the digits of n begin.
@@ -32,14 +26,12 @@ pub fn top(n: u32) -> u32
     ensures bound { result < 10 }
     ensures begins { digits_down result n ≡ decimal n }
 {
-    let mut k = 9u32;
-    while k > 0 {
+    for k in (1..10u32).rev() {
         if n >= power(k) {
             return k;
         }
-        k -= 1;
     }
-    k
+    0
 }
 
 impl Text {
@@ -70,10 +62,8 @@ impl Text {
         ensures { Adds w.now self result }
     {
         let mut t = self;
-        let mut i = 0;
-        while i < w.len() {
-            t = t.push(w[i]);
-            i += 1;
+        for &b in w {
+            t = t.push(b);
         }
         t
     }
@@ -84,12 +74,10 @@ impl Text {
         ensures { Adds (digits_down k n) self result }
     {
         let mut t = self;
-        let mut j = k;
-        while j > 0 {
-            t = t.push(48 + (n / power(j) % 10) as u8);
-            j -= 1;
+        for j in (1..k + 1).rev() {
+            t = t.push(b'0' + (n / power(j) % 10) as u8);
         }
-        t.push(48 + (n % 10) as u8)
+        t.push(b'0' + (n % 10) as u8)
     }
 
     // The number n in decimal.

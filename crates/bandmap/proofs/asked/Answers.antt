@@ -19,4 +19,4 @@ pub need-need-requires : goal.need-need-requires
 need-need-requires c = (dim c.args.grid c.requires, omega (arith, corners-few c.args.grid c.requires, corners-are c.args.grid c.requires _ c.cells.ensures))
 
 pub drawn-requires : goal.drawn-requires
-drawn-requires c = let t = twelve-drawn c.args.grid _ _ _ _ _ _ _ _ _ _ _ _ _ _ _ c.geojson-said.ensures c.in-Refused.is c.if-number-eq-TOO_SHORT.true c.requires (roomy c.args.grid c.args.south c.args.north c.args.keys.now c.args.keys.now c.args.rows.now c.args.spare.now c.args.counts.now c.requires c.need-need.result (c.need-need.ensures ∙ ap (λ (n : ℕ). need_of c.args.grid.d n) (corners-are c.args.grid c.requires _ c.cells.ensures)) (c.has_room.ensures.yes (c.if-not-has_room.false))) in (c.requires, t.0, t.1)
+drawn-requires c = let t = twelve-drawn c.args.grid _ _ _ _ _ _ _ _ _ _ _ _ _ _ c.geojson.ensures c.in-Err-TooShort.is c.in-Err-TooShort.field-0-is c.requires (roomy c.args.grid c.args.south c.args.north c.args.keys.now c.args.keys.now c.args.rows.now c.args.spare.now c.args.counts.now c.requires c.need-need.result (c.need-need.ensures ∙ ap (λ (n : ℕ). need_of c.args.grid.d n) (corners-are c.args.grid c.requires _ c.cells.ensures)) (c.has_room.ensures.yes (c.if-not-has_room.false))) in (c.requires, t.0, t.1)

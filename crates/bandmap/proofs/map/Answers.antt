@@ -3,4 +3,4 @@ use mathlib.Core.Path.{sym, ◌∙◌}
 use Rattle.bandmap.proofs.map.Goals as goal
 
 pub asked-requires : goal.asked-requires
-asked-requires c = sym c.check-checked.ensures ∙ c.in_default.is
+asked-requires c = sym c.check.ensures ∙ c.in_default.is

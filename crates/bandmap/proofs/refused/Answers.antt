@@ -4,4 +4,4 @@ use native.Mathlib.Omega.{arith}
 use Rattle.bandmap.proofs.refused.Goals as goal
 
 pub word-c-requires : goal.word-c-requires
-word-c-requires c = omega (arith, number-long c.args.number c.number-b.ensures, c.word-a.ensures.next)
+word-c-requires c = omega (arith, number-long _ c.number-b.ensures, c.word-a.ensures.next)

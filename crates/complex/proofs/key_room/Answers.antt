@@ -2,7 +2,7 @@
 use Rattle.complex.specs.Room.{key_room}
 use native.Mathlib.Nat.{mul-le-mul_right}
 use mathlib.Core.Path.{◌≡◌, refl}
-use Prim.Native.Nat.{ℕ, zero, suc, ◌*◌, ◌-◌}
+use Prim.Native.Nat.{ℕ, zero, suc, ◌*◌}
 use native.Mathlib.Omega.{arith}
 use Rattle.complex.proofs.key_room.Goals as goal
 

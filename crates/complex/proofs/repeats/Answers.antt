@@ -1,26 +1,26 @@
-use mathlib.Core.Bool.{true, false}
-use Rattle.lists.specs.Words.{among}
-use Rattle.lists.proofs.Words.{tail-part}
-use Rattle.lists.proofs.Words.{repeat-hit, repeat-miss, repeat-end}
+-- A number that stands again after its place, or none so far. Assumes nothing.
+use mathlib.Core.Bool.{Bool}
+use mathlib.Core.List.{List}
+use Prim.Native.Nat.{ℕ, ◌+◌, ◌-◌}
 use mathlib.Core.Path.{◌≡◌, sym, ◌∙◌}
-use Prim.Native.Nat.{◌+◌, ◌-◌}
-use borrow.Author.Rules.{rules}
-use lib.ListN.{get_or, drop}
+use lib.Dec.{eqb}
+use lib.ListN.{length, get_or, take, drop}
+use Rattle.std.specs.List.{list_any}
+use Rattle.lists.specs.Words.{among}
+use Rattle.lists.proofs.Words.{among_any, tail-part, repeat-hit, repeat-miss, repeat-end}
 use Rattle.complex.proofs.repeats.Goals as goal
 
-pub returns-then-holds : goal.returns-then-holds
-returns-then-holds c =
-    let w = c.args.w.now in
-    let i = c.loop-i.i in
-    let again : among (get_or w i 0) (drop (i + 1) w) ≡ true = rw (tail-part w (i + 1)) at (sym c.holds.ensures ∙ c.if-holds.true) in
-    sym (c.loop-i.invariant.1 ∙ repeat-hit w i c.loop-i-test.true again)
+-- what the part after i says
+again : (w : List ℕ) (i : ℕ) (r b : Bool) → r ≡ list_any (λ y. eqb y (get_or w i 0)) (take (length w - (i + 1)) (drop (i + 1) w)) → r ≡ b → among (get_or w i 0) (drop (i + 1) w) ≡ b
+again w i r b e t = sym (among_any (get_or w i 0) (drop (i + 1) w)) ∙ (rw (tail-part w (i + 1)) at (sym e ∙ t))
+
+pub returns-then-contains : goal.returns-then-contains
+returns-then-contains c =
+    sym (c.loop-i.invariant ∙ repeat-hit c.args.w.now c.loop-i.i c.loop-i-test.true (again c.args.w.now c.loop-i.i _ _ c.contains.ensures.value c.if-contains.true))
 
 pub loop-i-preserved : goal.loop-i-preserved
 loop-i-preserved c =
-    let w = c.args.w.now in
-    let i = c.loop-i.i in
-    let once : among (get_or w i 0) (drop (i + 1) w) ≡ false = rw (tail-part w (i + 1)) at (sym c.holds.ensures ∙ c.if-holds.false) in
-    (search rules, c.loop-i.invariant.1 ∙ repeat-miss w i c.loop-i-test.true once)
+    c.loop-i.invariant ∙ repeat-miss c.args.w.now c.loop-i.i c.loop-i-test.true (again c.args.w.now c.loop-i.i _ _ c.contains.ensures.value c.if-contains.false)
 
 pub returns : goal.returns
-returns c = sym (c.loop-i.invariant.1 ∙ repeat-end _ _ c.loop-i-test.false)
+returns c = sym (c.loop-i.invariant ∙ repeat-end _ _ c.loop-i-test.false)

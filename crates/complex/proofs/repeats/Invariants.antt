@@ -1,11 +1,8 @@
+-- No number before i stands again: the rest decides. Assumes nothing.
 use Rattle.lists.specs.Words.{has_repeat}
 use mathlib.Core.Path.{◌≡◌}
-use Prim.Native.Nat.{◌-◌, ◌≤◌}
-use lib.ListN.{length, drop}
+use lib.ListN.{drop}
 use Rattle.complex.proofs.repeats.Given as goal
 
 abbrev pub invariant-loop-i : goal.invariant-loop-i
-invariant-loop-i l = (l.i ≤ length l.w) × (has_repeat l.w ≡ has_repeat (drop l.i l.w))
-
-abbrev pub decreases-loop-i : goal.decreases-loop-i
-decreases-loop-i l = length l.w - l.i
+invariant-loop-i l = has_repeat l.w ≡ has_repeat (drop l.i l.w)

@@ -1,5 +1,6 @@
 -- `complex_boundary::boundary` meets its contract, by its three ways out (proofs/Entry): a refusal and too little room touch nothing; else the work's end stands, and what was
 -- lent to it came back as zeros. Assumes nothing.
+use Rattle.refusal.proofs.Chain.{passed_on}
 use lib.Seq.{length-take-le}
 use Rattle.complex.specs.Cells.{cells_of}
 use Rattle.complex_boundary.specs.Need.{face_need}
@@ -14,21 +15,17 @@ use Prim.Native.Nat.{◌≤◌}
 use lib.ListN.{length}
 use Rattle.complex_boundary.proofs.boundary.Goals as goal
 
-pub returns-in-Refused : goal.returns-in-Refused
-returns-in-Refused c =
-    let k = c.check_cells-answer in
-    record { handed = ([], [], []); call = out-refused ([], [], []) (face_need c.args.d (length c.args.words.now)) (Within ([], [], []) ((1 ≤ c.args.k) × (c.args.k ≤ c.args.d)) (GivesEntries (entries_of (cells_of c.args.d c.args.words.now) c.args.k) (length c.args.signs.now) (length c.args.faces.now) (length c.args.cofaces.now))) c.args.d c.args.words.now c.args.keys.now c.args.rows.now c.args.spare.now c.args.counts.now _ _ (sym c.check_cells-answer.ensures ∙ c.in-Refused.is); signs_are = refl; faces_are = refl; cofaces_are = refl }
+pub returns-in_err-check_cells : goal.returns-in_err-check_cells
+returns-in_err-check_cells c = rw (passed_on c.from_residual.ensures.1) (record { handed = ([], [], []); call = out-refused ([], [], []) (face_need c.args.d (length c.args.words.now)) (Within ([], [], []) ((1 ≤ c.args.k) × (c.args.k ≤ c.args.d)) (GivesEntries (entries_of (cells_of c.args.d c.args.words.now) c.args.k) (length c.args.signs.now) (length c.args.faces.now) (length c.args.cofaces.now))) c.args.d c.args.words.now c.args.keys.now c.args.rows.now c.args.spare.now c.args.counts.now _ (sym c.check_cells.ensures ∙ c.in_err-check_cells.was); signs_are = refl; faces_are = refl; cofaces_are = refl })
 
 pub need-need-requires : goal.need-need-requires
 need-need-requires c =
-    let p = fine-passed c.args.d c.args.words.now (sym c.check_cells-answer.ensures ∙ c.in_default.is) in
+    let p = fine-passed c.args.d c.args.words.now (sym c.check_cells.ensures ∙ c.in_ok-check_cells.was) in
     (p.small, few-corners c.args.d c.args.words.now p)
 
 pub returns-then-not-has_room : goal.returns-then-not-has_room
 returns-then-not-has_room c =
-    let k = c.check_cells-answer in
-    let n = c.need-need in
-    record { handed = ([], [], []); call = out-cramped ([], [], []) (face_need c.args.d (length c.args.words.now)) (Within ([], [], []) ((1 ≤ c.args.k) × (c.args.k ≤ c.args.d)) (GivesEntries (entries_of (cells_of c.args.d c.args.words.now) c.args.k) (length c.args.signs.now) (length c.args.faces.now) (length c.args.cofaces.now))) c.args.d c.args.words.now c.args.keys.now c.args.rows.now c.args.spare.now c.args.counts.now (sym c.check_cells-answer.ensures ∙ c.in_default.is) c.need-need.result c.need-need.ensures (c.has_room.ensures.no (c.if-not-has_room.true)); signs_are = refl; faces_are = refl; cofaces_are = refl }
+    record { handed = ([], [], []); call = out-cramped ([], [], []) (face_need c.args.d (length c.args.words.now)) (Within ([], [], []) ((1 ≤ c.args.k) × (c.args.k ≤ c.args.d)) (GivesEntries (entries_of (cells_of c.args.d c.args.words.now) c.args.k) (length c.args.signs.now) (length c.args.faces.now) (length c.args.cofaces.now))) c.args.d c.args.words.now c.args.keys.now c.args.rows.now c.args.spare.now c.args.counts.now (sym c.check_cells.ensures ∙ c.in_ok-check_cells.was) c.need-need.result c.need-need.ensures (c.has_room.ensures.no (c.if-not-has_room.true)); signs_are = refl; faces_are = refl; cofaces_are = refl }
 
 pub slice_bounds-entries_cleared-end : goal.slice_bounds-entries_cleared-end
 slice_bounds-entries_cleared-end c =
@@ -64,7 +61,7 @@ slice_bounds-entries_cleared-end-8 c =
 
 pub entries_cleared-requires : goal.entries_cleared-requires
 entries_cleared-requires c =
-    working ([], [], []) (face_need c.args.d (length c.args.words.now)) (Within ([], [], []) ((1 ≤ c.args.k) × (c.args.k ≤ c.args.d)) (GivesEntries (entries_of (cells_of c.args.d c.args.words.now) c.args.k) (length c.args.signs.now) (length c.args.faces.now) (length c.args.cofaces.now))) c.args.d c.args.words.now c.args.keys.now c.args.rows.now c.args.spare.now c.args.counts.now (sym c.check_cells-answer.ensures ∙ c.in_default.is) c.need-need.result c.need-need.ensures (c.has_room.ensures.yes (c.if-not-has_room.false))
+    working ([], [], []) (face_need c.args.d (length c.args.words.now)) (Within ([], [], []) ((1 ≤ c.args.k) × (c.args.k ≤ c.args.d)) (GivesEntries (entries_of (cells_of c.args.d c.args.words.now) c.args.k) (length c.args.signs.now) (length c.args.faces.now) (length c.args.cofaces.now))) c.args.d c.args.words.now c.args.keys.now c.args.rows.now c.args.spare.now c.args.counts.now (sym c.check_cells.ensures ∙ c.in_ok-check_cells.was) c.need-need.result c.need-need.ensures (c.has_room.ensures.yes (c.if-not-has_room.false))
 
 pub returns : goal.returns
 returns c =
@@ -72,7 +69,7 @@ returns c =
     let v = c.entries_cleared.ensures.work in
     record {
       handed = v.handed;
-      call = out-ended ([], [], []) (face_need c.args.d (length c.args.words.now)) (Within ([], [], []) ((1 ≤ c.args.k) × (c.args.k ≤ c.args.d)) (GivesEntries (entries_of (cells_of c.args.d c.args.words.now) c.args.k) (length c.args.signs.now) (length c.args.faces.now) (length c.args.cofaces.now))) c.args.d c.args.words.now c.args.keys.now c.args.rows.now c.args.spare.now c.args.counts.now (sym c.check_cells-answer.ensures ∙ c.in_default.is) c.need-need.result c.need-need.ensures (c.has_room.ensures.yes (c.if-not-has_room.false)) c.entries_cleared.result v.handed _ _ _ _ v.ends c.entries_cleared.ensures.room;
+      call = out-ended ([], [], []) (face_need c.args.d (length c.args.words.now)) (Within ([], [], []) ((1 ≤ c.args.k) × (c.args.k ≤ c.args.d)) (GivesEntries (entries_of (cells_of c.args.d c.args.words.now) c.args.k) (length c.args.signs.now) (length c.args.faces.now) (length c.args.cofaces.now))) c.args.d c.args.words.now c.args.keys.now c.args.rows.now c.args.spare.now c.args.counts.now (sym c.check_cells.ensures ∙ c.in_ok-check_cells.was) c.need-need.result c.need-need.ensures (c.has_room.ensures.yes (c.if-not-has_room.false)) c.entries_cleared.result v.handed _ _ _ _ v.ends c.entries_cleared.ensures.room;
       signs_are = v.signs_are;
       faces_are = v.faces_are;
       cofaces_are = v.cofaces_are;

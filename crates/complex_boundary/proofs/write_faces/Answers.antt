@@ -3,13 +3,12 @@ use mathlib.Core.Path.{◌≡◌, refl, ap, ◌∙◌}
 use mathlib.Core.List.{List}
 use Prim.Native.Nat.{ℕ, ◌+◌, ◌-◌, ◌*◌, ◌/◌, ◌%◌}
 use native.Mathlib.Omega.{arith}
-use borrow.Author.Rules.{rules}
-use lib.ListN.{get_or, set, length-set}
+use lib.ListN.{get_or, set}
 use Rattle.complex_boundary.proofs.Entries.{tab-put, place-fits}
 use Rattle.complex_boundary.proofs.write_faces.Goals as goal
 
 pub loop-x-init : goal.loop-x-init
-loop-x-init c = (search rules, refl, refl)
+loop-x-init c = refl
 
 pub overflow_mul-at : goal.overflow_mul-at
 overflow_mul-at c = omega (arith, (place-fits c.args.k c.args.m c.loop-x.x c.loop-x-test.true).0, c.requires.0)
@@ -28,9 +27,8 @@ bounds-ids-at c = omega (arith, (place-fits c.args.k c.args.m c.loop-x.x c.loop-
 
 pub loop-x-preserved : goal.loop-x-preserved
 loop-x-preserved c =
-    let l = c.loop-x in
     let f : ℕ → ℕ = λ y. get_or c.args.ids.now (y / (c.args.k + 1) * (c.args.k + 1) + (c.args.k - y % (c.args.k + 1))) 0 in
-    (omega arith, ap (λ (z : List ℕ). set z c.loop-x.x (f c.loop-x.x)) c.loop-x.invariant.1 ∙ tab-put 0 f c.args.faces.now c.loop-x.x (f c.loop-x.x) refl (omega (arith, c.loop-x-test.true, c.requires.3)), simp length-set c.loop-x.invariant.2)
+    ap (λ (z : List ℕ). set z c.loop-x.x (f c.loop-x.x)) c.loop-x.invariant ∙ tab-put 0 f c.args.faces.now c.loop-x.x (f c.loop-x.x) refl (omega (arith, c.loop-x-test.true, c.requires.3))
 
 pub returns : goal.returns
-returns c = let e : c.loop-x.x ≡ c.args.m * (c.args.k + 1) = omega arith in rw e at c.loop-x.invariant.1
+returns c = let e : c.loop-x.x ≡ c.args.m * (c.args.k + 1) = omega arith in rw e at c.loop-x.invariant

@@ -1,10 +1,9 @@
 -- `complex_boundary::write_signs` meets its contract. The invariant: the first x signs are written. Assumes nothing.
 use mathlib.Core.Path.{◌≡◌, refl, ap, ◌∙◌}
 use mathlib.Core.List.{List}
-use Prim.Native.Nat.{◌-◌, ◌%◌}
+use Prim.Native.Nat.{◌%◌}
 use native.Mathlib.Omega.{arith}
-use borrow.Author.Rules.{rules}
-use lib.ListN.{set, length-set}
+use lib.ListN.{set}
 use lib.IntN.{ℤ, pos}
 use mir.Val.{to_z, of_z}
 use mir.Syntax.{w32}
@@ -18,12 +17,11 @@ stored plus = refl
 stored minus = refl
 
 pub loop-x-init : goal.loop-x-init
-loop-x-init c = (search rules, refl, refl)
+loop-x-init c = refl
 
 pub loop-x-preserved : goal.loop-x-preserved
 loop-x-preserved c =
-    let l = c.loop-x in
-    (omega arith, ap (λ (z : List ℤ). set z c.loop-x.x (to_z w32 (of_z w32 c.sign_of.result))) c.loop-x.invariant.1 ∙ tab-put (pos 0) (λ y. sign_number (induced (y % c.args.n))) c.args.signs.now c.loop-x.x (to_z w32 (of_z w32 c.sign_of.result)) (ap (λ (z : ℤ). to_z w32 (of_z w32 z)) c.sign_of.ensures ∙ stored (induced (c.loop-x.x % c.args.n))) (omega (arith, c.requires.1)), simp length-set c.loop-x.invariant.2)
+    ap (λ (z : List ℤ). set z c.loop-x.x (to_z w32 (of_z w32 c.sign_of.result))) c.loop-x.invariant ∙ tab-put (pos 0) (λ y. sign_number (induced (y % c.args.n))) c.args.signs.now c.loop-x.x (to_z w32 (of_z w32 c.sign_of.result)) (ap (λ (z : ℤ). to_z w32 (of_z w32 z)) c.sign_of.ensures ∙ stored (induced (c.loop-x.x % c.args.n))) (omega (arith, c.requires.1))
 
 pub returns : goal.returns
-returns c = let e : c.loop-x.x ≡ c.args.total = omega arith in rw e at c.loop-x.invariant.1
+returns c = let e : c.loop-x.x ≡ c.args.total = omega arith in rw e at c.loop-x.invariant

@@ -1,5 +1,4 @@
 -- `complex_dropped::cleared` meets its contract. The work's end stands, and the lists keep their lengths until they are cleared. Assumes nothing.
-use Prim.Native.Nat.{◌-◌}
 use Rattle.lists.proofs.Laws.{zero_along}
 use Rattle.complex_dropped.proofs.cleared.Goals as goal
 

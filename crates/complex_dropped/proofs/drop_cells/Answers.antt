@@ -1,24 +1,23 @@
 -- `complex_dropped::drop_cells` meets its contract. Its three ways out (proofs/Entry): a refusal and too little room touch nothing; else the work's end stands, and what was lent to it came back as zeros. Assumes nothing.
+use Rattle.refusal.proofs.Chain.{passed_on}
 use mathlib.Core.Path.{sym, ◌∙◌}
-use Prim.Native.Nat.{◌-◌}
 use lib.Seq.{length-take-le}
 use Rattle.complex.proofs.Fine.{fine-passed}
 use Rattle.complex_cells.proofs.Making.{few-corners}
 use Rattle.complex_dropped.proofs.Entry.{out-refused, out-cramped, working, out-ended}
 use Rattle.complex_dropped.proofs.drop_cells.Goals as goal
 
-pub returns-in-Refused : goal.returns-in-Refused
-returns-in-Refused c =
-    out-refused c.args.d c.args.words.now c.args.gone.now c.args.kept.now c.args.old.now c.args.keys.now c.args.rows.now c.args.spare.now c.args.counts.now _ _ (sym c.check_cells-checked.ensures ∙ c.in-Refused.is)
+pub returns-in_err-check_cells : goal.returns-in_err-check_cells
+returns-in_err-check_cells c = rw (passed_on c.from_residual.ensures.1) (out-refused c.args.d c.args.words.now c.args.gone.now c.args.kept.now c.args.old.now c.args.keys.now c.args.rows.now c.args.spare.now c.args.counts.now _ (sym c.check_cells.ensures ∙ c.in_err-check_cells.was))
 
 pub need-need-requires : goal.need-need-requires
 need-need-requires c =
-    let p = fine-passed c.args.d c.args.words.now (sym c.check_cells-checked.ensures ∙ c.in_default.is) in
+    let p = fine-passed c.args.d c.args.words.now (sym c.check_cells.ensures ∙ c.in_ok-check_cells.was) in
     (p.small, few-corners c.args.d c.args.words.now p)
 
 pub returns-then-not-has_room : goal.returns-then-not-has_room
 returns-then-not-has_room c =
-    out-cramped c.args.d c.args.words.now c.args.gone.now c.args.kept.now c.args.old.now c.args.keys.now c.args.rows.now c.args.spare.now c.args.counts.now (sym c.check_cells-checked.ensures ∙ c.in_default.is) c.need-need.result c.need-need.ensures (c.has_room.ensures.no (c.if-not-has_room.true))
+    out-cramped c.args.d c.args.words.now c.args.gone.now c.args.kept.now c.args.old.now c.args.keys.now c.args.rows.now c.args.spare.now c.args.counts.now (sym c.check_cells.ensures ∙ c.in_ok-check_cells.was) c.need-need.result c.need-need.ensures (c.has_room.ensures.no (c.if-not-has_room.true))
 
 pub slice_bounds-cleared-end : goal.slice_bounds-cleared-end
 slice_bounds-cleared-end c = (c.has_room.ensures.yes (c.if-not-has_room.false)).in_keys
@@ -46,9 +45,9 @@ slice_bounds-cleared-end-8 c = sym (length-take-le _ _ (c.has_room.ensures.yes (
 
 pub cleared-requires : goal.cleared-requires
 cleared-requires c =
-    working c.args.d c.args.words.now c.args.gone.now c.args.kept.now c.args.old.now c.args.keys.now c.args.rows.now c.args.spare.now c.args.counts.now (sym c.check_cells-checked.ensures ∙ c.in_default.is) c.need-need.result c.need-need.ensures (c.has_room.ensures.yes (c.if-not-has_room.false))
+    working c.args.d c.args.words.now c.args.gone.now c.args.kept.now c.args.old.now c.args.keys.now c.args.rows.now c.args.spare.now c.args.counts.now (sym c.check_cells.ensures ∙ c.in_ok-check_cells.was) c.need-need.result c.need-need.ensures (c.has_room.ensures.yes (c.if-not-has_room.false))
 
 pub returns : goal.returns
 returns c =
-    out-ended c.args.d c.args.words.now c.args.gone.now c.args.kept.now c.args.old.now c.args.keys.now c.args.rows.now c.args.spare.now c.args.counts.now (sym c.check_cells-checked.ensures ∙ c.in_default.is) c.need-need.result c.need-need.ensures (c.has_room.ensures.yes (c.if-not-has_room.false))
+    out-ended c.args.d c.args.words.now c.args.gone.now c.args.kept.now c.args.old.now c.args.keys.now c.args.rows.now c.args.spare.now c.args.counts.now (sym c.check_cells.ensures ∙ c.in_ok-check_cells.was) c.need-need.result c.need-need.ensures (c.has_room.ensures.yes (c.if-not-has_room.false))
     c.cleared.result c.cleared.new.kept c.cleared.new.old _ _ _ _ c.cleared.ensures.work c.cleared.ensures.room

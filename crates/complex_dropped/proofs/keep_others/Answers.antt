@@ -1,6 +1,5 @@
 -- `complex_dropped::keep_others` meets its contract. What is gathered is renumbered and handed out. Assumes nothing.
 use mathlib.Core.Path.{sym}
-use Prim.Native.Nat.{◌-◌}
 use lib.Seq.{length-take-le}
 use Rattle.complex_dropped.proofs.Steps.{front_fits, numbering, handing}
 use Rattle.complex_dropped.proofs.Outcome.{worked-emptied, worked-handed}

@@ -1,16 +1,17 @@
--- `complex_dropped::names_missing` meets its contract. The loop's invariant: what is passed is below m, so the answer is that of the rest. Assumes nothing.
-use mathlib.Core.Path.{sym, ◌∙◌}
-use Prim.Native.Nat.{◌-◌}
-use native.Mathlib.Omega.{arith}
-use Rattle.complex_dropped.proofs.Loops.{missing-hit, missing-miss, missing-end}
+-- `complex_dropped::names_missing` meets its contract: `any` asks of each number whether it is at least m. Assumes nothing.
+use Rattle.std.proofs.Common.{◌≡◌, ℕ, List, [], ◌∷◌, leb, ◌||◌, refl, ap, ◌∙◌, rules, tests}
+use Rattle.std.specs.List.{list_any}
+use Rattle.std.proofs.lemmas.Iterator.{YieldsList-from_slice}
+use Rattle.std.proofs.lemmas.Iterator.Search.{any_from_yields_List}
+use Rattle.complex_dropped.specs.Kept.{names_missing}
 use Rattle.complex_dropped.proofs.names_missing.Goals as goal
 
-pub returns-then-m-wide : goal.returns-then-m-wide
-returns-then-m-wide c =
-    sym (c.loop-i.invariant.1 ∙ missing-hit _ _ _ c.loop-i-test.true (omega (arith, c.if-m-wide.true, c.wide.ensures)))
-
-pub loop-i-preserved : goal.loop-i-preserved
-loop-i-preserved c = (omega (arith, c.loop-i-test.true), c.loop-i.invariant.1 ∙ missing-miss _ _ _ c.loop-i-test.true (omega (arith, c.if-m-wide.false, c.wide.ensures)))
+any-missing : (m : ℕ) (gone : List ℕ) → list_any (leb m) gone ≡ names_missing m gone
+unfolding names_missing
+any-missing m [] = refl
+any-missing m (c ∷ gone) = ap (λ t. leb m c || t) (any-missing m gone)
 
 pub returns : goal.returns
-returns c = sym (c.loop-i.invariant.1 ∙ missing-end _ _ _ c.loop-i-test.false)
+returns c =
+    any_from_yields_List (leb c.args.m) _ _ _ c.any.ensures.ran (YieldsList-from_slice c.args.gone.now cc) (λ x b q k. search (rules, tests))
+    ∙ any-missing c.args.m c.args.gone.now

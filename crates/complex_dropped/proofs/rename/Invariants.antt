@@ -1,12 +1,8 @@
 -- `complex_dropped::rename` meets its contract. The loop's invariant: the first i corners are renamed. Assumes nothing.
 use mathlib.Core.Path.{◌≡◌}
 use mathlib.Core.List.{◌++◌, map}
-use Prim.Native.Nat.{◌+◌, ◌-◌, ◌≤◌}
-use lib.ListN.{length, get_or, take, drop}
+use lib.ListN.{get_or, take, drop}
 use Rattle.complex_dropped.proofs.rename.Given as goal
 
 abbrev pub invariant-loop-i : goal.invariant-loop-i
-invariant-loop-i l = (l.i ≤ length l.corners) × (length l.to ≡ length l.initial.to) × (l.to ≡ map (λ v. get_or l.numbers v 0) (take l.i l.corners) ++ drop l.i l.initial.to)
-
-abbrev pub decreases-loop-i : goal.decreases-loop-i
-decreases-loop-i l = length l.corners - l.i
+invariant-loop-i l = l.to ≡ map (λ v. get_or l.numbers v 0) (take l.i l.corners) ++ drop l.i l.initial.to

@@ -1,6 +1,5 @@
 -- `complex_dropped::work` meets its contract. 7, 23, or what keeping the others says. Assumes nothing.
 use mathlib.Core.Path.{◌∙◌}
-use Prim.Native.Nat.{◌-◌}
 use Rattle.complex_dropped.proofs.Outcome.{making-cells, meeting, worked-crowded, worked-missing, gathering}
 use Rattle.complex_dropped.proofs.work.Goals as goal
 

@@ -1,8 +1,8 @@
 -- `complex_facets::cell_of` meets its contract. Assumes nothing.
 use native.Mathlib.Nat.{div-le_self}
 use mathlib.Core.Bool.{Bool}
-use mathlib.Core.Path.{sym, ap, ◌∙◌}
-use Prim.Native.Nat.{ℕ, ◌-◌, ◌/◌}
+use mathlib.Core.Path.{sym, ap}
+use Prim.Native.Nat.{◌/◌}
 use native.Mathlib.Omega.{arith}
 use borrow.Author.Tests.{eq-eqb, ne_eqb}
 use Rattle.lists.specs.Words.{none}
@@ -15,8 +15,8 @@ returns-then-x-eq-NONE c =
 
 pub overflow_cast-result : goal.overflow_cast-result
 overflow_cast-result c =
-    omega (arith, c.wide.ensures, div-le_self c.wide.result c.args.k)
+    omega (arith, div-le_self c.args.x c.args.k)
 
 pub returns : goal.returns
 returns c =
-    ap (λ (z : ℕ). z / c.args.k) c.wide.ensures ∙ sym (ap (λ (t : Bool). or_none t (c.args.x / c.args.k)) (ne_eqb c.args.x none c.if-x-eq-NONE.false))
+    sym (ap (λ (t : Bool). or_none t (c.args.x / c.args.k)) (ne_eqb c.args.x none c.if-x-eq-NONE.false))

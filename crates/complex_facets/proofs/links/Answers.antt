@@ -14,18 +14,12 @@ returns-then-not-records c = record { all = λ r. absurd (no_way r); crowd = λ 
 
 pub overflow_mul-m : goal.overflow_mul-m
 overflow_mul-m c =
-    let q = c.records in
-    let k = c.slots-k in
     record { fits = omega (arith, crossing-few c.args.d c.args.m c.args.b c.args.keys.now c.args.rows.now c.args.spare.now c.args.counts.now c.requires c.records.new.keys c.records.new.rows c.records.new.spare c.records.new.counts c.records.auto.rows c.records.auto.spare c.records.auto.counts (c.records.ensures.all (c.if-not-records.false)) c.slots-k.result c.slots-k.ensures) }
 
 pub across-requires : goal.across-requires
 across-requires c =
-    let q = c.records in
-    let k = c.slots-k in
     crossing c.args.d c.args.m c.args.b c.args.keys.now c.args.rows.now c.args.spare.now c.args.counts.now c.requires c.records.new.keys c.records.new.rows c.records.new.spare c.records.new.counts c.records.auto.rows c.records.auto.spare c.records.auto.counts (c.records.ensures.all (c.if-not-records.false)) c.slots-k.result c.slots-k.ensures
 
 pub returns : goal.returns
 returns c =
-    let q = c.records in
-    let k = c.slots-k in
-    let w = c.across in record { all = λ r. linked-done c.args.d c.args.m c.args.b c.args.keys.now c.args.rows.now c.args.spare.now c.args.counts.now c.requires c.records.new.keys c.records.new.rows c.records.new.spare c.records.new.counts c.records.auto.rows c.records.auto.spare c.records.auto.counts (c.records.ensures.all (c.if-not-records.false)) c.slots-k.result c.slots-k.ensures c.across.new.other c.across.new.flip c.across.ensures; crowd = λ r. absurd (no_way (sym r)) }
+    record { all = λ r. linked-done c.args.d c.args.m c.args.b c.args.keys.now c.args.rows.now c.args.spare.now c.args.counts.now c.requires c.records.new.keys c.records.new.rows c.records.new.spare c.records.new.counts c.records.auto.rows c.records.auto.spare c.records.auto.counts (c.records.ensures.all (c.if-not-records.false)) c.slots-k.result c.slots-k.ensures c.across.new.other c.across.new.flip c.across.ensures; crowd = λ r. absurd (no_way (sym r)) }

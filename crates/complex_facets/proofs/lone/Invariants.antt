@@ -2,13 +2,9 @@
 use Rattle.complex_facets.specs.WorkClasses.{lone_rows}
 use mathlib.Core.Path.{◌≡◌}
 use mathlib.Core.List.{◌++◌}
-use Prim.Native.Nat.{◌+◌, ◌-◌, ◌≤◌}
 use lib.ListN.{length, drop}
 use Rattle.complex_facets.proofs.lone.Given as goal
 
 abbrev pub invariant-loop-i : goal.invariant-loop-i
 invariant-loop-i l =
-    (l.i ≤ l.f) × (length l.to ≡ length l.initial.to) × (l.j ≡ length (lone_rows l.i l.reps l.others)) × (l.to ≡ lone_rows l.i l.reps l.others ++ drop l.j l.initial.to)
-
-abbrev pub decreases-loop-i : goal.decreases-loop-i
-decreases-loop-i l = l.f - l.i
+    (l.j ≡ length (lone_rows l.i l.reps l.others)) × (l.to ≡ lone_rows l.i l.reps l.others ++ drop l.j l.initial.to)

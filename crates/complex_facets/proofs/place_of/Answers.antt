@@ -1,8 +1,8 @@
 -- `complex_facets::place_of` meets its contract. Assumes nothing.
 use native.Mathlib.Nat.{mod-lt}
 use mathlib.Core.Bool.{Bool}
-use mathlib.Core.Path.{sym, ap, ◌∙◌}
-use Prim.Native.Nat.{ℕ, ◌-◌, ◌%◌}
+use mathlib.Core.Path.{sym, ap}
+use Prim.Native.Nat.{◌-◌, ◌%◌}
 use native.Mathlib.Omega.{arith}
 use borrow.Author.Tests.{eq-eqb, ne_eqb}
 use Rattle.lists.specs.Words.{none}
@@ -15,7 +15,7 @@ returns-then-x-eq-NONE c =
 
 pub overflow_sub-result : goal.overflow_sub-result
 overflow_sub-result c =
-    omega (arith, mod-lt c.wide.result c.requires.0, c.requires.1)
+    omega (arith, mod-lt c.args.x c.requires.0, c.requires.1)
 
 pub overflow_cast-result : goal.overflow_cast-result
 overflow_cast-result c =
@@ -23,4 +23,4 @@ overflow_cast-result c =
 
 pub returns : goal.returns
 returns c =
-    ap (λ (z : ℕ). c.args.d - z % c.args.k) c.wide.ensures ∙ sym (ap (λ (t : Bool). or_none t (c.args.d - c.args.x % c.args.k)) (ne_eqb c.args.x none c.if-x-eq-NONE.false))
+    sym (ap (λ (t : Bool). or_none t (c.args.d - c.args.x % c.args.k)) (ne_eqb c.args.x none c.if-x-eq-NONE.false))

@@ -1,13 +1,10 @@
 -- `complex_incidence::write_cells` meets its contract. The invariant: the first i cells are written. Assumes nothing.
 use mathlib.Core.Path.{◌≡◌}
 use mathlib.Core.List.{◌++◌}
-use Prim.Native.Nat.{◌+◌, ◌-◌, ◌/◌, ◌≤◌}
-use lib.ListN.{length, get_or, drop}
+use Prim.Native.Nat.{◌/◌}
+use lib.ListN.{get_or, drop}
 use Rattle.lists.specs.Tables.{tab}
 use Rattle.complex_incidence.proofs.write_cells.Given as goal
 
 abbrev pub invariant-loop-i : goal.invariant-loop-i
-invariant-loop-i l = (l.i ≤ l.long) × (l.to ≡ tab l.i (λ j. get_or l.order j 0 / l.n) ++ drop l.i l.initial.to) × (length l.to ≡ length l.initial.to)
-
-abbrev pub decreases-loop-i : goal.decreases-loop-i
-decreases-loop-i l = l.long - l.i
+invariant-loop-i l = l.to ≡ tab l.i (λ j. get_or l.order j 0 / l.n) ++ drop l.i l.initial.to

@@ -2,12 +2,9 @@
 use Rattle.lists.specs.Words.{none}
 use Rattle.complex_mates.specs.Table.{Paired}
 use mathlib.Core.Path.{◌≡◌}
-use Prim.Native.Nat.{ℕ, ◌-◌, ◌≤◌, ◌<◌}
-use lib.ListN.{length, get_or}
+use Prim.Native.Nat.{ℕ, ◌≤◌, ◌<◌}
+use lib.ListN.{get_or}
 use Rattle.complex_mates.proofs.pair_up.Given as goal
 
 abbrev pub invariant-loop-x : goal.invariant-loop-x
-invariant-loop-x l = (l.x ≤ l.total) × (length l.mates ≡ length l.initial.mates) × ((y : ℕ) → l.x ≤ y → y < l.total → get_or l.mates y 0 ≡ none) × Paired l.x l.ids l.mates
-
-abbrev pub decreases-loop-x : goal.decreases-loop-x
-decreases-loop-x l = l.total - l.x
+invariant-loop-x l = ((y : ℕ) → l.x ≤ y → y < l.total → get_or l.mates y 0 ≡ none) × Paired l.x l.ids l.mates

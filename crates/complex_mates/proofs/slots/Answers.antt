@@ -2,7 +2,7 @@
 use native.Mathlib.Numerals.{add-one}
 use Rattle.complex.specs.Facets.{slots}
 use mathlib.Core.Path.{◌≡◌, refl}
-use Prim.Native.Nat.{ℕ, zero, suc, ◌+◌, ◌-◌}
+use Prim.Native.Nat.{ℕ, zero, suc, ◌+◌}
 use Rattle.complex_mates.proofs.slots.Goals as goal
 
 pub returns : goal.returns

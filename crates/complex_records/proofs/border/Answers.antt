@@ -14,10 +14,10 @@ again records c c' i x v e f = f ∙ ap (λ (k : ℕ). k + lone_of x) v ∙ ap (
 
 pub loop-i-init : goal.loop-i-init
 unfolding bordering
-loop-i-init c = (omega arith, refl)
+loop-i-init c = refl
 
 pub bump-count-requires : goal.bump-count-requires
-bump-count-requires c = omega (arith, c.loop-i.invariant.1, bordering-most c.loop-i.i c.args.records.now)
+bump-count-requires c = omega (arith, c.loop-i.invariant, bordering-most c.loop-i.i c.args.records.now)
 
 pub loop-i-preserved : goal.loop-i-preserved
-loop-i-preserved c = (omega arith, again _ _ _ _ _ c.loop-i.invariant.1 c.load-r.ensures c.bump-count.ensures)
+loop-i-preserved c = again _ _ _ _ _ c.loop-i.invariant refl c.bump-count.ensures

@@ -11,7 +11,7 @@ again flat records rs rs' i h v e =
 
 pub loop-i-init : goal.loop-i-init
 unfolding first_records
-loop-i-init c = (omega arith, refl)
+loop-i-init c = refl
 
 pub loop-i-preserved : goal.loop-i-preserved
-loop-i-preserved c = (omega arith, again _ _ _ _ _ (omega (arith, c.loop-i-test.true, c.requires.0)) c.loop-i.invariant.1 c.store_at.ensures)
+loop-i-preserved c = again _ _ _ _ _ (omega (arith, c.requires.0)) c.loop-i.invariant c.store_at.ensures

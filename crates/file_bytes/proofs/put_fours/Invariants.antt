@@ -6,7 +6,4 @@ use Rattle.file_bytes.specs.Bytes.{fours}
 use Rattle.file_bytes.proofs.put_fours.Given as goal
 
 abbrev pub invariant-loop-i : goal.invariant-loop-i
-invariant-loop-i l = (l.i ≤ length l.from) × Written (fours l.from) l.initial.to (fours (drop l.i l.from)) (l.i * 4) l.to
-
-abbrev pub decreases-loop-i : goal.decreases-loop-i
-decreases-loop-i l = length l.from - l.i
+invariant-loop-i l = Written (fours l.from) l.initial.to (fours (drop l.i l.from)) (l.i * 4) l.to

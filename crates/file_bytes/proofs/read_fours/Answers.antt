@@ -13,27 +13,12 @@ unfolding fours_of
 drop-none bs to = refl
 
 pub loop-i-init : goal.loop-i-init
-loop-i-init c = (omega arith, refl, drop-none c.args.from.now c.args.to.now)
-
-pub overflow_mul-i : goal.overflow_mul-i
-overflow_mul-i c = omega (arith, c.loop-i-test.true, c.loop-i.invariant.1, c.requires)
-
-pub four-requires : goal.four-requires
-four-requires c = omega (arith, c.loop-i-test.true, c.loop-i.invariant.1, c.requires)
-
-pub offset_bounds-to-i : goal.offset_bounds-to-i
-offset_bounds-to-i c = omega (arith, c.loop-i-test.true, c.loop-i.invariant.1, c.requires)
-
-pub loop-i-smaller : goal.loop-i-smaller
-loop-i-smaller c = omega (arith, c.loop-i-test.true, c.loop-i.invariant.1)
+loop-i-init c = drop-none c.args.from.now c.args.to.now
 
 pub loop-i-preserved : goal.loop-i-preserved
-loop-i-preserved c = (
-  omega (arith, c.loop-i-test.true, c.loop-i.invariant.1),
-  length-set c.loop-i.to c.loop-i.i _ ∙ c.loop-i.invariant.1,
-  ap (λ (x : List ℕ). set x c.loop-i.i c.four.result) c.loop-i.invariant.2
-      ∙ read_more c.args.from.now c.args.to.now c.loop-i.i c.four.result (omega (arith, c.loop-i-test.true, c.loop-i.invariant.1)) c.four.ensures,
-)
+loop-i-preserved c =
+    ap (λ (x : List ℕ). set x c.loop-i.i c.four.result) c.loop-i.invariant
+    ∙ read_more c.args.from.now c.args.to.now c.loop-i.i c.four.result (omega arith) c.four.ensures
 
 pub returns : goal.returns
-returns c = c.loop-i.invariant.2 ∙ read-end c.args.from.now c.args.to.now c.loop-i.i (omega (arith, c.loop-i-test.false, c.loop-i.invariant.1, c.loop-i.invariant.0))
+returns c = c.loop-i.invariant ∙ read-end c.args.from.now c.args.to.now c.loop-i.i (omega arith)

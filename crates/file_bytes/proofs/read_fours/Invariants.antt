@@ -7,7 +7,4 @@ use Rattle.file_bytes.specs.Bytes.{fours_of}
 use Rattle.file_bytes.proofs.read_fours.Given as goal
 
 abbrev pub invariant-loop-i : goal.invariant-loop-i
-invariant-loop-i l = (l.i ≤ length l.initial.to) × (length l.to ≡ length l.initial.to) × (l.to ≡ fours_of l.i l.from ++ drop l.i l.initial.to)
-
-abbrev pub decreases-loop-i : goal.decreases-loop-i
-decreases-loop-i l = length l.initial.to - l.i
+invariant-loop-i l = l.to ≡ fours_of l.i l.from ++ drop l.i l.initial.to

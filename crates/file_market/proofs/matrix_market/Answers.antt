@@ -1,5 +1,6 @@
 -- `file_market::matrix_market` meets its contract, by its three ways out (crate skeleton, proofs/Entry): a refusal and too little room touch nothing; else the work's end stands, and what was
 -- lent to it came back as zeros. Assumes nothing.
+use Rattle.refusal.proofs.Chain.{passed_on}
 use lib.Seq.{length-take-le}
 use Rattle.complex.proofs.Fine.{fine-passed}
 use Rattle.complex_cells.proofs.Making.{few-corners}
@@ -14,18 +15,17 @@ use Prim.Native.Nat.{◌≤◌}
 use lib.ListN.{length}
 use Rattle.file_market.proofs.matrix_market.Goals as goal
 
-pub returns-in-Refused : goal.returns-in-Refused
-returns-in-Refused c =
-    record { handed = []; call = out-refused [] (face_need c.args.d (length c.args.words.now)) (Within [] ((1 ≤ c.args.k) × (c.args.k ≤ c.args.d)) (GivesFile (market_of c.args.d c.args.k c.args.words.now) (length c.args.bytes.now))) c.args.d c.args.words.now c.args.keys.now c.args.rows.now c.args.spare.now c.args.counts.now _ _ (sym c.check_cells-answer.ensures ∙ c.in-Refused.is); result = refl }
+pub returns-in_err-check_cells : goal.returns-in_err-check_cells
+returns-in_err-check_cells c = rw (passed_on c.from_residual.ensures.1) (record { handed = []; call = out-refused [] (face_need c.args.d (length c.args.words.now)) (Within [] ((1 ≤ c.args.k) × (c.args.k ≤ c.args.d)) (GivesFile (market_of c.args.d c.args.k c.args.words.now) (length c.args.bytes.now))) c.args.d c.args.words.now c.args.keys.now c.args.rows.now c.args.spare.now c.args.counts.now _ (sym c.check_cells.ensures ∙ c.in_err-check_cells.was); result = refl })
 
 pub need-need-requires : goal.need-need-requires
 need-need-requires c =
-    let p = fine-passed c.args.d c.args.words.now (sym c.check_cells-answer.ensures ∙ c.in_default.is) in
+    let p = fine-passed c.args.d c.args.words.now (sym c.check_cells.ensures ∙ c.in_ok-check_cells.was) in
     (p.small, few-corners c.args.d c.args.words.now p)
 
 pub returns-then-not-has_room : goal.returns-then-not-has_room
 returns-then-not-has_room c =
-    record { handed = []; call = out-cramped [] (face_need c.args.d (length c.args.words.now)) (Within [] ((1 ≤ c.args.k) × (c.args.k ≤ c.args.d)) (GivesFile (market_of c.args.d c.args.k c.args.words.now) (length c.args.bytes.now))) c.args.d c.args.words.now c.args.keys.now c.args.rows.now c.args.spare.now c.args.counts.now (sym c.check_cells-answer.ensures ∙ c.in_default.is) c.need-need.result c.need-need.ensures (c.has_room.ensures.no (c.if-not-has_room.true)); result = refl }
+    record { handed = []; call = out-cramped [] (face_need c.args.d (length c.args.words.now)) (Within [] ((1 ≤ c.args.k) × (c.args.k ≤ c.args.d)) (GivesFile (market_of c.args.d c.args.k c.args.words.now) (length c.args.bytes.now))) c.args.d c.args.words.now c.args.keys.now c.args.rows.now c.args.spare.now c.args.counts.now (sym c.check_cells.ensures ∙ c.in_ok-check_cells.was) c.need-need.result c.need-need.ensures (c.has_room.ensures.no (c.if-not-has_room.true)); result = refl }
 
 pub slice_bounds-work_cleared-end : goal.slice_bounds-work_cleared-end
 slice_bounds-work_cleared-end c =
@@ -61,13 +61,13 @@ slice_bounds-work_cleared-end-8 c =
 
 pub work_cleared-requires : goal.work_cleared-requires
 work_cleared-requires c =
-    working [] (face_need c.args.d (length c.args.words.now)) (Within [] ((1 ≤ c.args.k) × (c.args.k ≤ c.args.d)) (GivesFile (market_of c.args.d c.args.k c.args.words.now) (length c.args.bytes.now))) c.args.d c.args.words.now c.args.keys.now c.args.rows.now c.args.spare.now c.args.counts.now (sym c.check_cells-answer.ensures ∙ c.in_default.is) c.need-need.result c.need-need.ensures (c.has_room.ensures.yes (c.if-not-has_room.false))
+    working [] (face_need c.args.d (length c.args.words.now)) (Within [] ((1 ≤ c.args.k) × (c.args.k ≤ c.args.d)) (GivesFile (market_of c.args.d c.args.k c.args.words.now) (length c.args.bytes.now))) c.args.d c.args.words.now c.args.keys.now c.args.rows.now c.args.spare.now c.args.counts.now (sym c.check_cells.ensures ∙ c.in_ok-check_cells.was) c.need-need.result c.need-need.ensures (c.has_room.ensures.yes (c.if-not-has_room.false))
 
 pub returns : goal.returns
 returns c =
     let v = c.work_cleared.ensures.work in
     record {
       handed = v.handed;
-      call = out-ended [] (face_need c.args.d (length c.args.words.now)) (Within [] ((1 ≤ c.args.k) × (c.args.k ≤ c.args.d)) (GivesFile (market_of c.args.d c.args.k c.args.words.now) (length c.args.bytes.now))) c.args.d c.args.words.now c.args.keys.now c.args.rows.now c.args.spare.now c.args.counts.now (sym c.check_cells-answer.ensures ∙ c.in_default.is) c.need-need.result c.need-need.ensures (c.has_room.ensures.yes (c.if-not-has_room.false)) c.work_cleared.result v.handed _ _ _ _ v.ends c.work_cleared.ensures.room;
+      call = out-ended [] (face_need c.args.d (length c.args.words.now)) (Within [] ((1 ≤ c.args.k) × (c.args.k ≤ c.args.d)) (GivesFile (market_of c.args.d c.args.k c.args.words.now) (length c.args.bytes.now))) c.args.d c.args.words.now c.args.keys.now c.args.rows.now c.args.spare.now c.args.counts.now (sym c.check_cells.ensures ∙ c.in_ok-check_cells.was) c.need-need.result c.need-need.ensures (c.has_room.ensures.yes (c.if-not-has_room.false)) c.work_cleared.result v.handed _ _ _ _ v.ends c.work_cleared.ensures.room;
       result = v.result;
     }

@@ -7,19 +7,19 @@ use native.Mathlib.Omega.{arith}
 use Rattle.file_mesh.proofs.comes_before.Goals as goal
 
 pub loop-i-init : goal.loop-i-init
-loop-i-init c = (omega arith, refl)
+loop-i-init c = refl
 
 pub returns-then-v-i : goal.returns-then-v-i
 returns-then-v-i c =
-    sym (c.loop-i.invariant.1 ∙ before-yes c.loop-i.i c.args.v.now c.args.w.now c.loop-i-test.true c.if-v-i.true)
+    sym (c.loop-i.invariant ∙ before-yes c.loop-i.i c.args.v.now c.args.w.now c.loop-i-test.true c.if-v-i.true)
 
 pub returns-then-w-i : goal.returns-then-w-i
 returns-then-w-i c =
-    sym (c.loop-i.invariant.1 ∙ before-not c.loop-i.i c.args.v.now c.args.w.now c.loop-i-test.true c.if-w-i.true)
+    sym (c.loop-i.invariant ∙ before-not c.loop-i.i c.args.v.now c.args.w.now c.loop-i-test.true c.if-w-i.true)
 
 pub loop-i-preserved : goal.loop-i-preserved
-loop-i-preserved c = (omega (arith, c.loop-i.invariant.0), c.loop-i.invariant.1 ∙ before_same c.loop-i.i c.args.v.now c.args.w.now c.loop-i-test.true c.if-v-i.false c.if-w-i.false)
+loop-i-preserved c = c.loop-i.invariant ∙ before_same c.loop-i.i c.args.v.now c.args.w.now c.loop-i-test.true c.if-v-i.false c.if-w-i.false
 
 pub returns : goal.returns
 returns c =
-    sym (c.loop-i.invariant.1 ∙ ap (λ (i : ℕ). comes_before i c.args.v.now c.args.w.now) {x = c.loop-i.i} {y = 0} (omega (arith, c.loop-i-test.false)) ∙ before-none c.args.v.now c.args.w.now)
+    sym (c.loop-i.invariant ∙ ap (λ (i : ℕ). comes_before i c.args.v.now c.args.w.now) {x = c.loop-i.i} {y = 0} (omega arith) ∙ before-none c.args.v.now c.args.w.now)

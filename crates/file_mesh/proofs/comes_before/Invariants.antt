@@ -6,7 +6,4 @@ use Rattle.complex.specs.Cells.{comes_before}
 use Rattle.file_mesh.proofs.comes_before.Given as goal
 
 abbrev pub invariant-loop-i : goal.invariant-loop-i
-invariant-loop-i l = (l.i ≤ length l.v) × (comes_before (length l.v) l.v l.w ≡ comes_before l.i l.v l.w)
-
-abbrev pub decreases-loop-i : goal.decreases-loop-i
-decreases-loop-i l = l.i
+invariant-loop-i l = comes_before (length l.v) l.v l.w ≡ comes_before l.i l.v l.w

@@ -1,5 +1,6 @@
 -- `file_mesh_read::birth` meets its contract: each field is tested when its last byte has come, the sum after the last pair. Assumes nothing.
-use Rattle.file_mesh_read.proofs.Pairs.{proper-pairs, born-refused, born-read, birth-ends, birth-number, birth-cut, birth-refinement, birth-short, birth-few, birth-len, birth-pairs}
+use Rattle.refusal.proofs.Chain.{passed_on}
+use Rattle.file_mesh_read.proofs.Pairs.{born-refused, born-read, birth-ends, birth-number, birth-cut, birth-refinement, birth-short, birth-few, birth-len, birth-pairs}
 use Rattle.file_mesh_read.specs.Work.{born_of, refusal_of, weighed}
 use Rattle.file_mesh.specs.Read.{pairs_from}
 use Rattle.file_mesh.specs.Rules.{more}
@@ -37,14 +38,15 @@ pub returns-then-len-count : goal.returns-then-len-count
 returns-then-len-count c =
     sym (ap born_of (birth-len c.args.vertices c.args.run c.args.len c.args.bytes.now c.args.at c.requires c.if-left-lt4.false c.four-n.result c.four-n.ensures (sym c.number_fits.ensures ∙ c.if-not-number_fits.false) c.if-left-lt6.false c.two-r.result c.two-r.ensures.number (sym c.refinement_fits.ensures ∙ c.if-not-refinement_fits.false) c.if-left-lt8.false c.two-count.result c.two-count.ensures.number c.if-count-lt2.false c.if-len-count.true))
 
-pub returns-then-number-ne0 : goal.returns-then-number-ne0
-returns-then-number-ne0 c =
+pub returns-in_err-pairs_refusal : goal.returns-in_err-pairs_refusal
+returns-in_err-pairs_refusal c =
     let p = pairs_from (more c.args.run c.four-n.result c.two-r.result).first 0 c.two-count.result (drop (c.args.at + 8) c.args.bytes.now) in
-    let e = c.pairs_refusal-number.ensures ∙ ap (λ (x : Run). refusal_of (weighed c.two-r.result (pairs_from x.first 0 c.two-count.result (drop (c.args.at + 8) c.args.bytes.now)))) c.run_on-next.ensures in
-    sym (ap born_of (birth-pairs c.args.vertices c.args.run c.args.len c.args.bytes.now c.args.at c.requires c.if-left-lt4.false c.four-n.result c.four-n.ensures (sym c.number_fits.ensures ∙ c.if-not-number_fits.false) c.if-left-lt6.false c.two-r.result c.two-r.ensures.number (sym c.refinement_fits.ensures ∙ c.if-not-refinement_fits.false) c.if-left-lt8.false c.two-count.result c.two-count.ensures.number c.if-count-lt2.false c.if-len-count.false) ∙ born-refused c.four-n.result c.two-r.result c.two-count.result p c.pairs_refusal-number.result e c.if-number-ne0.true)
+    let e = c.in_err-pairs_refusal.ensures ∙ ap (λ (x : Run). refusal_of (weighed c.two-r.result (pairs_from x.first 0 c.two-count.result (drop (c.args.at + 8) c.args.bytes.now)))) c.run_on-next.ensures in
+    rw (passed_on c.from_residual.ensures.1)
+    (sym (ap born_of (birth-pairs c.args.vertices c.args.run c.args.len c.args.bytes.now c.args.at c.requires c.if-left-lt4.false c.four-n.result c.four-n.ensures (sym c.number_fits.ensures ∙ c.if-not-number_fits.false) c.if-left-lt6.false c.two-r.result c.two-r.ensures.number (sym c.refinement_fits.ensures ∙ c.if-not-refinement_fits.false) c.if-left-lt8.false c.two-count.result c.two-count.ensures.number c.if-count-lt2.false c.if-len-count.false) ∙ born-refused c.four-n.result c.two-r.result c.two-count.result p _ e))
 
 pub returns : goal.returns
 returns c =
     let p = pairs_from (more c.args.run c.four-n.result c.two-r.result).first 0 c.two-count.result (drop (c.args.at + 8) c.args.bytes.now) in
-    let e = c.pairs_refusal-number.ensures ∙ ap (λ (x : Run). refusal_of (weighed c.two-r.result (pairs_from x.first 0 c.two-count.result (drop (c.args.at + 8) c.args.bytes.now)))) c.run_on-next.ensures in
-    sym (ap born_of (birth-pairs c.args.vertices c.args.run c.args.len c.args.bytes.now c.args.at c.requires c.if-left-lt4.false c.four-n.result c.four-n.ensures (sym c.number_fits.ensures ∙ c.if-not-number_fits.false) c.if-left-lt6.false c.two-r.result c.two-r.ensures.number (sym c.refinement_fits.ensures ∙ c.if-not-refinement_fits.false) c.if-left-lt8.false c.two-count.result c.two-count.ensures.number c.if-count-lt2.false c.if-len-count.false) ∙ born-read c.four-n.result c.two-r.result c.two-count.result p c.pairs_refusal-number.result (proper-pairs _ _ _ _) e c.if-number-ne0.false)
+    let e = c.in_ok-pairs_refusal.ensures ∙ ap (λ (x : Run). refusal_of (weighed c.two-r.result (pairs_from x.first 0 c.two-count.result (drop (c.args.at + 8) c.args.bytes.now)))) c.run_on-next.ensures in
+    sym (ap born_of (birth-pairs c.args.vertices c.args.run c.args.len c.args.bytes.now c.args.at c.requires c.if-left-lt4.false c.four-n.result c.four-n.ensures (sym c.number_fits.ensures ∙ c.if-not-number_fits.false) c.if-left-lt6.false c.two-r.result c.two-r.ensures.number (sym c.refinement_fits.ensures ∙ c.if-not-refinement_fits.false) c.if-left-lt8.false c.two-count.result c.two-count.ensures.number c.if-count-lt2.false c.if-len-count.false) ∙ born-read c.four-n.result c.two-r.result c.two-count.result p e)

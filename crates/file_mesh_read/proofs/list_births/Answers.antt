@@ -2,7 +2,7 @@
 use Rattle.file_mesh_read.proofs.Taken.{taken_none, same-births, same-pairs, done-births, done-pairs, births-room, fields-inside, pairs-inside, pairs-room, own-long, taken_more}
 use Rattle.file_mesh_read.specs.Work.{count_in}
 use lib.ListN.{length, length-set}
-use Prim.Native.Nat.{ℕ, ◌+◌, ◌*◌, ◌-◌, ◌≤◌, ◌<◌}
+use Prim.Native.Nat.{ℕ, ◌+◌, ◌*◌, ◌≤◌, ◌<◌}
 use native.Mathlib.Omega.{arith}
 use mathlib.Core.Path.{◌≡◌}
 use Rattle.file_mesh_read.proofs.list_births.Goals as goal
@@ -175,12 +175,6 @@ overflow_add-at-in-loop-k-5 c =
     let e : n ≡ count_in c.loop-k.at c.args.bytes.now = c.two-count.ensures.number in
     let inside : c.loop-k.at + 14 + n * 6 ≤ length c.args.bytes.now = pairs-inside c.args.many c.args.from c.args.bytes.now c.args.births.now c.args.pairs.now c.requires c.loop-k.births c.loop-k.pairs c.loop-k.at c.loop-k.p c.loop-k.k c.loop-k.invariant h n e in
     omega (arith, inside, c.well_formed)
-
-pub overflow_add-k : goal.overflow_add-k
-overflow_add-k c = omega (arith, c.loop-k-test.true, c.ranges.many)
-
-pub loop-k-smaller : goal.loop-k-smaller
-loop-k-smaller c = omega (arith, c.loop-k-test.true)
 
 pub loop-k-preserved : goal.loop-k-preserved
 loop-k-preserved c =

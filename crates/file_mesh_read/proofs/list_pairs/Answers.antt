@@ -1,7 +1,6 @@
 -- `file_mesh_read::list_pairs` meets its contract. The invariant: the first k pairs are read. Assumes nothing.
 use Rattle.file_mesh_read.proofs.Listed.{pairs-begin, pairs-same, pairs-done, pairs-more}
 use lib.ListN.{length, length-set}
-use Prim.Native.Nat.{◌-◌}
 use native.Mathlib.Omega.{arith}
 use mathlib.Core.Path.{◌≡◌}
 use Rattle.file_mesh_read.proofs.list_pairs.Goals as goal
@@ -45,12 +44,6 @@ pub bounds-to-i-in-loop-k : goal.bounds-to-i-in-loop-k
 bounds-to-i-in-loop-k c =
     let same : length c.loop-k.to ≡ length c.args.to.now = pairs-same c.args.count c.args.from c.args.bytes.now c.args.to.now c.loop-k.to c.loop-k.k c.requires.0 c.loop-k.invariant in
     simp length-set (omega (arith, c.requires.0, c.loop-k-test.true, same))
-
-pub overflow_add-k : goal.overflow_add-k
-overflow_add-k c = omega (arith, c.requires.1, c.loop-k-test.true)
-
-pub loop-k-smaller : goal.loop-k-smaller
-loop-k-smaller c = omega (arith, c.loop-k-test.true)
 
 pub loop-k-preserved : goal.loop-k-preserved
 loop-k-preserved c =

@@ -1,10 +1,6 @@
 -- `file_mesh_read::list_pairs` meets its contract. The invariant: the first k pairs are read. Assumes nothing.
 use Rattle.file_mesh_read.proofs.Listed.{PairsRead}
-use Prim.Native.Nat.{◌-◌}
 use Rattle.file_mesh_read.proofs.list_pairs.Given as goal
 
 abbrev pub invariant-loop-k : goal.invariant-loop-k
 invariant-loop-k l = PairsRead l.count l.from l.bytes l.initial.to l.to l.k
-
-abbrev pub decreases-loop-k : goal.decreases-loop-k
-decreases-loop-k l = l.count - l.k

@@ -1,7 +1,7 @@
 -- `file_mesh_read::list_words` meets its contract. The invariant: the first k words are read. Assumes nothing.
 use Rattle.file_mesh_read.proofs.Listed.{read-begin, read_same, read_done, part_in, word-there, word-tail, read_more}
 use lib.ListN.{length}
-use Prim.Native.Nat.{◌+◌, ◌*◌, ◌-◌, ◌≤◌, ◌<◌}
+use Prim.Native.Nat.{◌+◌, ◌*◌, ◌≤◌, ◌<◌}
 use native.Mathlib.Omega.{arith}
 use mathlib.Core.Path.{◌≡◌}
 use Rattle.file_mesh_read.proofs.list_words.Goals as goal
@@ -69,12 +69,6 @@ slice_bounds-read_fours-end-in-loop-k c =
 pub read_fours-requires : goal.read_fours-requires
 read_fours-requires c =
     word-tail c.args.n c.args.count c.args.bytes.now c.args.to.now c.loop-k.to c.loop-k.k c.requires.1 c.requires.2 c.loop-k.invariant c.loop-k-test.true
-
-pub overflow_add-k : goal.overflow_add-k
-overflow_add-k c = omega (arith, c.loop-k-test.true, c.ranges.count)
-
-pub loop-k-smaller : goal.loop-k-smaller
-loop-k-smaller c = omega (arith, c.loop-k-test.true)
 
 pub loop-k-preserved : goal.loop-k-preserved
 loop-k-preserved c =

@@ -9,6 +9,3 @@ use Rattle.file_mesh_read.proofs.pairs_refusal.Given as goal
 
 abbrev pub invariant-loop-k : goal.invariant-loop-k
 invariant-loop-k l = (l.k ≤ l.count) × (l.at ≤ length l.bytes) × (l.sum ≤ l.k * 65535) × (refusal_of (weighed l.r (pairs_from l.first 0 l.count (drop l.from l.bytes))) ≡ summed l.r l.sum (pairs_from l.first l.low (l.count - l.k) (drop l.at l.bytes)))
-
-abbrev pub decreases-loop-k : goal.decreases-loop-k
-decreases-loop-k l = l.count - l.k

@@ -1,11 +1,10 @@
 -- `file_mesh_read::vertices` meets its contract. The invariant: the larger of `most` and one past the numbers from i on is the answer. Assumes nothing.
 use Rattle.file_mesh_read.proofs.Parts.{top-more, top-end, top-begin}
 use Rattle.file_mesh.specs.Mesh.{past}
-use Prim.Native.Nat.{ℕ, ◌-◌, max}
+use Prim.Native.Nat.{ℕ, max}
 use native.Mathlib.Omega.{arith}
 use mathlib.Core.List.{List}
 use mathlib.Core.Path.{ap}
-use Rattle.file_mesh_read.proofs.vertices.Goals.{then-most-v, else-most-v}
 use Rattle.file_mesh_read.proofs.vertices.Goals as goal
 
 pub loop-i-init : goal.loop-i-init
@@ -20,19 +19,10 @@ four-v-requires c = omega (arith, c.requires, c.loop-i-test.true)
 pub overflow_cast-v : goal.overflow_cast-v
 overflow_cast-v c = omega (arith, c.four-v.type_inv)
 
-pub overflow_add-most : goal.overflow_add-most
-overflow_add-most c = omega (arith, c.four-v.type_inv)
-
-pub overflow_add-i : goal.overflow_add-i
-overflow_add-i c = omega (arith, c.requires, c.loop-i-test.true)
-
-pub loop-i-smaller : goal.loop-i-smaller
-loop-i-smaller c = omega (arith, c.loop-i-test.true)
-
 pub loop-i-preserved : goal.loop-i-preserved
 loop-i-preserved c =
     let m = top-more c.args.bytes.now c.args.n c.loop-i.i c.loop-i-test.true in
-    elim c.if-most-v.branch [ then-most-v w ↦ (omega arith, omega arith) | else-most-v w ↦ (omega arith, omega arith) ]
+    (omega arith, omega arith)
 
 pub returns : goal.returns
 returns c =

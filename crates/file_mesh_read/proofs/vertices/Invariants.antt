@@ -8,6 +8,3 @@ use Rattle.file_mesh_read.proofs.vertices.Given as goal
 
 abbrev pub invariant-loop-i : goal.invariant-loop-i
 invariant-loop-i l = (l.i ≤ l.n) × (max l.top (past (fours_of l.n l.bytes)) ≡ max l.most (past (fours_of (l.n - l.i) (drop (l.i * 4) l.bytes))))
-
-abbrev pub decreases-loop-i : goal.decreases-loop-i
-decreases-loop-i l = l.n - l.i

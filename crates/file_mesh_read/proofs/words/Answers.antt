@@ -1,4 +1,5 @@
 -- `file_mesh_read::words` meets its contract. The invariant: the words are read as the words from word k on are, after those before it, whose vertices end at `top`. Assumes nothing.
+use Rattle.refusal.proofs.Chain.{passed_on}
 use Rattle.file_mesh_read.proofs.Turns.{topped, topped-none, place, words-refused, word-inside, next-inside, words_more, words-done}
 use Rattle.file_mesh.specs.Read.{words_from}
 use Rattle.file_mesh.specs.Mesh.{past}
@@ -31,33 +32,28 @@ overflow_mul-at c = omega (arith, c.loop-k.invariant.1)
 pub overflow_add-at : goal.overflow_add-at
 overflow_add-at c = omega (arith, c.loop-k.invariant.1)
 
-pub word_refusal-number-requires : goal.word_refusal-number-requires
-word_refusal-number-requires c = (c.requires.0, c.loop-k.invariant.1, omega (arith, mul-le-mul_left {m = (c.args.d + 1) * 4} {n = 6 + (c.args.d + 1) * 4} c.loop-k.k (omega arith)))
+pub word_refusal-requires : goal.word_refusal-requires
+word_refusal-requires c = (c.requires.0, c.loop-k.invariant.1, omega (arith, mul-le-mul_left {m = (c.args.d + 1) * 4} {n = 6 + (c.args.d + 1) * 4} c.loop-k.k (omega arith)))
 
-pub returns-then-number-ne0 : goal.returns-then-number-ne0
-returns-then-number-ne0 c =
-    sym (c.loop-k.invariant.2 ∙ words-refused c.args.d c.args.count c.loop-k.k c.args.bytes.now c.loop-k-test.true c.loop-k.top c.word_refusal-number.result c.word_refusal-number.ensures c.if-number-ne0.true)
+pub returns-in_err-word_refusal : goal.returns-in_err-word_refusal
+returns-in_err-word_refusal c =
+    rw (passed_on c.from_residual.ensures.1)
+    (sym (c.loop-k.invariant.2 ∙ words-refused c.args.d c.args.count c.loop-k.k c.args.bytes.now c.loop-k-test.true c.loop-k.top _ c.in_err-word_refusal.ensures))
 
 pub overflow_add-from : goal.overflow_add-from
-overflow_add-from c = omega (arith, c.loop-k.invariant.1, word-inside c.args.d c.args.count c.loop-k.k c.args.bytes.now c.loop-k-test.true c.word_refusal-number.result c.word_refusal-number.ensures c.if-number-ne0.false)
+overflow_add-from c = omega (arith, c.loop-k.invariant.1, word-inside c.args.d c.args.count c.loop-k.k c.args.bytes.now c.loop-k-test.true c.in_ok-word_refusal.ensures)
 
 pub slice_bounds-vertices-count : goal.slice_bounds-vertices-count
-slice_bounds-vertices-count c = omega (arith, c.loop-k.invariant.1, word-inside c.args.d c.args.count c.loop-k.k c.args.bytes.now c.loop-k-test.true c.word_refusal-number.result c.word_refusal-number.ensures c.if-number-ne0.false)
+slice_bounds-vertices-count c = omega (arith, c.loop-k.invariant.1, word-inside c.args.d c.args.count c.loop-k.k c.args.bytes.now c.loop-k-test.true c.in_ok-word_refusal.ensures)
 
 pub slice_bounds-vertices-start : goal.slice_bounds-vertices-start
-slice_bounds-vertices-start c = omega (arith, c.loop-k.invariant.1, word-inside c.args.d c.args.count c.loop-k.k c.args.bytes.now c.loop-k-test.true c.word_refusal-number.result c.word_refusal-number.ensures c.if-number-ne0.false)
+slice_bounds-vertices-start c = omega (arith, c.loop-k.invariant.1, word-inside c.args.d c.args.count c.loop-k.k c.args.bytes.now c.loop-k-test.true c.in_ok-word_refusal.ensures)
 
 pub vertices-top-requires : goal.vertices-top-requires
 vertices-top-requires c =
     let from = place c.args.d c.loop-k.k + 6 in
     let bs = c.args.bytes.now in
-    omega (arith, length-take-le (length bs - from) (drop from bs) (omega (arith, length-drop from bs)), c.loop-k.invariant.1, word-inside c.args.d c.args.count c.loop-k.k bs c.loop-k-test.true c.word_refusal-number.result c.word_refusal-number.ensures c.if-number-ne0.false)
-
-pub overflow_add-k : goal.overflow_add-k
-overflow_add-k c = omega (arith, c.loop-k-test.true, c.requires.1)
-
-pub loop-k-smaller : goal.loop-k-smaller
-loop-k-smaller c = omega (arith, c.loop-k-test.true)
+    omega (arith, length-take-le (length bs - from) (drop from bs) (omega (arith, length-drop from bs)), c.loop-k.invariant.1, word-inside c.args.d c.args.count c.loop-k.k bs c.loop-k-test.true c.in_ok-word_refusal.ensures)
 
 pub loop-k-preserved : goal.loop-k-preserved
 loop-k-preserved c =
@@ -65,8 +61,8 @@ loop-k-preserved c =
     let from = place c.args.d c.loop-k.k + 6 in
     let t = c.vertices-top.ensures ∙ ap (λ (x : List ℕ). max c.loop-k.top (past (fours_of (c.args.d + 1) x))) (take_all (length bs - from) (drop from bs) (omega (arith, length-drop from bs))) in (
       omega (arith, c.loop-k-test.true),
-      next-inside c.args.d c.args.count c.loop-k.k bs c.loop-k-test.true c.word_refusal-number.result c.word_refusal-number.ensures c.if-number-ne0.false,
-      c.loop-k.invariant.2 ∙ words_more c.args.d c.args.count c.loop-k.k bs c.loop-k-test.true c.word_refusal-number.result c.word_refusal-number.ensures c.if-number-ne0.false c.loop-k.top c.vertices-top.result t,
+      next-inside c.args.d c.args.count c.loop-k.k bs c.loop-k-test.true c.in_ok-word_refusal.ensures,
+      c.loop-k.invariant.2 ∙ words_more c.args.d c.args.count c.loop-k.k bs c.loop-k-test.true c.in_ok-word_refusal.ensures c.loop-k.top c.vertices-top.result t,
     )
 
 pub returns : goal.returns

@@ -10,6 +10,3 @@ use Rattle.file_mesh_read.proofs.words.Given as goal
 
 abbrev pub invariant-loop-k : goal.invariant-loop-k
 invariant-loop-k l = (l.k ≤ l.count) × (place l.d l.k ≤ length l.bytes) × (worded_of (words_from l.d l.count [] (drop 10 l.bytes)) ≡ topped l.top (words_from l.d (l.count - l.k) (word_before l.d l.k (place l.d l.k) l.bytes) (drop (place l.d l.k) l.bytes)))
-
-abbrev pub decreases-loop-k : goal.decreases-loop-k
-decreases-loop-k l = l.count - l.k

@@ -4,7 +4,7 @@ use Rattle.file_bytes.proofs.Laws.{little-length}
 use Rattle.file_bytes.specs.Bytes.{little}
 use Rattle.refusal.specs.Lent.{onto}
 use lib.ListN.{length, take, drop, length-append}
-use Prim.Native.Nat.{ℕ, ◌+◌, ◌-◌}
+use Prim.Native.Nat.{ℕ, ◌-◌}
 use native.Mathlib.Omega.{arith}
 use mathlib.Core.List.{List, ◌++◌}
 use mathlib.Core.Path.{ap, ◌∙◌}

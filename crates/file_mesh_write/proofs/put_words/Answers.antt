@@ -65,15 +65,6 @@ overflow_add-at c =
     let same : length c.loop-k.to ≡ length c.args.to.now = words_same c.args.d c.args.words.now c.args.to.now c.loop-k.to c.loop-k.at c.loop-k.k c.requires.0 c.requires.1 c.loop-k.invariant in
     omega (arith, room, same)
 
-pub overflow_add-k : goal.overflow_add-k
-overflow_add-k c =
-    let h : c.loop-k.k < many c.args.d c.args.words.now = c.loop-k-test.true in
-    let inside : c.loop-k.k * (c.args.d + 1) + (c.args.d + 1) ≤ length c.args.words.now = word_in c.args.d c.args.words.now c.args.to.now c.loop-k.to c.loop-k.at c.loop-k.k c.requires.0 c.requires.1 c.loop-k.invariant h in
-    omega (arith, inside, c.loop-k-test.true)
-
-pub loop-k-smaller : goal.loop-k-smaller
-loop-k-smaller c = omega (arith, c.loop-k-test.true)
-
 pub loop-k-preserved : goal.loop-k-preserved
 loop-k-preserved c =
     let h : c.loop-k.k < many c.args.d c.args.words.now = c.loop-k-test.true in

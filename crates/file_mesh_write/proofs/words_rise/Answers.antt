@@ -12,14 +12,14 @@ use mathlib.Core.Path.{◌≡◌, sym, ap, ◌∙◌}
 use Rattle.file_mesh_write.proofs.words_rise.Goals as goal
 
 pub loop-k-init : goal.loop-k-init
-loop-k-init c = (omega arith, rise-none c.args.d (length c.args.words.now / (c.args.d + 1)) c.args.words.now)
+loop-k-init c = rise-none c.args.d (length c.args.words.now / (c.args.d + 1)) c.args.words.now
 
 pub overflow_mul-at : goal.overflow_mul-at
 overflow_mul-at c =
     let h : c.loop-k.k < length c.args.words.now / (c.args.d + 1) = c.loop-k-test.true in
     let ws : mathlib.Core.List.List ℕ = c.args.words.now in
     let k : ℕ = c.loop-k.k in
-    let end-in : k * (c.args.d + 1) + (c.args.d + 1) ≤ length ws = word_end c.args.d (length ws / (c.args.d + 1)) k ws c.requires c.loop-k.invariant.0 h (count_fits_lem (length ws) (c.args.d + 1)) in
+    let end-in : k * (c.args.d + 1) + (c.args.d + 1) ≤ length ws = word_end c.args.d (length ws / (c.args.d + 1)) k ws c.requires c.loop-k.auto.k h (count_fits_lem (length ws) (c.args.d + 1)) in
     omega (arith, end-in, c.well_formed)
 
 pub overflow_sub-before : goal.overflow_sub-before
@@ -27,7 +27,7 @@ overflow_sub-before c =
     let h : c.loop-k.k < length c.args.words.now / (c.args.d + 1) = c.loop-k-test.true in
     let ws : mathlib.Core.List.List ℕ = c.args.words.now in
     let k : ℕ = c.loop-k.k in
-    let start-in : c.args.d + 1 ≤ k * (c.args.d + 1) = word-start c.args.d (length ws / (c.args.d + 1)) k ws c.requires c.loop-k.invariant.0 h (count_fits_lem (length ws) (c.args.d + 1)) in
+    let start-in : c.args.d + 1 ≤ k * (c.args.d + 1) = word-start c.args.d (length ws / (c.args.d + 1)) k ws c.requires c.loop-k.auto.k h (count_fits_lem (length ws) (c.args.d + 1)) in
     start-in
 
 pub overflow_add-end : goal.overflow_add-end
@@ -35,7 +35,7 @@ overflow_add-end c =
     let h : c.loop-k.k < length c.args.words.now / (c.args.d + 1) = c.loop-k-test.true in
     let ws : mathlib.Core.List.List ℕ = c.args.words.now in
     let k : ℕ = c.loop-k.k in
-    let end-in : k * (c.args.d + 1) + (c.args.d + 1) ≤ length ws = word_end c.args.d (length ws / (c.args.d + 1)) k ws c.requires c.loop-k.invariant.0 h (count_fits_lem (length ws) (c.args.d + 1)) in
+    let end-in : k * (c.args.d + 1) + (c.args.d + 1) ≤ length ws = word_end c.args.d (length ws / (c.args.d + 1)) k ws c.requires c.loop-k.auto.k h (count_fits_lem (length ws) (c.args.d + 1)) in
     omega (arith, end-in, c.well_formed)
 
 pub offset_bounds-words-before : goal.offset_bounds-words-before
@@ -43,7 +43,7 @@ offset_bounds-words-before c =
     let h : c.loop-k.k < length c.args.words.now / (c.args.d + 1) = c.loop-k-test.true in
     let ws : mathlib.Core.List.List ℕ = c.args.words.now in
     let k : ℕ = c.loop-k.k in
-    let end-in : k * (c.args.d + 1) + (c.args.d + 1) ≤ length ws = word_end c.args.d (length ws / (c.args.d + 1)) k ws c.requires c.loop-k.invariant.0 h (count_fits_lem (length ws) (c.args.d + 1)) in
+    let end-in : k * (c.args.d + 1) + (c.args.d + 1) ≤ length ws = word_end c.args.d (length ws / (c.args.d + 1)) k ws c.requires c.loop-k.auto.k h (count_fits_lem (length ws) (c.args.d + 1)) in
     omega (arith, end-in, c.well_formed)
 
 pub slice_bounds-cell_before-end : goal.slice_bounds-cell_before-end
@@ -51,7 +51,7 @@ slice_bounds-cell_before-end c =
     let h : c.loop-k.k < length c.args.words.now / (c.args.d + 1) = c.loop-k-test.true in
     let ws : mathlib.Core.List.List ℕ = c.args.words.now in
     let k : ℕ = c.loop-k.k in
-    let end-in : k * (c.args.d + 1) + (c.args.d + 1) ≤ length ws = word_end c.args.d (length ws / (c.args.d + 1)) k ws c.requires c.loop-k.invariant.0 h (count_fits_lem (length ws) (c.args.d + 1)) in
+    let end-in : k * (c.args.d + 1) + (c.args.d + 1) ≤ length ws = word_end c.args.d (length ws / (c.args.d + 1)) k ws c.requires c.loop-k.auto.k h (count_fits_lem (length ws) (c.args.d + 1)) in
     omega (arith, end-in)
 
 pub offset_bounds-words-at : goal.offset_bounds-words-at
@@ -59,7 +59,7 @@ offset_bounds-words-at c =
     let h : c.loop-k.k < length c.args.words.now / (c.args.d + 1) = c.loop-k-test.true in
     let ws : mathlib.Core.List.List ℕ = c.args.words.now in
     let k : ℕ = c.loop-k.k in
-    let end-in : k * (c.args.d + 1) + (c.args.d + 1) ≤ length ws = word_end c.args.d (length ws / (c.args.d + 1)) k ws c.requires c.loop-k.invariant.0 h (count_fits_lem (length ws) (c.args.d + 1)) in
+    let end-in : k * (c.args.d + 1) + (c.args.d + 1) ≤ length ws = word_end c.args.d (length ws / (c.args.d + 1)) k ws c.requires c.loop-k.auto.k h (count_fits_lem (length ws) (c.args.d + 1)) in
     omega (arith, end-in, c.well_formed)
 
 pub slice_bounds-cell_before-end-in-loop-k : goal.slice_bounds-cell_before-end-in-loop-k
@@ -67,7 +67,7 @@ slice_bounds-cell_before-end-in-loop-k c =
     let h : c.loop-k.k < length c.args.words.now / (c.args.d + 1) = c.loop-k-test.true in
     let ws : mathlib.Core.List.List ℕ = c.args.words.now in
     let k : ℕ = c.loop-k.k in
-    let end-in : k * (c.args.d + 1) + (c.args.d + 1) ≤ length ws = word_end c.args.d (length ws / (c.args.d + 1)) k ws c.requires c.loop-k.invariant.0 h (count_fits_lem (length ws) (c.args.d + 1)) in
+    let end-in : k * (c.args.d + 1) + (c.args.d + 1) ≤ length ws = word_end c.args.d (length ws / (c.args.d + 1)) k ws c.requires c.loop-k.auto.k h (count_fits_lem (length ws) (c.args.d + 1)) in
     omega (arith, end-in)
 
 pub cell_before-requires : goal.cell_before-requires
@@ -75,13 +75,13 @@ cell_before-requires c =
     let h : c.loop-k.k < length c.args.words.now / (c.args.d + 1) = c.loop-k-test.true in
     let ws : mathlib.Core.List.List ℕ = c.args.words.now in
     let k : ℕ = c.loop-k.k in
-    let start-in : c.args.d + 1 ≤ k * (c.args.d + 1) = word-start c.args.d (length ws / (c.args.d + 1)) k ws c.requires c.loop-k.invariant.0 h (count_fits_lem (length ws) (c.args.d + 1)) in
+    let start-in : c.args.d + 1 ≤ k * (c.args.d + 1) = word-start c.args.d (length ws / (c.args.d + 1)) k ws c.requires c.loop-k.auto.k h (count_fits_lem (length ws) (c.args.d + 1)) in
     let one : mathlib.Core.List.List ℕ = take (k * (c.args.d + 1) - (k * (c.args.d + 1) - (c.args.d + 1))) (drop (k * (c.args.d + 1) - (c.args.d + 1)) ws) in
     let other : mathlib.Core.List.List ℕ = take (k * (c.args.d + 1) + (c.args.d + 1) - k * (c.args.d + 1)) (drop (k * (c.args.d + 1)) ws) in
     let one-is : one ≡ part c.args.d ws (k * (c.args.d + 1) - (c.args.d + 1)) = upto ws (k * (c.args.d + 1) - (c.args.d + 1)) (k * (c.args.d + 1)) (c.args.d + 1) (omega (arith, start-in)) in
     let other-is : other ≡ part c.args.d ws (k * (c.args.d + 1)) = upto ws (k * (c.args.d + 1)) (k * (c.args.d + 1) + (c.args.d + 1)) (c.args.d + 1) (omega arith) in
-    let one-long : length one ≡ c.args.d + 1 = ap length one-is ∙ part-before c.args.d (length ws / (c.args.d + 1)) k ws c.requires c.loop-k.invariant.0 h (count_fits_lem (length ws) (c.args.d + 1)) in
-    let other_long : length other ≡ c.args.d + 1 = ap length other-is ∙ part-now c.args.d (length ws / (c.args.d + 1)) k ws c.requires c.loop-k.invariant.0 h (count_fits_lem (length ws) (c.args.d + 1)) in
+    let one-long : length one ≡ c.args.d + 1 = ap length one-is ∙ part-before c.args.d (length ws / (c.args.d + 1)) k ws c.requires c.loop-k.auto.k h (count_fits_lem (length ws) (c.args.d + 1)) in
+    let other_long : length other ≡ c.args.d + 1 = ap length other-is ∙ part-now c.args.d (length ws / (c.args.d + 1)) k ws c.requires c.loop-k.auto.k h (count_fits_lem (length ws) (c.args.d + 1)) in
     let o = one-long in
     let t = other_long in
     (o ∙ sym t, omega (arith, t, c.requires))
@@ -91,41 +91,30 @@ returns-then-not-cell_before c =
     let h : c.loop-k.k < length c.args.words.now / (c.args.d + 1) = c.loop-k-test.true in
     let ws : mathlib.Core.List.List ℕ = c.args.words.now in
     let k : ℕ = c.loop-k.k in
-    let start-in : c.args.d + 1 ≤ k * (c.args.d + 1) = word-start c.args.d (length ws / (c.args.d + 1)) k ws c.requires c.loop-k.invariant.0 h (count_fits_lem (length ws) (c.args.d + 1)) in
+    let start-in : c.args.d + 1 ≤ k * (c.args.d + 1) = word-start c.args.d (length ws / (c.args.d + 1)) k ws c.requires c.loop-k.auto.k h (count_fits_lem (length ws) (c.args.d + 1)) in
     let one : mathlib.Core.List.List ℕ = take (k * (c.args.d + 1) - (k * (c.args.d + 1) - (c.args.d + 1))) (drop (k * (c.args.d + 1) - (c.args.d + 1)) ws) in
     let other : mathlib.Core.List.List ℕ = take (k * (c.args.d + 1) + (c.args.d + 1) - k * (c.args.d + 1)) (drop (k * (c.args.d + 1)) ws) in
     let one-is : one ≡ part c.args.d ws (k * (c.args.d + 1) - (c.args.d + 1)) = upto ws (k * (c.args.d + 1) - (c.args.d + 1)) (k * (c.args.d + 1)) (c.args.d + 1) (omega (arith, start-in)) in
     let other-is : other ≡ part c.args.d ws (k * (c.args.d + 1)) = upto ws (k * (c.args.d + 1)) (k * (c.args.d + 1) + (c.args.d + 1)) (c.args.d + 1) (omega arith) in
-    let one-long : length one ≡ c.args.d + 1 = ap length one-is ∙ part-before c.args.d (length ws / (c.args.d + 1)) k ws c.requires c.loop-k.invariant.0 h (count_fits_lem (length ws) (c.args.d + 1)) in
+    let one-long : length one ≡ c.args.d + 1 = ap length one-is ∙ part-before c.args.d (length ws / (c.args.d + 1)) k ws c.requires c.loop-k.auto.k h (count_fits_lem (length ws) (c.args.d + 1)) in
     let compared : (b : Bool) → b ≡ comes_before (length one) (sort_word one) (sort_word other) → comes_before (c.args.d + 1) (sort_word (part c.args.d ws (k * (c.args.d + 1) - (c.args.d + 1)))) (sort_word (part c.args.d ws (k * (c.args.d + 1)))) ≡ b = λ b e. sym (e ∙ ap (λ (n : ℕ). comes_before n (sort_word one) (sort_word other)) one-long ∙ ap (λ (x : mathlib.Core.List.List ℕ). comes_before (c.args.d + 1) (sort_word x) (sort_word other)) one-is ∙ ap (λ (x : mathlib.Core.List.List ℕ). comes_before (c.args.d + 1) (sort_word (part c.args.d ws (k * (c.args.d + 1) - (c.args.d + 1)))) (sort_word x)) other-is) in
-    let bad : (b : Bool) → b ≡ comes_before (length one) (sort_word one) (sort_word other) → b ≡ false → false ≡ rise c.args.d (length ws / (c.args.d + 1)) [] ws = λ b e f. sym (c.loop-k.invariant.1 ∙ rise-bad c.args.d (length ws / (c.args.d + 1)) k ws c.requires c.loop-k.invariant.0 h (count_fits_lem (length ws) (c.args.d + 1)) (compared b e ∙ f)) in
+    let bad : (b : Bool) → b ≡ comes_before (length one) (sort_word one) (sort_word other) → b ≡ false → false ≡ rise c.args.d (length ws / (c.args.d + 1)) [] ws = λ b e f. sym (c.loop-k.invariant ∙ rise-bad c.args.d (length ws / (c.args.d + 1)) k ws c.requires c.loop-k.auto.k h (count_fits_lem (length ws) (c.args.d + 1)) (compared b e ∙ f)) in
     bad c.cell_before.result c.cell_before.ensures (c.if-not-cell_before.true)
-
-pub overflow_add-k : goal.overflow_add-k
-overflow_add-k c =
-    let h : c.loop-k.k < length c.args.words.now / (c.args.d + 1) = c.loop-k-test.true in
-    let ws : mathlib.Core.List.List ℕ = c.args.words.now in
-    let k : ℕ = c.loop-k.k in
-    let end-in : k * (c.args.d + 1) + (c.args.d + 1) ≤ length ws = word_end c.args.d (length ws / (c.args.d + 1)) k ws c.requires c.loop-k.invariant.0 h (count_fits_lem (length ws) (c.args.d + 1)) in
-    omega (arith, end-in, c.loop-k-test.true)
-
-pub loop-k-smaller : goal.loop-k-smaller
-loop-k-smaller c = omega (arith, c.loop-k-test.true)
 
 pub loop-k-preserved : goal.loop-k-preserved
 loop-k-preserved c =
     let h : c.loop-k.k < length c.args.words.now / (c.args.d + 1) = c.loop-k-test.true in
     let ws : mathlib.Core.List.List ℕ = c.args.words.now in
     let k : ℕ = c.loop-k.k in
-    let start-in : c.args.d + 1 ≤ k * (c.args.d + 1) = word-start c.args.d (length ws / (c.args.d + 1)) k ws c.requires c.loop-k.invariant.0 h (count_fits_lem (length ws) (c.args.d + 1)) in
+    let start-in : c.args.d + 1 ≤ k * (c.args.d + 1) = word-start c.args.d (length ws / (c.args.d + 1)) k ws c.requires c.loop-k.auto.k h (count_fits_lem (length ws) (c.args.d + 1)) in
     let one : mathlib.Core.List.List ℕ = take (k * (c.args.d + 1) - (k * (c.args.d + 1) - (c.args.d + 1))) (drop (k * (c.args.d + 1) - (c.args.d + 1)) ws) in
     let other : mathlib.Core.List.List ℕ = take (k * (c.args.d + 1) + (c.args.d + 1) - k * (c.args.d + 1)) (drop (k * (c.args.d + 1)) ws) in
     let one-is : one ≡ part c.args.d ws (k * (c.args.d + 1) - (c.args.d + 1)) = upto ws (k * (c.args.d + 1) - (c.args.d + 1)) (k * (c.args.d + 1)) (c.args.d + 1) (omega (arith, start-in)) in
     let other-is : other ≡ part c.args.d ws (k * (c.args.d + 1)) = upto ws (k * (c.args.d + 1)) (k * (c.args.d + 1) + (c.args.d + 1)) (c.args.d + 1) (omega arith) in
-    let one-long : length one ≡ c.args.d + 1 = ap length one-is ∙ part-before c.args.d (length ws / (c.args.d + 1)) k ws c.requires c.loop-k.invariant.0 h (count_fits_lem (length ws) (c.args.d + 1)) in
+    let one-long : length one ≡ c.args.d + 1 = ap length one-is ∙ part-before c.args.d (length ws / (c.args.d + 1)) k ws c.requires c.loop-k.auto.k h (count_fits_lem (length ws) (c.args.d + 1)) in
     let compared : (b : Bool) → b ≡ comes_before (length one) (sort_word one) (sort_word other) → comes_before (c.args.d + 1) (sort_word (part c.args.d ws (k * (c.args.d + 1) - (c.args.d + 1)))) (sort_word (part c.args.d ws (k * (c.args.d + 1)))) ≡ b = λ b e. sym (e ∙ ap (λ (n : ℕ). comes_before n (sort_word one) (sort_word other)) one-long ∙ ap (λ (x : mathlib.Core.List.List ℕ). comes_before (c.args.d + 1) (sort_word x) (sort_word other)) one-is ∙ ap (λ (x : mathlib.Core.List.List ℕ). comes_before (c.args.d + 1) (sort_word (part c.args.d ws (k * (c.args.d + 1) - (c.args.d + 1)))) (sort_word x)) other-is) in
-    let again : (b : Bool) → b ≡ comes_before (length one) (sort_word one) (sort_word other) → b ≡ true → rise c.args.d (length ws / (c.args.d + 1)) [] ws ≡ rise c.args.d (length ws / (c.args.d + 1) - (k + 1)) (part c.args.d ws ((k + 1) * (c.args.d + 1) - (c.args.d + 1))) (drop ((k + 1) * (c.args.d + 1)) ws) = λ b e f. c.loop-k.invariant.1 ∙ rise-more c.args.d (length ws / (c.args.d + 1)) k ws c.requires c.loop-k.invariant.0 h (count_fits_lem (length ws) (c.args.d + 1)) (compared b e ∙ f) in
-    (omega arith, again c.cell_before.result c.cell_before.ensures (c.if-not-cell_before.false))
+    let again : (b : Bool) → b ≡ comes_before (length one) (sort_word one) (sort_word other) → b ≡ true → rise c.args.d (length ws / (c.args.d + 1)) [] ws ≡ rise c.args.d (length ws / (c.args.d + 1) - (k + 1)) (part c.args.d ws ((k + 1) * (c.args.d + 1) - (c.args.d + 1))) (drop ((k + 1) * (c.args.d + 1)) ws) = λ b e f. c.loop-k.invariant ∙ rise-more c.args.d (length ws / (c.args.d + 1)) k ws c.requires c.loop-k.auto.k h (count_fits_lem (length ws) (c.args.d + 1)) (compared b e ∙ f) in
+    again c.cell_before.result c.cell_before.ensures (c.if-not-cell_before.false)
 
 pub returns : goal.returns
-returns c = sym (c.loop-k.invariant.1 ∙ rise-end _ _ _ _ _ c.loop-k-test.false)
+returns c = sym (c.loop-k.invariant ∙ rise-end _ _ _ _ _ c.loop-k-test.false)

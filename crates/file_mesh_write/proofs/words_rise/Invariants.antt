@@ -3,12 +3,9 @@ use Rattle.file_mesh_write.proofs.Fit.{part}
 use Rattle.file_mesh.specs.Rules.{rise}
 use lib.ListN.{length, drop}
 use mathlib.Core.List.{[]}
-use Prim.Native.Nat.{◌+◌, ◌*◌, ◌-◌, ◌/◌, ◌≤◌}
+use Prim.Native.Nat.{◌+◌, ◌*◌, ◌-◌, ◌/◌}
 use mathlib.Core.Path.{◌≡◌}
 use Rattle.file_mesh_write.proofs.words_rise.Given as goal
 
 abbrev pub invariant-loop-k : goal.invariant-loop-k
-invariant-loop-k l = (1 ≤ l.k) × (rise l.d (length l.words / (l.d + 1)) [] l.words ≡ rise l.d (length l.words / (l.d + 1) - l.k) (part l.d l.words (l.k * (l.d + 1) - (l.d + 1))) (drop (l.k * (l.d + 1)) l.words))
-
-abbrev pub decreases-loop-k : goal.decreases-loop-k
-decreases-loop-k l = length l.words / (l.d + 1) - l.k
+invariant-loop-k l = rise l.d (length l.words / (l.d + 1)) [] l.words ≡ rise l.d (length l.words / (l.d + 1) - l.k) (part l.d l.words (l.k * (l.d + 1) - (l.d + 1))) (drop (l.k * (l.d + 1)) l.words)

@@ -1,14 +1,10 @@
 -- `grid_chained_words::class_words` meets its contract. The invariant: the first i numbers of the words are written. Assumes nothing.
 use mathlib.Core.Path.{◌≡◌}
 use mathlib.Core.List.{◌++◌}
-use Prim.Native.Nat.{◌+◌, ◌-◌, ◌≤◌}
-use lib.ListN.{length, take, drop}
+use lib.ListN.{take, drop}
 use Rattle.grid_chained.specs.Classing.{at}
 use Rattle.grid_chained_words.specs.Words.{flat_by}
 use Rattle.grid_chained_words.proofs.class_words.Given as goal
 
 abbrev pub invariant-loop-i : goal.invariant-loop-i
-invariant-loop-i l = (l.i ≤ length l.initial.words) × (l.words ≡ take l.i (flat_by l.grid (at l.numbers)) ++ drop l.i l.initial.words) × (length l.words ≡ length l.initial.words)
-
-abbrev pub decreases-loop-i : goal.decreases-loop-i
-decreases-loop-i l = length l.initial.words - l.i
+invariant-loop-i l = l.words ≡ take l.i (flat_by l.grid (at l.numbers)) ++ drop l.i l.initial.words

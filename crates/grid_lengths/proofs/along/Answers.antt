@@ -1,6 +1,5 @@
 -- `grid_lengths::along` meets its contract. Assumes nothing.
 use mathlib.Core.Path.{ap}
-use Prim.Native.Nat.{◌-◌}
 use native.Mathlib.Omega.{arith}
 use Rattle.quotient.specs.declared.Axis.{Axis}
 use Rattle.quotient.proofs.Points.{coord-le}

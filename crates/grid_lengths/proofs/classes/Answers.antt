@@ -1,6 +1,5 @@
 -- `grid_lengths::classes` meets its contract: the keys are the ends of the visits sorted, and their distinct rows, in order, are the glued edges (proofs/Gathered). Assumes nothing.
 use mathlib.Core.Path.{◌≡◌, ap, ◌∙◌}
-use Prim.Native.Nat.{◌-◌}
 use native.Mathlib.Omega.{arith}
 use Rattle.multiindex.specs.Sort.{sort_words}
 use Rattle.grid_lengths.specs.Noted.{ends_of}

@@ -1,5 +1,4 @@
 -- `grid_lengths::cleared` meets its contract: the work's end stands, and the lists keep their lengths until they are cleared. Assumes nothing.
-use Prim.Native.Nat.{◌-◌}
 use Rattle.lists.proofs.Laws.{zero_along}
 use Rattle.grid_lengths.proofs.cleared.Goals as goal
 

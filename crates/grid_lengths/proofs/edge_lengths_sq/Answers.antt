@@ -1,20 +1,20 @@
 -- `grid_lengths::edge_lengths_sq` meets its contract, by its three ways out (proofs/Entry): a refusal and too little room touch nothing; else the work's end stands, and what
 -- was lent to it came back as zeros. Assumes nothing.
+use Rattle.refusal.proofs.Chain.{passed_on}
 use mathlib.Core.Path.{sym, ◌∙◌}
-use Prim.Native.Nat.{◌-◌}
 use lib.Seq.{length-take-le}
 use Rattle.quotient.proofs.Taken.{sides-taken}
 use Rattle.grid_lengths.proofs.Entry.{out-refused, out-cramped, working, out-ended}
 use Rattle.grid_lengths.proofs.edge_lengths_sq.Goals as goal
 
-pub returns-in-Refused : goal.returns-in-Refused
-returns-in-Refused c = out-refused c.args.grid c.args.lengths.now c.args.keys.now c.args.rows.now c.args.spare.now c.args.counts.now _ _ (sym c.check_with_sides-checked.ensures ∙ c.in-Refused.is)
+pub returns-in_err-check_with_sides : goal.returns-in_err-check_with_sides
+returns-in_err-check_with_sides c = rw (passed_on c.from_residual.ensures.1) (out-refused c.args.grid c.args.lengths.now c.args.keys.now c.args.rows.now c.args.spare.now c.args.counts.now _ (sym c.check_with_sides.ensures ∙ c.in_err-check_with_sides.was))
 
 pub need-need-requires : goal.need-need-requires
-need-need-requires c = sides-taken c.args.grid (sym c.check_with_sides-checked.ensures ∙ c.in_default.is)
+need-need-requires c = sides-taken c.args.grid (sym c.check_with_sides.ensures ∙ c.in_ok-check_with_sides.was)
 
 pub returns-then-not-has_room : goal.returns-then-not-has_room
-returns-then-not-has_room c = out-cramped c.args.grid c.args.lengths.now c.args.keys.now c.args.rows.now c.args.spare.now c.args.counts.now (sym c.check_with_sides-checked.ensures ∙ c.in_default.is) c.need-need.result c.need-need.ensures (c.has_room.ensures.no (c.if-not-has_room.true))
+returns-then-not-has_room c = out-cramped c.args.grid c.args.lengths.now c.args.keys.now c.args.rows.now c.args.spare.now c.args.counts.now (sym c.check_with_sides.ensures ∙ c.in_ok-check_with_sides.was) c.need-need.result c.need-need.ensures (c.has_room.ensures.no (c.if-not-has_room.true))
 
 pub slice_bounds-cleared-end : goal.slice_bounds-cleared-end
 slice_bounds-cleared-end c = (c.has_room.ensures.yes (c.if-not-has_room.false)).in_keys
@@ -41,7 +41,7 @@ pub slice_bounds-cleared-end-8 : goal.slice_bounds-cleared-end-8
 slice_bounds-cleared-end-8 c = sym (length-take-le _ _ (c.has_room.ensures.yes (c.if-not-has_room.false)).in_counts)
 
 pub cleared-requires : goal.cleared-requires
-cleared-requires c = working c.args.grid c.args.lengths.now c.args.keys.now c.args.rows.now c.args.spare.now c.args.counts.now (sym c.check_with_sides-checked.ensures ∙ c.in_default.is) (sides-taken c.args.grid (sym c.check_with_sides-checked.ensures ∙ c.in_default.is)) c.need-need.result c.need-need.ensures (c.has_room.ensures.yes (c.if-not-has_room.false))
+cleared-requires c = working c.args.grid c.args.lengths.now c.args.keys.now c.args.rows.now c.args.spare.now c.args.counts.now (sym c.check_with_sides.ensures ∙ c.in_ok-check_with_sides.was) (sides-taken c.args.grid (sym c.check_with_sides.ensures ∙ c.in_ok-check_with_sides.was)) c.need-need.result c.need-need.ensures (c.has_room.ensures.yes (c.if-not-has_room.false))
 
 pub returns : goal.returns
-returns c = let w = c.cleared in out-ended c.args.grid c.args.lengths.now c.args.keys.now c.args.rows.now c.args.spare.now c.args.counts.now (sym c.check_with_sides-checked.ensures ∙ c.in_default.is) (sides-taken c.args.grid (sym c.check_with_sides-checked.ensures ∙ c.in_default.is)) c.need-need.result c.need-need.ensures (c.has_room.ensures.yes (c.if-not-has_room.false)) c.cleared.result c.cleared.new.lengths _ _ _ _ c.cleared.ensures.work c.cleared.ensures.room
+returns c = let w = c.cleared in out-ended c.args.grid c.args.lengths.now c.args.keys.now c.args.rows.now c.args.spare.now c.args.counts.now (sym c.check_with_sides.ensures ∙ c.in_ok-check_with_sides.was) (sides-taken c.args.grid (sym c.check_with_sides.ensures ∙ c.in_ok-check_with_sides.was)) c.need-need.result c.need-need.ensures (c.has_room.ensures.yes (c.if-not-has_room.false)) c.cleared.result c.cleared.new.lengths _ _ _ _ c.cleared.ensures.work c.cleared.ensures.room

@@ -1,5 +1,5 @@
 -- `grid_lengths::edges_each` meets its contract. Assumes nothing.
-use Prim.Native.Nat.{◌+◌, ◌-◌}
+use Prim.Native.Nat.{◌+◌}
 use native.Mathlib.Omega.{arith}
 use native.Mathlib.Nat.{mul-le-mul_right}
 use Rattle.grid_lengths.proofs.edges_each.Goals as goal

@@ -1,5 +1,4 @@
 -- `grid_lengths::end_point` meets its contract. Assumes nothing.
-use Prim.Native.Nat.{◌-◌}
 use borrow.Author.Tests.{eq-eqb, ne_eqb}
 use Rattle.grid_lengths.proofs.Boxed.{point-even, point-odd}
 use Rattle.grid_lengths.proofs.end_point.Goals as goal

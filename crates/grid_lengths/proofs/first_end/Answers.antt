@@ -1,5 +1,4 @@
 -- `grid_lengths::first_end` meets its contract. Assumes nothing.
-use Prim.Native.Nat.{◌-◌}
 use native.Mathlib.Omega.{arith}
 use Rattle.grid_lengths.proofs.Measuring.{end-small}
 use Rattle.grid_lengths.proofs.first_end.Goals as goal

@@ -1,6 +1,5 @@
 -- `grid_lengths::follows` meets its contract. Assumes nothing.
 use mathlib.Core.Path.{sym, ap}
-use Prim.Native.Nat.{◌-◌}
 use Rattle.grid_lengths.specs.Noted.{is_length}
 use Rattle.grid_lengths.proofs.Notes.{follow-is}
 use Rattle.grid_lengths.proofs.follows.Goals as goal
@@ -13,6 +12,3 @@ returns-in-Clash c = follow-is c.args.grid c.args.note c.args.r _ _ _ _ c.told-k
 
 pub returns-in-NoEdge : goal.returns-in-NoEdge
 returns-in-NoEdge c = follow-is c.args.grid c.args.note c.args.r _ _ _ _ c.told-known.ensures c.value.ensures c.meet-now.ensures (ap is_length (sym c.in-NoEdge.is))
-
-pub returns-in-Refused : goal.returns-in-Refused
-returns-in-Refused c = follow-is c.args.grid c.args.note c.args.r _ _ _ _ c.told-known.ensures c.value.ensures c.meet-now.ensures (ap is_length (sym c.in-Refused.is))

@@ -1,5 +1,4 @@
 -- `grid_lengths::from_at` meets its contract. Assumes nothing.
-use Prim.Native.Nat.{◌-◌}
 use native.Mathlib.Omega.{arith}
 use Rattle.grid_lengths.proofs.Measuring.{dims, place-few, each-pos, first-low, corner-few, from_is}
 use Rattle.grid_lengths.proofs.from_at.Goals as goal

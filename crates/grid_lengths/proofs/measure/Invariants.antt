@@ -1,15 +1,11 @@
 -- `grid_lengths::measure` meets its contract. The invariant: the first r values are written. Assumes nothing.
 use mathlib.Core.Path.{◌≡◌}
 use mathlib.Core.List.{◌++◌}
-use Prim.Native.Nat.{◌+◌, ◌-◌, ◌≤◌}
-use lib.ListN.{length, take, drop}
+use lib.ListN.{take, drop}
 use Rattle.lists.specs.Tables.{tab}
 use Rattle.grid_lengths.specs.Edges.{square_at}
 use Rattle.grid_lengths.specs.Work.{visits_each}
 use Rattle.grid_lengths.proofs.measure.Given as goal
 
 abbrev pub invariant-loop-r : goal.invariant-loop-r
-invariant-loop-r l = (l.r ≤ length l.initial.values) × (l.values ≡ take l.r (tab (visits_each l.grid) (square_at l.grid)) ++ drop l.r l.initial.values) × (length l.values ≡ length l.initial.values)
-
-abbrev pub decreases-loop-r : goal.decreases-loop-r
-decreases-loop-r l = length l.initial.values - l.r
+invariant-loop-r l = l.values ≡ take l.r (tab (visits_each l.grid) (square_at l.grid)) ++ drop l.r l.initial.values

@@ -1,5 +1,4 @@
 -- `grid_lengths::measured` meets its contract. Assumes nothing.
-use Prim.Native.Nat.{◌-◌}
 use Rattle.grid_lengths.proofs.Measuring.{square-is}
 use Rattle.grid_lengths.proofs.measured.Goals as goal
 

@@ -1,6 +1,5 @@
 -- `grid_lengths::meet` meets its contract, case by case. Assumes nothing.
-use Prim.Native.Nat.{◌-◌}
-use Rattle.grid_lengths.proofs.Values.{met-agree, met-clash, met-clashed, met-first, met-refused}
+use Rattle.grid_lengths.proofs.Values.{met-agree, met-clash, met-clashed, met-first}
 use Rattle.grid_lengths.proofs.meet.Goals as goal
 
 pub returns-then-agree : goal.returns-then-agree
@@ -14,6 +13,3 @@ returns-in-Clash c = met-clashed c.args.known c.args.later _ _ c.in-Clash.is
 
 pub returns-in-NoEdge : goal.returns-in-NoEdge
 returns-in-NoEdge c = met-first c.args.known c.args.later c.in-NoEdge.is
-
-pub returns-in-Refused : goal.returns-in-Refused
-returns-in-Refused c = met-refused c.args.known c.args.later _ _ c.in-Refused.is

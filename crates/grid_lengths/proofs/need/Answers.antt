@@ -1,6 +1,6 @@
 -- `grid_lengths::need` meets its contract. Assumes nothing.
 use mathlib.Core.Path.{ap}
-use Prim.Native.Nat.{ℕ, ◌*◌, ◌-◌}
+use Prim.Native.Nat.{ℕ, ◌*◌}
 use native.Mathlib.Omega.{arith}
 use Rattle.grid_lengths.proofs.Measuring.{visits-few}
 use Rattle.grid_lengths.proofs.need.Goals as goal

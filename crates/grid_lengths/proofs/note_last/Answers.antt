@@ -1,20 +1,20 @@
 -- `grid_lengths::note_last` meets its contract: the values of one box are measured, and then the visits are noted. Assumes nothing.
+use Rattle.refusal.specs.Says.{fine}
 use mathlib.Core.Path.{◌≡◌, sym, ◌∙◌, subst}
 use mathlib.Core.List.{List}
-use Prim.Native.Nat.{ℕ, ◌-◌, ◌≤◌}
+use Prim.Native.Nat.{ℕ, ◌≤◌}
 use native.Mathlib.Omega.{arith}
 use lib.ListN.{replicate}
 use lib.Ieee.{Float, binary64, of_bits}
 use lib.Seq.{length-take-le}
-use Rattle.refusal.specs.declared.Answer.TheVariants.{Fine}
 use Rattle.quotient.specs.declared.Grid.{Grid}
 use Rattle.quotient.specs.Shape.{check_of}
 use Rattle.grid_lengths.specs.Work.{visits_each, Valued}
 use Rattle.grid_lengths.proofs.Boxed.{each-visits-few, front-values, fits-values}
 use Rattle.grid_lengths.proofs.note_last.Goals as goal
 
-few : (g : Grid) → check_of g ≡ Fine → (n : ℕ) → n ≡ visits_each g → n ≤ 36
-few g fine n e = omega (arith, each-visits-few g fine)
+few : (g : Grid) → check_of g ≡ fine → (n : ℕ) → n ≡ visits_each g → n ≤ 36
+few g taken n e = omega (arith, each-visits-few g taken)
 
 pub visits_each-each-requires : goal.visits_each-each-requires
 visits_each-each-requires c = c.requires.0.taken

@@ -1,13 +1,9 @@
 -- `grid_lengths::reaches` meets its contract. The invariant: the first i ends are written. Assumes nothing.
 use mathlib.Core.Path.{◌≡◌}
 use mathlib.Core.List.{◌++◌}
-use Prim.Native.Nat.{◌+◌, ◌-◌, ◌≤◌}
-use lib.ListN.{length, take, drop}
+use lib.ListN.{take, drop}
 use Rattle.grid_lengths.specs.Work.{end_reach}
 use Rattle.grid_lengths.proofs.reaches.Given as goal
 
 abbrev pub invariant-loop-i : goal.invariant-loop-i
-invariant-loop-i l = (l.i ≤ length l.initial.reach) × (l.reach ≡ take l.i (end_reach l.grid) ++ drop l.i l.initial.reach) × (length l.reach ≡ length l.initial.reach)
-
-abbrev pub decreases-loop-i : goal.decreases-loop-i
-decreases-loop-i l = length l.initial.reach - l.i
+invariant-loop-i l = l.reach ≡ take l.i (end_reach l.grid) ++ drop l.i l.initial.reach

@@ -1,6 +1,5 @@
 -- `grid_lengths::same_ends` meets its contract. Assumes nothing.
 use mathlib.Core.Path.{refl}
-use Prim.Native.Nat.{◌-◌}
 use Rattle.grid_lengths.proofs.Measuring.{same-yes, same-no}
 use Rattle.grid_lengths.proofs.same_ends.Goals as goal
 

@@ -1,9 +1,8 @@
 -- `grid_lengths::settled` meets its contract. The invariant: known is what the visits of the first x boxes come to (proofs/Skipped). Assumes nothing.
 use mathlib.Core.Path.{◌≡◌}
-use Prim.Native.Nat.{◌-◌, ◌<◌}
+use Prim.Native.Nat.{◌<◌}
 use native.Mathlib.Omega.{arith}
 use Rattle.grid_words.specs.Cells.{boxes_of}
-use Rattle.grid_words.proofs.Corners.{boxes-few}
 use Rattle.grid_lengths.proofs.Measuring.{visits-few}
 use Rattle.grid_lengths.proofs.Skipped.{settled-none, box-visits, settling, settled-box, skipped-box, settled-done}
 use Rattle.grid_lengths.proofs.settled.Goals as goal
@@ -15,7 +14,7 @@ pub visits_each-each-requires : goal.visits_each-each-requires
 visits_each-each-requires c = c.requires
 
 pub loop-x-init : goal.loop-x-init
-loop-x-init c = (omega arith, settled-none c.args.grid c.requires c.args.a c.args.b)
+loop-x-init c = settled-none c.args.grid c.requires c.args.a c.args.b
 
 pub touches-requires : goal.touches-requires
 touches-requires c = c.requires
@@ -26,8 +25,8 @@ overflow_mul-x c =
     let h : c.loop-x.x < boxes_of g = omega (arith, c.loop-x-test.true, c.boxes-boxes.ensures) in
     omega (arith, box-visits g c.requires c.args.a c.args.b c.loop-x.x h _ c.visits_each-each.ensures, visits-few g c.requires)
 
-pub overflow_mul-x-then-touches : goal.overflow_mul-x-then-touches
-overflow_mul-x-then-touches c =
+pub overflow_mul-x-in-loop-x : goal.overflow_mul-x-in-loop-x
+overflow_mul-x-in-loop-x c =
     let g = c.args.grid in
     let h : c.loop-x.x < boxes_of g = omega (arith, c.loop-x-test.true, c.boxes-boxes.ensures) in
     omega (arith, box-visits g c.requires c.args.a c.args.b c.loop-x.x h _ c.visits_each-each.ensures, visits-few g c.requires)
@@ -42,31 +41,19 @@ pub settled_to-known-requires : goal.settled_to-known-requires
 settled_to-known-requires c =
     let g = c.args.grid in
     let h : c.loop-x.x < boxes_of g = omega (arith, c.loop-x-test.true, c.boxes-boxes.ensures) in
-    settling g c.requires c.args.a c.args.b c.loop-x.x h _ c.visits_each-each.ensures _ c.loop-x.invariant.1
-
-pub overflow_add-x-then-touches : goal.overflow_add-x-then-touches
-overflow_add-x-then-touches c = omega (arith, c.loop-x-test.true, c.boxes-boxes.ensures, boxes-few c.args.grid c.requires)
-
-pub loop-x-smaller-then-touches : goal.loop-x-smaller-then-touches
-loop-x-smaller-then-touches c = omega (arith, c.loop-x-test.true)
-
-pub loop-x-preserved-then-touches : goal.loop-x-preserved-then-touches
-loop-x-preserved-then-touches c =
-    let g = c.args.grid in
-    let h : c.loop-x.x < boxes_of g = omega (arith, c.loop-x-test.true, c.boxes-boxes.ensures) in
-    (omega (arith, c.loop-x-test.true), settled-box g c.requires c.args.a c.args.b c.loop-x.x h _ c.visits_each-each.ensures _ c.settled_to-known.ensures)
-
-pub overflow_add-x-in-loop-x : goal.overflow_add-x-in-loop-x
-overflow_add-x-in-loop-x c = omega (arith, c.loop-x-test.true, c.boxes-boxes.ensures, boxes-few c.args.grid c.requires)
-
-pub loop-x-smaller : goal.loop-x-smaller
-loop-x-smaller c = omega (arith, c.loop-x-test.true)
+    settling g c.requires c.args.a c.args.b c.loop-x.x h _ c.visits_each-each.ensures _ c.loop-x.invariant
 
 pub loop-x-preserved : goal.loop-x-preserved
 loop-x-preserved c =
     let g = c.args.grid in
     let h : c.loop-x.x < boxes_of g = omega (arith, c.loop-x-test.true, c.boxes-boxes.ensures) in
-    (omega (arith, c.loop-x-test.true), skipped-box g c.requires c.args.a c.args.b c.loop-x.x h _ c.touches.ensures c.if-touches.false _ c.loop-x.invariant.1)
+    settled-box g c.requires c.args.a c.args.b c.loop-x.x h _ c.visits_each-each.ensures _ c.settled_to-known.ensures
+
+pub loop-x-preserved-then-not-touches : goal.loop-x-preserved-then-not-touches
+loop-x-preserved-then-not-touches c =
+    let g = c.args.grid in
+    let h : c.loop-x.x < boxes_of g = omega (arith, c.loop-x-test.true, c.boxes-boxes.ensures) in
+    skipped-box g c.requires c.args.a c.args.b c.loop-x.x h _ c.touches.ensures c.if-not-touches.true _ c.loop-x.invariant
 
 pub returns : goal.returns
-returns c = let e : c.loop-x.x ≡ c.boxes-boxes.result = omega arith in settled-done c.args.grid c.requires c.args.a c.args.b c.loop-x.x _ e c.boxes-boxes.ensures _ c.loop-x.invariant.1
+returns c = let e : c.loop-x.x ≡ c.boxes-boxes.result = omega arith in settled-done c.args.grid c.requires c.args.a c.args.b c.loop-x.x _ e c.boxes-boxes.ensures _ c.loop-x.invariant

@@ -1,5 +1,4 @@
 -- `grid_lengths::spacings` meets its contract. Assumes nothing.
-use Prim.Native.Nat.{◌-◌}
 use Rattle.grid_lengths.proofs.Measuring.{spacing-is}
 use Rattle.grid_lengths.proofs.spacings.Goals as goal
 

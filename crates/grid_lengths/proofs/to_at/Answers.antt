@@ -1,5 +1,4 @@
 -- `grid_lengths::to_at` meets its contract. Assumes nothing.
-use Prim.Native.Nat.{◌-◌}
 use native.Mathlib.Omega.{arith}
 use Rattle.grid_lengths.proofs.Measuring.{dims, place-few, each-pos, second-low, corner-few, to_is}
 use Rattle.grid_lengths.proofs.to_at.Goals as goal

@@ -1,5 +1,4 @@
 -- `grid_lengths::told` meets its contract. Assumes nothing.
-use Prim.Native.Nat.{◌-◌}
 use Rattle.grid_lengths.proofs.Notes.{told-some}
 use Rattle.grid_lengths.proofs.told.Goals as goal
 

@@ -1,5 +1,5 @@
 -- `grid_lengths::value` meets its contract. Assumes nothing.
-use Prim.Native.Nat.{◌-◌, ◌%◌, ◌<◌}
+use Prim.Native.Nat.{◌%◌, ◌<◌}
 use native.Mathlib.Omega.{arith}
 use borrow.Author.Rules.{rules}
 use lib.ListN.{length}

@@ -1,5 +1,4 @@
 -- `grid_lengths::visited` meets its contract. Assumes nothing.
-use Prim.Native.Nat.{◌-◌}
 use Rattle.grid_lengths.proofs.Values.{visited-yes, visited-no}
 use Rattle.grid_lengths.proofs.visited.Goals as goal
 

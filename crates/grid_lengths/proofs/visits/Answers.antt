@@ -1,6 +1,6 @@
 -- `grid_lengths::visits` meets its contract. Assumes nothing.
 use mathlib.Core.Path.{◌≡◌}
-use Prim.Native.Nat.{◌*◌, ◌-◌}
+use Prim.Native.Nat.{◌*◌}
 use native.Mathlib.Omega.{arith}
 use Rattle.grid_lengths.proofs.Measuring.{dims, visits-few}
 use Rattle.grid_lengths.specs.Edges.{visits_of}

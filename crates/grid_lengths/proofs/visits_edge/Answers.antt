@@ -1,5 +1,4 @@
 -- `grid_lengths::visits_edge` meets its contract. Assumes nothing.
-use Prim.Native.Nat.{◌-◌}
 use Rattle.grid_lengths.proofs.Measuring.{visits-is}
 use Rattle.quotient.proofs.Crossings.{crossing-vertex}
 use Rattle.grid_lengths.proofs.visits_edge.Goals as goal

@@ -1,11 +1,11 @@
 -- `grid_lengths::write_ends` meets its contract: the ends of the first box's visits, moved to every box (proofs/Boxed). Assumes nothing.
+use Rattle.refusal.specs.Says.{fine}
 use mathlib.Core.Path.{◌≡◌, sym, ap, ◌∙◌}
-use Prim.Native.Nat.{ℕ, ◌*◌, ◌-◌, ◌≤◌}
+use Prim.Native.Nat.{ℕ, ◌*◌, ◌≤◌}
 use native.Mathlib.Omega.{arith}
 use lib.ListN.{replicate}
 use lib.Seq.{length-take-le}
 use Rattle.quotient.specs.declared.Grid.{Grid}
-use Rattle.refusal.specs.declared.Answer.TheVariants.{Fine}
 use Rattle.quotient.specs.Shape.{check_of}
 use Rattle.grid_words.specs.Work.{moved_by}
 use Rattle.grid_words.proofs.Moved.{front-is, front_fits}
@@ -13,8 +13,8 @@ use Rattle.grid_lengths.specs.Work.{visits_each}
 use Rattle.grid_lengths.proofs.Boxed.{each-visits-few, moving-ends, ends-moved}
 use Rattle.grid_lengths.proofs.write_ends.Goals as goal
 
-ends-few : (g : Grid) → check_of g ≡ Fine → (n : ℕ) → n ≡ visits_each g → n * 2 ≤ 72
-ends-few g fine n e = omega (arith, each-visits-few g fine)
+ends-few : (g : Grid) → check_of g ≡ fine → (n : ℕ) → n ≡ visits_each g → n * 2 ≤ 72
+ends-few g taken n e = omega (arith, each-visits-few g taken)
 
 pub points-points-requires : goal.points-points-requires
 points-points-requires c = c.requires.taken

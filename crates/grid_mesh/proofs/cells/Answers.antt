@@ -1,10 +1,9 @@
 -- `grid_mesh::cells` meets its contract: the keys are the words sorted, and the distinct rows of them, in order, are the cells (proofs/Steps). Assumes nothing.
 use mathlib.Core.Path.{◌≡◌, sym, ap, ◌∙◌}
 use mathlib.Core.List.{List, ◌++◌}
-use Prim.Native.Nat.{ℕ, ◌+◌, ◌*◌, ◌-◌}
+use Prim.Native.Nat.{ℕ, ◌+◌, ◌*◌}
 use native.Mathlib.Omega.{arith}
-use lib.ListN.{length, get_or, drop}
-use lib.ListN.{length-append}
+use lib.ListN.{length, get_or, drop, length-append}
 use lib.Seq.{length-take-le}
 use Rattle.lists.proofs.Laws.{back-length}
 use Rattle.multiindex.specs.Sort.{sort_words}

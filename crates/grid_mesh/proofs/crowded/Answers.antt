@@ -1,6 +1,5 @@
 -- `grid_mesh::crowded` meets its contract: a grid that is not tangled has no facet in three cells (proofs/Seven), and elsewhere the table of mates tells. Assumes nothing.
 use mathlib.Core.Path.{sym, ◌∙◌}
-use Prim.Native.Nat.{◌-◌}
 use native.Mathlib.Omega.{arith}
 use borrow.Author.Tests.{not-true, not-false}
 use Rattle.grid_mesh.proofs.Steps.{corners-few, corners-are, finding, meeting, mates-crowded, mates-free}

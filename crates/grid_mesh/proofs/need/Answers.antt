@@ -1,6 +1,6 @@
 -- `grid_mesh::need` meets its contract. Assumes nothing.
 use mathlib.Core.Path.{ap, ◌∙◌}
-use Prim.Native.Nat.{ℕ, ◌-◌}
+use Prim.Native.Nat.{ℕ}
 use native.Mathlib.Omega.{arith}
 use Rattle.grid_mesh.proofs.Steps.{corners-few, corners-are}
 use Rattle.grid_words.proofs.Corners.{dim}

@@ -1,13 +1,9 @@
 -- `grid_mesh::tangled` meets its contract. The invariant: no axis passed reflects one that reflects another. Assumes nothing.
 use mathlib.Core.Path.{◌≡◌}
-use Prim.Native.Nat.{◌-◌, ◌^◌, ◌≤◌, ◌<◌}
 use mathlib.Core.Bool.{false}
 use Rattle.quotient.specs.Fold.{some}
 use Rattle.grid_mesh.specs.Work.{tangled_at}
 use Rattle.grid_mesh.proofs.tangled.Given as goal
 
 abbrev pub invariant-loop-a : goal.invariant-loop-a
-invariant-loop-a l = (l.a ≤ l.d) × (some (tangled_at l.grid) l.a ≡ false) × (l.d < 2 ^ 32)
-
-abbrev pub decreases-loop-a : goal.decreases-loop-a
-decreases-loop-a l = l.d - l.a
+invariant-loop-a l = some (tangled_at l.grid) l.a ≡ false

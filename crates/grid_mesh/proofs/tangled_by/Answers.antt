@@ -1,6 +1,5 @@
 -- `grid_mesh::tangled_by` meets its contract. Assumes nothing.
 use mathlib.Core.Path.{sym, ◌∙◌}
-use Prim.Native.Nat.{◌-◌}
 use Rattle.grid_mesh.proofs.Told.{by-yes, by-no}
 use Rattle.grid_mesh.proofs.tangled_by.Goals as goal
 

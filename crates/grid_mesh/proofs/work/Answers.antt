@@ -1,6 +1,5 @@
 -- `grid_mesh::work` meets its contract: each call asks what the calls before it gave (proofs/Steps). Assumes nothing.
 use mathlib.Core.Path.{sym, ◌∙◌}
-use Prim.Native.Nat.{◌-◌}
 use native.Mathlib.Omega.{arith}
 use lib.Seq.{length-take-le}
 use Rattle.grid_words.proofs.Moved.{points-corners}

@@ -1,5 +1,4 @@
 -- `grid_order::decide` meets its contract: the numbers differ, or the test of the table of mates stands. Assumes nothing.
-use Prim.Native.Nat.{◌-◌}
 use Rattle.grid_order.proofs.Steps.{decided-other, decided-tested}
 use Rattle.grid_order.proofs.decide.Goals as goal
 

@@ -1,19 +1,20 @@
 -- `grid_order::triangulate_ordered` meets its contract, by its three ways out (proofs/Entry): a refusal and too little room touch nothing; else the work's end stands, and
 -- what was lent to it came back as zeros. Assumes nothing.
+use Rattle.refusal.proofs.Chain.{passed_on}
 use mathlib.Core.Path.{sym, ◌∙◌}
 use native.Mathlib.Omega.{arith}
 use lib.Seq.{length-take-le}
 use Rattle.grid_order.proofs.Entry.{twice-fits, out-refused, out-cramped, working, out-ended}
 use Rattle.grid_order.proofs.triangulate_ordered.Goals as goal
 
-pub returns-in-Refused : goal.returns-in-Refused
-returns-in-Refused c = out-refused c.args.grid c.args.cells.now c.args.order.now c.args.keys.now c.args.rows.now c.args.spare.now c.args.counts.now _ _ (sym c.check-checked.ensures ∙ c.in-Refused.is)
+pub returns-in_err-check : goal.returns-in_err-check
+returns-in_err-check c = rw (passed_on c.from_residual.ensures.1) (out-refused c.args.grid c.args.cells.now c.args.order.now c.args.keys.now c.args.rows.now c.args.spare.now c.args.counts.now _ (sym c.check.ensures ∙ c.in_err-check.was))
 
 pub need-need-requires : goal.need-need-requires
-need-need-requires c = sym c.check-checked.ensures ∙ c.in_default.is
+need-need-requires c = sym c.check.ensures ∙ c.in_ok-check.was
 
 pub returns-then-not-has_room : goal.returns-then-not-has_room
-returns-then-not-has_room c = out-cramped c.args.grid c.args.cells.now c.args.order.now c.args.keys.now c.args.rows.now c.args.spare.now c.args.counts.now (sym c.check-checked.ensures ∙ c.in_default.is) c.need-need.result c.need-need.ensures (c.has_room.ensures.no (c.if-not-has_room.true))
+returns-then-not-has_room c = out-cramped c.args.grid c.args.cells.now c.args.order.now c.args.keys.now c.args.rows.now c.args.spare.now c.args.counts.now (sym c.check.ensures ∙ c.in_ok-check.was) c.need-need.result c.need-need.ensures (c.has_room.ensures.no (c.if-not-has_room.true))
 
 pub overflow_sub-at : goal.overflow_sub-at
 overflow_sub-at c = omega (arith, twice-fits c.args.grid c.need-need.result c.need-need.ensures)
@@ -46,7 +47,7 @@ pub slice_bounds-cleared-end-8 : goal.slice_bounds-cleared-end-8
 slice_bounds-cleared-end-8 c = sym (length-take-le _ _ (c.has_room.ensures.yes (c.if-not-has_room.false)).in_counts)
 
 pub cleared-requires : goal.cleared-requires
-cleared-requires c = working c.args.grid c.args.cells.now c.args.order.now c.args.keys.now c.args.rows.now c.args.spare.now c.args.counts.now (sym c.check-checked.ensures ∙ c.in_default.is) c.need-need.result c.need-need.ensures (c.has_room.ensures.yes (c.if-not-has_room.false))
+cleared-requires c = working c.args.grid c.args.cells.now c.args.order.now c.args.keys.now c.args.rows.now c.args.spare.now c.args.counts.now (sym c.check.ensures ∙ c.in_ok-check.was) c.need-need.result c.need-need.ensures (c.has_room.ensures.yes (c.if-not-has_room.false))
 
 pub returns : goal.returns
-returns c = out-ended c.args.grid c.args.cells.now c.args.order.now c.args.keys.now c.args.rows.now c.args.spare.now c.args.counts.now (sym c.check-checked.ensures ∙ c.in_default.is) c.need-need.result c.need-need.ensures (c.has_room.ensures.yes (c.if-not-has_room.false)) c.cleared.result c.cleared.new.cells c.cleared.new.order _ _ _ _ c.cleared.ensures.work c.cleared.ensures.room
+returns c = out-ended c.args.grid c.args.cells.now c.args.order.now c.args.keys.now c.args.rows.now c.args.spare.now c.args.counts.now (sym c.check.ensures ∙ c.in_ok-check.was) c.need-need.result c.need-need.ensures (c.has_room.ensures.yes (c.if-not-has_room.false)) c.cleared.result c.cleared.new.cells c.cleared.new.order _ _ _ _ c.cleared.ensures.work c.cleared.ensures.room

@@ -1,5 +1,5 @@
 -- `grid_sides::nearest_whole` meets its contract.  Assumes nothing.
-use Rattle.std.proofs.Common.{true, false, T, rules}
+use Rattle.std.proofs.Common.{T, rules}
 use lib.Ieee.{binary64, fits, of_bits}
 use Rattle.grid_sides.proofs.Whole.{near-asks, near-is, near-large, near-small}
 use Rattle.grid_sides.proofs.nearest_whole.Goals as goal

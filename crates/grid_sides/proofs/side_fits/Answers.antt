@@ -1,5 +1,4 @@
 -- `grid_sides::side_fits` meets its contract.  Assumes nothing.
-use Rattle.std.proofs.Common.{true, false}
 use lib.Ieee.{of_bits}
 use Rattle.grid_sides.specs.Counts.{side_fits}
 use Rattle.grid_sides.proofs.side_fits.Goals as goal

@@ -1,6 +1,5 @@
 -- `grid_swath::swath` meets its contract. Its three ways out: a refused grid, a list that is too short, or all points reduced. Assumes nothing.
 use mathlib.Core.Path.{sym}
-use Prim.Native.Nat.{◌-◌}
 use lib.Seq.{length-take-le}
 use Rattle.grid_swath.proofs.swath.Goals as goal
 

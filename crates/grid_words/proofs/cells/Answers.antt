@@ -1,5 +1,4 @@
 -- `grid_words::cells` meets its contract: as many cells as orders of the axes, in each box. Assumes nothing.
-use Prim.Native.Nat.{◌-◌}
 use native.Mathlib.Omega.{arith}
 use Rattle.quotient.proofs.Taken.{taken-cells}
 use Rattle.grid_words.proofs.Corners.{dim, cells-product}

@@ -1,5 +1,4 @@
 -- `grid_words::points` meets its contract. Assumes nothing.
-use Prim.Native.Nat.{◌-◌}
 use native.Mathlib.Nat.{le_refl}
 use Rattle.grid_words.proofs.points.Goals as goal
 

@@ -1,9 +1,7 @@
 -- `grid_words::reaches` meets its contract. The invariant: the first i corners are written. Assumes nothing.
 use mathlib.Core.Path.{refl, sym, ap, ◌∙◌}
-use Prim.Native.Nat.{ℕ, suc, ◌+◌, ◌-◌, ◌/◌, ◌%◌, ◌<◌}
+use Prim.Native.Nat.{ℕ, suc, ◌+◌, ◌/◌, ◌%◌, ◌<◌}
 use native.Mathlib.Omega.{arith}
-use borrow.Author.Rules.{rules}
-use lib.ListN.{length-set}
 use native.Mathlib.Nat.{mod-lt, le_refl}
 use native.Mathlib.Numerals.{add-one}
 use Rattle.lists.proofs.Laws.{store, copied}
@@ -18,7 +16,7 @@ pub overflow_add-n : goal.overflow_add-n
 overflow_add-n c = omega (arith, dim c.args.grid c.requires.0)
 
 pub loop-i-init : goal.loop-i-init
-loop-i-init c = (search rules, refl, refl)
+loop-i-init c = refl
 
 pub corner-requires : goal.corner-requires
 corner-requires c = (c.requires.0, let h : c.loop-i.i % (c.args.grid.d + 1) < c.args.grid.d + 1 = mod-lt c.loop-i.i (omega arith) in omega arith)
@@ -29,10 +27,10 @@ overflow_cast-reach c = let g = c.args.grid in let i = c.loop-i.i in let h : i %
 pub loop-i-preserved : goal.loop-i-preserved
 loop-i-preserved c = let g = c.args.grid in
     let i = c.loop-i.i in
-    let h : i < reach_long g = omega (arith, c.requires.1, c.loop-i-test.true, c.loop-i.invariant.2) in
+    let h : i < reach_long g = omega (arith, c.requires.1, c.loop-i-test.true, c.loop-i.auto.reach) in
     let e = c.corner.ensures ∙ ap (λ (n : ℕ). corner_of g (i / n) (i % n)) (add-one g.d) ∙ sym (get_or-tab (reach_long g) (λ i. corner_of g (i / suc g.d) (i % suc g.d)) i 0 h) in
-    (search rules, rw (c.loop-i.invariant.1, e) (store (reach_of g) c.args.reach.now i (omega (arith, reach-length g c.requires.0)) (omega (arith, c.requires.1))), simp length-set c.loop-i.invariant.2)
+    rw (c.loop-i.invariant, e) (store (reach_of g) c.args.reach.now i (omega (arith, reach-length g c.requires.0)) (omega (arith, c.requires.1)))
 
 pub returns : goal.returns
 returns c = let g = c.args.grid in
-    c.loop-i.invariant.1 ∙ copied (reach_of g) c.args.reach.now c.loop-i.i (omega (arith, reach-length g c.requires.0, c.requires.1, c.loop-i.invariant.2, c.loop-i-test.false)) (omega (arith, c.loop-i.invariant.2, c.loop-i-test.false))
+    c.loop-i.invariant ∙ copied (reach_of g) c.args.reach.now c.loop-i.i (omega (arith, reach-length g c.requires.0, c.requires.1, c.loop-i.auto.reach, c.loop-i-test.false)) (omega (arith, c.loop-i.auto.reach, c.loop-i-test.false))

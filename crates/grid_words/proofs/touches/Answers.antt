@@ -1,19 +1,17 @@
 -- `grid_words::touches` meets its contract. The invariant: none of the first m corners is the vertex. Assumes nothing.
 use mathlib.Core.Path.{◌≡◌, refl, sym}
-use Prim.Native.Nat.{◌-◌}
 use native.Mathlib.Omega.{arith}
-use mathlib.Core.Bool.{false}
 use native.Mathlib.Nat.{le_refl}
 use Rattle.quotient.specs.Fold.{some}
 use Rattle.quotient.proofs.Laws.{some-true, some-none}
 use Rattle.quotient.proofs.Crossings.{crossing-vertex}
 use Rattle.grid_words.proofs.Corners.{points-few}
-use Rattle.grid_words.proofs.Touched.{two-few, box-corner-lt, corner-is, corner-not}
+use Rattle.grid_words.proofs.Touched.{box-corner-lt, corner-is, corner-not}
 use Rattle.grid_words.proofs.touches.Goals as goal
 
 pub loop-m-init : goal.loop-m-init
 unfolding some
-loop-m-init c = (omega arith, refl)
+loop-m-init c = refl
 
 pub offset-requires : goal.offset-requires
 offset-requires c = c.requires
@@ -32,16 +30,10 @@ returns-then-p-v c =
     let g = c.args.grid in
     sym (some-true _ _ c.loop-m.m (omega (arith, c.loop-m-test.true, c.box_corners-n.ensures)) (corner-is g c.args.b c.args.v.0 c.loop-m.m _ _ _ c.origin-from.ensures c.offset.ensures (crossing-vertex _ _ _ c.crossed-c.ensures) c.if-p-v.true))
 
-pub overflow_add-m : goal.overflow_add-m
-overflow_add-m c = let g = c.args.grid in omega (arith, c.loop-m-test.true, c.box_corners-n.ensures, two-few g c.requires g.d (le_refl g.d))
-
-pub loop-m-smaller : goal.loop-m-smaller
-loop-m-smaller c = omega (arith, c.loop-m-test.true)
-
 pub loop-m-preserved : goal.loop-m-preserved
 loop-m-preserved c =
     let g = c.args.grid in
-    (omega (arith, c.loop-m-test.true), some-none _ _ c.loop-m.invariant.1 (corner-not g c.args.b c.args.v.0 c.loop-m.m _ _ _ c.origin-from.ensures c.offset.ensures (crossing-vertex _ _ _ c.crossed-c.ensures) c.if-p-v.false))
+    some-none _ _ c.loop-m.invariant (corner-not g c.args.b c.args.v.0 c.loop-m.m _ _ _ c.origin-from.ensures c.offset.ensures (crossing-vertex _ _ _ c.crossed-c.ensures) c.if-p-v.false)
 
 pub returns : goal.returns
-returns c = let e : c.loop-m.m ≡ c.box_corners-n.result = omega arith in sym (rw (e, c.box_corners-n.ensures) at c.loop-m.invariant.1)
+returns c = let e : c.loop-m.m ≡ c.box_corners-n.result = omega arith in sym (rw (e, c.box_corners-n.ensures) at c.loop-m.invariant)

@@ -1,6 +1,6 @@
 -- `grid_words::touches` meets its contract. The invariant: none of the first m corners is the vertex. Assumes nothing.
 use mathlib.Core.Path.{◌≡◌}
-use Prim.Native.Nat.{◌+◌, ◌-◌, ◌≤◌}
+use Prim.Native.Nat.{◌+◌}
 use mathlib.Core.Bool.{false}
 use lib.Dec.{eqb}
 use Rattle.quotient.specs.Fold.{some}
@@ -11,7 +11,4 @@ use Rattle.grid_words.specs.Work.{offset_of}
 use Rattle.grid_words.proofs.touches.Given as goal
 
 abbrev pub invariant-loop-m : goal.invariant-loop-m
-invariant-loop-m l = (l.m ≤ l.n) × (some (λ y. eqb (vertex_of l.grid (point_of l.grid (box_at l.grid l.b) + offset_of l.grid y)) l.v.0) l.m ≡ false)
-
-abbrev pub decreases-loop-m : goal.decreases-loop-m
-decreases-loop-m l = l.n - l.m
+invariant-loop-m l = some (λ y. eqb (vertex_of l.grid (point_of l.grid (box_at l.grid l.b) + offset_of l.grid y)) l.v.0) l.m ≡ false

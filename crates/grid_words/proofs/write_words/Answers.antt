@@ -1,12 +1,12 @@
 -- `grid_words::write_words` meets its contract: the words are the corners of the first box, moved to every box (proofs/Moved). Assumes nothing.
+use Rattle.refusal.specs.Says.{fine}
 use mathlib.Core.Path.{◌≡◌, sym, ap, ◌∙◌}
-use Prim.Native.Nat.{ℕ, ◌+◌, ◌*◌, ◌-◌, ◌≤◌}
+use Prim.Native.Nat.{ℕ, ◌+◌, ◌*◌, ◌≤◌}
 use native.Mathlib.Omega.{arith}
 use lib.ListN.{replicate}
 use native.Mathlib.Numerals.{add-one}
 use lib.Seq.{length-take-le}
 use Rattle.quotient.specs.declared.Grid.{Grid}
-use Rattle.refusal.specs.declared.Answer.TheVariants.{Fine}
 use Rattle.quotient.specs.Shape.{check_of}
 use Rattle.grid_words.specs.WorkNumbered.{each_box}
 use Rattle.grid_words.specs.Work.{reach_long, moved_by}
@@ -18,8 +18,8 @@ use Rattle.grid_words.proofs.write_words.Goals as goal
 reach-product : (g : Grid) (n : ℕ) → n ≡ each_box g → n * (g.d + 1) ≡ reach_long g
 reach-product g n e = ap (λ (m : ℕ). m * (g.d + 1)) e ∙ ap (λ (m : ℕ). each_box g * m) (add-one g.d)
 
-product-few : (g : Grid) → check_of g ≡ Fine → (n : ℕ) → n ≡ each_box g → n * (g.d + 1) ≤ 24
-product-few g fine n e = omega (arith, reach-product g n e, reach_few g fine)
+product-few : (g : Grid) → check_of g ≡ fine → (n : ℕ) → n ≡ each_box g → n * (g.d + 1) ≤ 24
+product-few g taken n e = omega (arith, reach-product g n e, reach_few g taken)
 
 pub points-points-requires : goal.points-points-requires
 points-points-requires c = c.requires.taken

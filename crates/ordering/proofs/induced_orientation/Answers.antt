@@ -1,5 +1,6 @@
 -- `ordering::induced_orientation` meets its contract, by its three ways out (proofs/InducedEntry): a refusal and too little room touch nothing; else the work's end stands, and what
 -- was lent to it came back as zeros. Assumes nothing.
+use Rattle.refusal.proofs.Chain.{passed_on}
 use mathlib.Core.Path.{sym, ap, ◌∙◌}
 use lib.Seq.{length-take-le}
 use Rattle.refusal.specs.declared.Room.{Room}
@@ -9,17 +10,17 @@ use Rattle.ordering.proofs.Entry.{preparing}
 use Rattle.ordering.proofs.InducedEntry.{wound-out-refused, wound-out-cramped, wound-out-ended}
 use Rattle.ordering.proofs.induced_orientation.Goals as goal
 
-pub returns-in-Refused : goal.returns-in-Refused
-returns-in-Refused c = wound-out-refused c.args.d c.args.words.now c.args.order.now c.args.keys.now c.args.rows.now c.args.spare.now c.args.counts.now _ _ (sym c.check_cells-checked.ensures ∙ c.in-Refused.is)
+pub returns-in_err-check_cells : goal.returns-in_err-check_cells
+returns-in_err-check_cells c = rw (passed_on c.from_residual.ensures.1) (wound-out-refused c.args.d c.args.words.now c.args.order.now c.args.keys.now c.args.rows.now c.args.spare.now c.args.counts.now _ (sym c.check_cells.ensures ∙ c.in_err-check_cells.was))
 
 pub need-base-requires : goal.need-base-requires
-need-base-requires c = let p = fine-passed c.args.d c.args.words.now (sym c.check_cells-checked.ensures ∙ c.in_default.is) in few-corners c.args.d c.args.words.now p
+need-base-requires c = let p = fine-passed c.args.d c.args.words.now (sym c.check_cells.ensures ∙ c.in_ok-check_cells.was) in few-corners c.args.d c.args.words.now p
 
 pub need-need-requires : goal.need-need-requires
-need-need-requires c = let p = fine-passed c.args.d c.args.words.now (sym c.check_cells-checked.ensures ∙ c.in_default.is) in few-corners c.args.d c.args.words.now p
+need-need-requires c = let p = fine-passed c.args.d c.args.words.now (sym c.check_cells.ensures ∙ c.in_ok-check_cells.was) in few-corners c.args.d c.args.words.now p
 
 pub returns-then-not-has_room : goal.returns-then-not-has_room
-returns-then-not-has_room c = wound-out-cramped c.args.d c.args.words.now c.args.order.now c.args.keys.now c.args.rows.now c.args.spare.now c.args.counts.now (sym c.check_cells-checked.ensures ∙ c.in_default.is) c.need-need.result c.need-need.ensures (c.has_room.ensures.no (c.if-not-has_room.true))
+returns-then-not-has_room c = wound-out-cramped c.args.d c.args.words.now c.args.order.now c.args.keys.now c.args.rows.now c.args.spare.now c.args.counts.now (sym c.check_cells.ensures ∙ c.in_ok-check_cells.was) c.need-need.result c.need-need.ensures (c.has_room.ensures.no (c.if-not-has_room.true))
 
 pub slice_bounds-wound_cleared-end : goal.slice_bounds-wound_cleared-end
 slice_bounds-wound_cleared-end c = (c.has_room.ensures.yes (c.if-not-has_room.false)).in_keys
@@ -46,7 +47,7 @@ pub slice_bounds-wound_cleared-end-8 : goal.slice_bounds-wound_cleared-end-8
 slice_bounds-wound_cleared-end-8 c = sym (length-take-le _ _ (c.has_room.ensures.yes (c.if-not-has_room.false)).in_counts)
 
 pub wound_cleared-requires : goal.wound_cleared-requires
-wound_cleared-requires c = preparing c.args.d c.args.words.now c.args.keys.now c.args.rows.now c.args.spare.now c.args.counts.now (sym c.check_cells-checked.ensures ∙ c.in_default.is) c.need-need.result c.need-need.ensures (c.has_room.ensures.yes (c.if-not-has_room.false)) _ (ap (λ (r : Room). r.keys) c.need-base.ensures)
+wound_cleared-requires c = preparing c.args.d c.args.words.now c.args.keys.now c.args.rows.now c.args.spare.now c.args.counts.now (sym c.check_cells.ensures ∙ c.in_ok-check_cells.was) c.need-need.result c.need-need.ensures (c.has_room.ensures.yes (c.if-not-has_room.false)) _ (ap (λ (r : Room). r.keys) c.need-base.ensures)
 
 pub returns : goal.returns
-returns c = wound-out-ended c.args.d c.args.words.now c.args.order.now c.args.keys.now c.args.rows.now c.args.spare.now c.args.counts.now (sym c.check_cells-checked.ensures ∙ c.in_default.is) c.need-need.result c.need-need.ensures (c.has_room.ensures.yes (c.if-not-has_room.false)) c.wound_cleared.result _ _ _ _ c.wound_cleared.ensures.work c.wound_cleared.ensures.room
+returns c = wound-out-ended c.args.d c.args.words.now c.args.order.now c.args.keys.now c.args.rows.now c.args.spare.now c.args.counts.now (sym c.check_cells.ensures ∙ c.in_ok-check_cells.was) c.need-need.result c.need-need.ensures (c.has_room.ensures.yes (c.if-not-has_room.false)) c.wound_cleared.result _ _ _ _ c.wound_cleared.ensures.work c.wound_cleared.ensures.room

@@ -1,6 +1,5 @@
 -- `ordering::need` meets its contract. Assumes nothing.
 use mathlib.Core.Path.{ap}
-use Prim.Native.Nat.{◌-◌}
 use native.Mathlib.Omega.{arith}
 use Rattle.refusal.specs.declared.Room.{Room}
 use Rattle.ordering.proofs.need.Goals as goal

@@ -1,6 +1,5 @@
 -- `ordering::prepare` meets its contract: each call asks what the calls before it gave (proofs/Steps). Assumes nothing.
 use mathlib.Core.Path.{sym}
-use Prim.Native.Nat.{◌-◌}
 use native.Mathlib.Omega.{arith}
 use lib.Seq.{length-take-le}
 use Rattle.orientation.proofs.Steps.{cells_fit}

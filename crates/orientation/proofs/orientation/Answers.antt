@@ -1,5 +1,6 @@
 -- `orientation::orientation` meets its contract, by its three ways out (proofs/Entry): a refusal and too little room touch nothing; else the work's end stands, and what
 -- was lent to it came back as zeros. Assumes nothing.
+use Rattle.refusal.proofs.Chain.{passed_on}
 use mathlib.Core.Path.{sym, ◌∙◌}
 use lib.Seq.{length-take-le}
 use Rattle.complex.proofs.Fine.{fine-passed}
@@ -7,13 +8,12 @@ use Rattle.complex_cells.proofs.Making.{few-corners}
 use Rattle.orientation.proofs.Entry.{out-refused, out-cramped, working, out-ended}
 use Rattle.orientation.proofs.orientation.Goals as goal
 
-pub returns-in-Refused : goal.returns-in-Refused
-returns-in-Refused c =
-    out-refused c.args.d c.args.words.now c.args.signs.now c.args.keys.now c.args.rows.now c.args.spare.now c.args.counts.now _ _ (sym c.check_cells-checked.ensures ∙ c.in-Refused.is)
+pub returns-in_err-check_cells : goal.returns-in_err-check_cells
+returns-in_err-check_cells c = rw (passed_on c.from_residual.ensures.1) (out-refused c.args.d c.args.words.now c.args.signs.now c.args.keys.now c.args.rows.now c.args.spare.now c.args.counts.now _ (sym c.check_cells.ensures ∙ c.in_err-check_cells.was))
 
 pub need-need-requires : goal.need-need-requires
 need-need-requires c =
-    let p = fine-passed c.args.d c.args.words.now (sym c.check_cells-checked.ensures ∙ c.in_default.is) in
+    let p = fine-passed c.args.d c.args.words.now (sym c.check_cells.ensures ∙ c.in_ok-check_cells.was) in
     few-corners c.args.d c.args.words.now p
 
 pub slice_bounds-cleared-end : goal.slice_bounds-cleared-end
@@ -50,15 +50,15 @@ slice_bounds-cleared-end-8 c =
 
 pub returns-then-not-has_room : goal.returns-then-not-has_room
 returns-then-not-has_room c =
-    out-cramped c.args.d c.args.words.now c.args.signs.now c.args.keys.now c.args.rows.now c.args.spare.now c.args.counts.now (sym c.check_cells-checked.ensures ∙ c.in_default.is) c.need-need.result c.need-need.ensures (c.has_room.ensures.no (c.if-not-has_room.true))
+    out-cramped c.args.d c.args.words.now c.args.signs.now c.args.keys.now c.args.rows.now c.args.spare.now c.args.counts.now (sym c.check_cells.ensures ∙ c.in_ok-check_cells.was) c.need-need.result c.need-need.ensures (c.has_room.ensures.no (c.if-not-has_room.true))
 
 pub cleared-requires : goal.cleared-requires
 cleared-requires c =
     let h = c.has_room.ensures.yes (c.if-not-has_room.false) in
-    working c.args.d c.args.words.now c.args.signs.now c.args.keys.now c.args.rows.now c.args.spare.now c.args.counts.now (sym c.check_cells-checked.ensures ∙ c.in_default.is) c.need-need.result c.need-need.ensures h
+    working c.args.d c.args.words.now c.args.signs.now c.args.keys.now c.args.rows.now c.args.spare.now c.args.counts.now (sym c.check_cells.ensures ∙ c.in_ok-check_cells.was) c.need-need.result c.need-need.ensures h
 
 pub returns : goal.returns
 returns c =
     let h = c.has_room.ensures.yes (c.if-not-has_room.false) in
-    out-ended c.args.d c.args.words.now c.args.signs.now c.args.keys.now c.args.rows.now c.args.spare.now c.args.counts.now (sym c.check_cells-checked.ensures ∙ c.in_default.is) c.need-need.result c.need-need.ensures h
+    out-ended c.args.d c.args.words.now c.args.signs.now c.args.keys.now c.args.rows.now c.args.spare.now c.args.counts.now (sym c.check_cells.ensures ∙ c.in_ok-check_cells.was) c.need-need.result c.need-need.ensures h
     c.cleared.result c.cleared.new.signs _ _ _ _ c.cleared.ensures.work c.cleared.ensures.room

@@ -3,7 +3,6 @@ use borrow.Author.Tests.{not-true, not-false}
 use lib.Seq.{length-take-le}
 use Rattle.orientation.proofs.Steps.{cells_fit, making, keeping, worked-crowded, searching, worked-one-sided, worked-short, marks_long, worked-signed}
 use mathlib.Core.Path.{sym, ◌∙◌}
-use Prim.Native.Nat.{◌-◌}
 use native.Mathlib.Omega.{arith}
 use Rattle.orientation.proofs.work.Goals as goal
 

@@ -1,5 +1,4 @@
 -- `orientation_by::mark_of` meets its contract, one number after the other. Assumes nothing.
-use Prim.Native.Nat.{◌-◌}
 use Rattle.orientation_by.proofs.Marks.{plus-mark, minus-mark, other-mark}
 use Rattle.orientation_by.proofs.mark_of.Goals as goal
 

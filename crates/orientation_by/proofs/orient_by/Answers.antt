@@ -1,5 +1,6 @@
 -- `orientation_by::orient_by` meets its contract, by its three ways out (proofs/Entry): a refusal and too little room touch nothing; else the work's end stands, and what
 -- was lent to it came back as zeros. Assumes nothing.
+use Rattle.refusal.proofs.Chain.{passed_on}
 use mathlib.Core.Path.{sym, ◌∙◌}
 use lib.Seq.{length-take-le}
 use Rattle.complex.proofs.Fine.{fine-passed}
@@ -8,16 +9,16 @@ use Rattle.orientation.proofs.Entry.{working}
 use Rattle.orientation_by.proofs.Entry.{out-refused, out-cramped, out-ended}
 use Rattle.orientation_by.proofs.orient_by.Goals as goal
 
-pub returns-in-Refused : goal.returns-in-Refused
-returns-in-Refused c = out-refused c.args.d c.args.words.now c.args.signs.now c.args.keys.now c.args.rows.now c.args.spare.now c.args.counts.now _ _ (sym c.check_cells-checked.ensures ∙ c.in-Refused.is)
+pub returns-in_err-check_cells : goal.returns-in_err-check_cells
+returns-in_err-check_cells c = rw (passed_on c.from_residual.ensures.1) (out-refused c.args.d c.args.words.now c.args.signs.now c.args.keys.now c.args.rows.now c.args.spare.now c.args.counts.now _ (sym c.check_cells.ensures ∙ c.in_err-check_cells.was))
 
 pub need-need-requires : goal.need-need-requires
 need-need-requires c =
-    let p = fine-passed c.args.d c.args.words.now (sym c.check_cells-checked.ensures ∙ c.in_default.is) in
+    let p = fine-passed c.args.d c.args.words.now (sym c.check_cells.ensures ∙ c.in_ok-check_cells.was) in
     few-corners c.args.d c.args.words.now p
 
 pub returns-then-not-has_room : goal.returns-then-not-has_room
-returns-then-not-has_room c = out-cramped c.args.d c.args.words.now c.args.signs.now c.args.keys.now c.args.rows.now c.args.spare.now c.args.counts.now (sym c.check_cells-checked.ensures ∙ c.in_default.is) c.need-need.result c.need-need.ensures (c.has_room.ensures.no (c.if-not-has_room.true))
+returns-then-not-has_room c = out-cramped c.args.d c.args.words.now c.args.signs.now c.args.keys.now c.args.rows.now c.args.spare.now c.args.counts.now (sym c.check_cells.ensures ∙ c.in_ok-check_cells.was) c.need-need.result c.need-need.ensures (c.has_room.ensures.no (c.if-not-has_room.true))
 
 pub slice_bounds-cleared-end : goal.slice_bounds-cleared-end
 slice_bounds-cleared-end c = (c.has_room.ensures.yes (c.if-not-has_room.false)).in_keys
@@ -44,8 +45,8 @@ pub slice_bounds-cleared-end-8 : goal.slice_bounds-cleared-end-8
 slice_bounds-cleared-end-8 c = sym (length-take-le _ _ (c.has_room.ensures.yes (c.if-not-has_room.false)).in_counts)
 
 pub cleared-requires : goal.cleared-requires
-cleared-requires c = working c.args.d c.args.words.now c.args.signs.now c.args.keys.now c.args.rows.now c.args.spare.now c.args.counts.now (sym c.check_cells-checked.ensures ∙ c.in_default.is) c.need-need.result c.need-need.ensures (c.has_room.ensures.yes (c.if-not-has_room.false))
+cleared-requires c = working c.args.d c.args.words.now c.args.signs.now c.args.keys.now c.args.rows.now c.args.spare.now c.args.counts.now (sym c.check_cells.ensures ∙ c.in_ok-check_cells.was) c.need-need.result c.need-need.ensures (c.has_room.ensures.yes (c.if-not-has_room.false))
 
 pub returns : goal.returns
-returns c = out-ended c.args.d c.args.words.now c.args.signs.now c.args.keys.now c.args.rows.now c.args.spare.now c.args.counts.now (sym c.check_cells-checked.ensures ∙ c.in_default.is) c.need-need.result c.need-need.ensures (c.has_room.ensures.yes (c.if-not-has_room.false))
+returns c = out-ended c.args.d c.args.words.now c.args.signs.now c.args.keys.now c.args.rows.now c.args.spare.now c.args.counts.now (sym c.check_cells.ensures ∙ c.in_ok-check_cells.was) c.need-need.result c.need-need.ensures (c.has_room.ensures.yes (c.if-not-has_room.false))
     c.cleared.result _ _ _ _ c.cleared.ensures.work c.cleared.ensures.room

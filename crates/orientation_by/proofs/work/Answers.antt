@@ -1,9 +1,8 @@
 -- `orientation_by::work` meets its contract: each call asks what the calls before it gave (proofs/Steps). Assumes nothing.
 use mathlib.Core.Path.{◌∙◌}
-use Prim.Native.Nat.{◌-◌}
 use native.Mathlib.Omega.{arith}
 use Rattle.orientation.proofs.Steps.{making, keeping}
-use Rattle.orientation_by.proofs.Steps.{ended-crowded, marks-fit, ended-unfit, weighing, ended-yes, ended-no}
+use Rattle.orientation_by.proofs.Steps.{ended-crowded, marks-fit, ended-unfit, weighing, ended-tested}
 use Rattle.orientation_by.proofs.work.Goals as goal
 
 pub cells-m-requires : goal.cells-m-requires
@@ -35,14 +34,8 @@ coherent_over-requires c = weighing c.args.d c.args.words.now c.args.keys.now c.
     c.cells-m.result c.cells-m.new.keys c.cells-m.new.rows c.cells-m.new.spare c.cells-m.new.counts c.cells-m.auto.keys c.cells-m.auto.rows c.cells-m.auto.spare c.cells-m.auto.counts c.cells-m.ensures c.args.signs.now
     c.links.new.keys c.links.new.rows c.links.new.spare c.take_over.new.marks c.links.auto.keys c.links.auto.rows c.links.auto.spare (c.take_over.auto.marks ∙ c.links.auto.counts) (c.links.ensures.all (c.if-not-links.false)) (c.take_over.ensures.fit (c.if-not-take_over.false))
 
-pub returns-then-not-coherent_over : goal.returns-then-not-coherent_over
-returns-then-not-coherent_over c = ended-no c.args.d c.args.words.now c.args.keys.now c.args.rows.now c.args.spare.now c.args.counts.now c.requires
-    c.cells-m.result c.cells-m.new.keys c.cells-m.new.rows c.cells-m.new.spare c.cells-m.new.counts c.cells-m.auto.keys c.cells-m.auto.rows c.cells-m.auto.spare c.cells-m.auto.counts c.cells-m.ensures c.args.signs.now
-    c.links.new.keys c.links.new.rows c.links.new.spare c.take_over.new.marks c.links.auto.keys c.links.auto.rows c.links.auto.spare (c.take_over.auto.marks ∙ c.links.auto.counts) (c.links.ensures.all (c.if-not-links.false)) (c.take_over.ensures.fit (c.if-not-take_over.false))
-    c.coherent_over.result c.coherent_over.ensures (c.if-not-coherent_over.true)
-
 pub returns : goal.returns
-returns c = ended-yes c.args.d c.args.words.now c.args.keys.now c.args.rows.now c.args.spare.now c.args.counts.now c.requires
+returns c = ended-tested c.args.d c.args.words.now c.args.keys.now c.args.rows.now c.args.spare.now c.args.counts.now c.requires
     c.cells-m.result c.cells-m.new.keys c.cells-m.new.rows c.cells-m.new.spare c.cells-m.new.counts c.cells-m.auto.keys c.cells-m.auto.rows c.cells-m.auto.spare c.cells-m.auto.counts c.cells-m.ensures c.args.signs.now
     c.links.new.keys c.links.new.rows c.links.new.spare c.take_over.new.marks c.links.auto.keys c.links.auto.rows c.links.auto.spare (c.take_over.auto.marks ∙ c.links.auto.counts) (c.links.ensures.all (c.if-not-links.false)) (c.take_over.ensures.fit (c.if-not-take_over.false))
-    c.coherent_over.result c.coherent_over.ensures (c.if-not-coherent_over.false)
+    c.coherent_over.result c.coherent_over.ensures

@@ -1,7 +1,6 @@
 -- `orientation_signs::coherent` meets its contract: the walk's links are the cells' mates, and its looks are those of the defined walk (proofs/Finding). Assumes nothing.
 use Rattle.orientation_signs.proofs.Linking.{searching-few, searching-links}
 use Rattle.orientation_signs.proofs.Finding.{searching-found}
-use Prim.Native.Nat.{◌-◌}
 use native.Mathlib.Omega.{arith}
 use Rattle.orientation_signs.proofs.coherent.Goals as goal
 

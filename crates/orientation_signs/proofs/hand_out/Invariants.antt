@@ -2,12 +2,8 @@
 use Rattle.orientation_signs.specs.WorkFound.{handed_out}
 use mathlib.Core.Path.{◌≡◌}
 use mathlib.Core.List.{◌++◌}
-use Prim.Native.Nat.{◌+◌, ◌-◌, ◌≤◌}
-use lib.ListN.{length, take, drop}
+use lib.ListN.{take, drop}
 use Rattle.orientation_signs.proofs.hand_out.Given as goal
 
 abbrev pub invariant-loop-c : goal.invariant-loop-c
-invariant-loop-c l = (l.c ≤ length l.initial.signs) × (l.signs ≡ handed_out (take l.c l.marks) ++ drop l.c l.initial.signs) × (length l.signs ≡ length l.initial.signs)
-
-abbrev pub decreases-loop-c : goal.decreases-loop-c
-decreases-loop-c l = length l.initial.signs - l.c
+invariant-loop-c l = l.signs ≡ handed_out (take l.c l.marks) ++ drop l.c l.initial.signs

@@ -2,7 +2,7 @@
 use Rattle.orientation_signs.specs.WorkFound.{mark_number}
 use lib.IntN.{negsuc}
 use mathlib.Core.Path.{◌≡◌, refl}
-use Prim.Native.Nat.{ℕ, zero, suc, ◌-◌}
+use Prim.Native.Nat.{ℕ, zero, suc}
 use Rattle.orientation_signs.proofs.sign_of.Goals as goal
 
 pub returns-then-mark-eq1 : goal.returns-then-mark-eq1

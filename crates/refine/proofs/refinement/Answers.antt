@@ -1,5 +1,7 @@
 -- `refine::refinement` meets its contract, by its three ways out (proofs/Entry): a refusal and too little room touch nothing; else the work's end stands, and what
 -- was lent to it came back as zeros. Assumes nothing.
+use Rattle.refusal.proofs.Chain.{passed_on}
+use Rattle.refusal.specs.Says.{fine}
 use mathlib.Core.List.{List}
 use mathlib.Core.Path.{◌≡◌, sym, ◌∙◌, subst}
 use Prim.Native.Nat.{ℕ, suc, ◌/◌, ◌≤◌, ◌<◌}
@@ -8,7 +10,6 @@ use lib.ListN.{length}
 use lib.Seq.{length-take-le, length_front}
 use native.Mathlib.Omega.{arith}
 use Rattle.refusal.specs.Limits.{most_dimension, most_cells, many_corners}
-use Rattle.refusal.specs.declared.Answer.TheVariants as Answer
 use Rattle.complex.specs.Check.{answer_of}
 use Rattle.complex.proofs.Fine.{fine-passed}
 use Rattle.complex_cells.proofs.Making.{few-corners}
@@ -16,22 +17,21 @@ use Rattle.refine.specs.WorkReading.{OrderedBy, words_along}
 use Rattle.refine.proofs.Entry.{out-refused, out-cramped, working, out-ended}
 use Rattle.refine.proofs.refinement.Goals as goal
 
-asks : (d : ℕ) (ws : List ℕ) → answer_of d ws ≡ Answer.Fine → (d ≤ most_dimension) × (length ws / suc d ≤ most_cells) × (length ws < many_corners)
+asks : (d : ℕ) (ws : List ℕ) → answer_of d ws ≡ fine → (d ≤ most_dimension) × (length ws / suc d ≤ most_cells) × (length ws < many_corners)
 asks d ws e =
     let p = fine-passed d ws e in
     (p.small, subst (λ (x : ℕ). length ws / x ≤ most_cells) (add-one d) p.few, omega (arith, few-corners d ws p))
 
-pub returns-in-Refused : goal.returns-in-Refused
-returns-in-Refused c =
-    out-refused c.args.d c.args.r c.args.given.now (OrderedBy c.args.with_order c.args.d c.args.given.now c.args.order.now) (words_along c.args.with_order c.args.d c.args.given.now c.args.order.now) c.args.out_cells.now c.args.out_words.now c.args.parents.now c.args.jacobians.now c.args.wholes.now c.args.birth_vertices.now c.args.birth_weights.now c.args.birth_shares.now c.args.cells.now c.args.along.now c.args.pattern.now c.args.keys.now c.args.rows.now c.args.spare.now c.args.counts.now c.args.sorted.now c.args.firsts.now c.args.buckets.now _ _ (sym c.check_cells-checked.ensures ∙ c.in-Refused.is)
+pub returns-in_err-check_cells : goal.returns-in_err-check_cells
+returns-in_err-check_cells c = rw (passed_on c.from_residual.ensures.1) (out-refused c.args.d c.args.r c.args.given.now (OrderedBy c.args.with_order c.args.d c.args.given.now c.args.order.now) (words_along c.args.with_order c.args.d c.args.given.now c.args.order.now) c.args.out_cells.now c.args.out_words.now c.args.parents.now c.args.jacobians.now c.args.wholes.now c.args.birth_vertices.now c.args.birth_weights.now c.args.birth_shares.now c.args.cells.now c.args.along.now c.args.pattern.now c.args.keys.now c.args.rows.now c.args.spare.now c.args.counts.now c.args.sorted.now c.args.firsts.now c.args.buckets.now _ (sym c.check_cells.ensures ∙ c.in_err-check_cells.was))
 
 pub need-need-requires : goal.need-need-requires
 need-need-requires c =
-    asks c.args.d c.args.given.now (sym c.check_cells-checked.ensures ∙ c.in_default.is)
+    asks c.args.d c.args.given.now (sym c.check_cells.ensures ∙ c.in_ok-check_cells.was)
 
 pub returns-then-not-enough : goal.returns-then-not-enough
 returns-then-not-enough c =
-    out-cramped c.args.d c.args.r c.args.given.now (OrderedBy c.args.with_order c.args.d c.args.given.now c.args.order.now) (words_along c.args.with_order c.args.d c.args.given.now c.args.order.now) c.args.out_cells.now c.args.out_words.now c.args.parents.now c.args.jacobians.now c.args.wholes.now c.args.birth_vertices.now c.args.birth_weights.now c.args.birth_shares.now c.args.cells.now c.args.along.now c.args.pattern.now c.args.keys.now c.args.rows.now c.args.spare.now c.args.counts.now c.args.sorted.now c.args.firsts.now c.args.buckets.now (sym c.check_cells-checked.ensures ∙ c.in_default.is) c.need-need.result c.need-need.ensures (c.enough.ensures.no (c.if-not-enough.true))
+    out-cramped c.args.d c.args.r c.args.given.now (OrderedBy c.args.with_order c.args.d c.args.given.now c.args.order.now) (words_along c.args.with_order c.args.d c.args.given.now c.args.order.now) c.args.out_cells.now c.args.out_words.now c.args.parents.now c.args.jacobians.now c.args.wholes.now c.args.birth_vertices.now c.args.birth_weights.now c.args.birth_shares.now c.args.cells.now c.args.along.now c.args.pattern.now c.args.keys.now c.args.rows.now c.args.spare.now c.args.counts.now c.args.sorted.now c.args.firsts.now c.args.buckets.now (sym c.check_cells.ensures ∙ c.in_ok-check_cells.was) c.need-need.result c.need-need.ensures (c.enough.ensures.no (c.if-not-enough.true))
 
 pub slice_bounds-cleared-end : goal.slice_bounds-cleared-end
 slice_bounds-cleared-end c =
@@ -136,7 +136,7 @@ slice_bounds-cleared-end-20 c =
 pub cleared-requires : goal.cleared-requires
 cleared-requires c =
     let h = c.enough.ensures.yes (c.if-not-enough.false) in
-    working c.args.d c.args.r c.args.given.now (OrderedBy c.args.with_order c.args.d c.args.given.now c.args.order.now) (words_along c.args.with_order c.args.d c.args.given.now c.args.order.now) c.args.out_cells.now c.args.out_words.now c.args.parents.now c.args.jacobians.now c.args.wholes.now c.args.birth_vertices.now c.args.birth_weights.now c.args.birth_shares.now c.args.cells.now c.args.along.now c.args.pattern.now c.args.keys.now c.args.rows.now c.args.spare.now c.args.counts.now c.args.sorted.now c.args.firsts.now c.args.buckets.now (sym c.check_cells-checked.ensures ∙ c.in_default.is) c.need-need.result c.need-need.ensures h
+    working c.args.d c.args.r c.args.given.now (OrderedBy c.args.with_order c.args.d c.args.given.now c.args.order.now) (words_along c.args.with_order c.args.d c.args.given.now c.args.order.now) c.args.out_cells.now c.args.out_words.now c.args.parents.now c.args.jacobians.now c.args.wholes.now c.args.birth_vertices.now c.args.birth_weights.now c.args.birth_shares.now c.args.cells.now c.args.along.now c.args.pattern.now c.args.keys.now c.args.rows.now c.args.spare.now c.args.counts.now c.args.sorted.now c.args.firsts.now c.args.buckets.now (sym c.check_cells.ensures ∙ c.in_ok-check_cells.was) c.need-need.result c.need-need.ensures h
 
 pub shape_of-out_cells : goal.shape_of-out_cells
 shape_of-out_cells c = c.cleared.auto.out_cells
@@ -205,4 +205,4 @@ shape_of-buckets c =
 pub returns : goal.returns
 returns c =
     let h = c.enough.ensures.yes (c.if-not-enough.false) in
-    out-ended c.args.d c.args.r c.args.given.now (OrderedBy c.args.with_order c.args.d c.args.given.now c.args.order.now) (words_along c.args.with_order c.args.d c.args.given.now c.args.order.now) c.args.out_cells.now c.args.out_words.now c.args.parents.now c.args.jacobians.now c.args.wholes.now c.args.birth_vertices.now c.args.birth_weights.now c.args.birth_shares.now c.args.cells.now c.args.along.now c.args.pattern.now c.args.keys.now c.args.rows.now c.args.spare.now c.args.counts.now c.args.sorted.now c.args.firsts.now c.args.buckets.now (sym c.check_cells-checked.ensures ∙ c.in_default.is) c.need-need.result c.need-need.ensures h c.cleared.result c.cleared.new.out_cells c.cleared.new.out_words c.cleared.new.parents c.cleared.new.jacobians c.cleared.new.wholes c.cleared.new.birth_vertices c.cleared.new.birth_weights c.cleared.new.birth_shares c.cleared.new.cells c.cleared.new.along c.cleared.new.pattern c.cleared.new.keys c.cleared.new.rows c.cleared.new.spare c.cleared.new.counts c.cleared.new.sorted c.cleared.new.firsts c.cleared.new.buckets c.cleared.ensures.work c.cleared.ensures.room
+    out-ended c.args.d c.args.r c.args.given.now (OrderedBy c.args.with_order c.args.d c.args.given.now c.args.order.now) (words_along c.args.with_order c.args.d c.args.given.now c.args.order.now) c.args.out_cells.now c.args.out_words.now c.args.parents.now c.args.jacobians.now c.args.wholes.now c.args.birth_vertices.now c.args.birth_weights.now c.args.birth_shares.now c.args.cells.now c.args.along.now c.args.pattern.now c.args.keys.now c.args.rows.now c.args.spare.now c.args.counts.now c.args.sorted.now c.args.firsts.now c.args.buckets.now (sym c.check_cells.ensures ∙ c.in_ok-check_cells.was) c.need-need.result c.need-need.ensures h c.cleared.result c.cleared.new.out_cells c.cleared.new.out_words c.cleared.new.parents c.cleared.new.jacobians c.cleared.new.wholes c.cleared.new.birth_vertices c.cleared.new.birth_weights c.cleared.new.birth_shares c.cleared.new.cells c.cleared.new.along c.cleared.new.pattern c.cleared.new.keys c.cleared.new.rows c.cleared.new.spare c.cleared.new.counts c.cleared.new.sorted c.cleared.new.firsts c.cleared.new.buckets c.cleared.ensures.work c.cleared.ensures.room

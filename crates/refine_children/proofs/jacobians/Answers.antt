@@ -14,7 +14,7 @@ use Rattle.refine_children.proofs.Laws.{joined-more, joined-kept, joined-full}
 use Rattle.refine_children.proofs.jacobians.Goals as goal
 
 pub loop-i-init : goal.loop-i-init
-loop-i-init c = (search rules, refl, refl, refl, refl)
+loop-i-init c = (refl, refl)
 
 pub child-requires : goal.child-requires
 child-requires c =
@@ -24,28 +24,21 @@ child-requires c =
     let b : i * square_most + square_most ≤ length c.loop-i.floats = omega (arith, c.requires.1) in (
       part-size c.loop-i.wholes (i * square_most) square_most a,
       part-size c.loop-i.floats (i * square_most) square_most b,
-      subst (λ (x : ℕ). Family c.args.d c.args.size c.args.pattern.now c.args.words.now c.args.sorted.now c.args.along.now c.args.cells.now x) (sym c.wide-x.ensures) (c.requires.2.each i h),
+      c.requires.2.each i h,
     )
 
 pub loop-i-preserved : goal.loop-i-preserved
 loop-i-preserved c =
     let i = c.loop-i.i in
-    let e = c.wide-x.ensures in
     let f : ℕ → List ℤ = λ k. whole_at c.args.d c.args.size c.args.pattern.now c.args.words.now c.args.sorted.now c.args.along.now c.args.cells.now (get_or c.args.firsts.now k 0) in
     let g : ℕ → List Float = λ k. float_at c.args.d c.args.r c.args.size c.args.pattern.now c.args.words.now c.args.sorted.now c.args.along.now c.args.cells.now (get_or c.args.firsts.now k 0) in
-    let a = joined-more square_most f (λ k. refl) c.args.wholes.now i c.loop-i.wholes c.child.new.whole c.loop-i.invariant.1
-    (c.child.ensures.whole ∙ ap (λ (x : ℕ). whole_at c.args.d c.args.size c.args.pattern.now c.args.words.now c.args.sorted.now c.args.along.now c.args.cells.now x) e) in
-    let b = joined-more square_most g (λ k. refl) c.args.floats.now i c.loop-i.floats c.child.new.float c.loop-i.invariant.2
-    (c.child.ensures.float ∙ ap (λ (x : ℕ). float_at c.args.d c.args.r c.args.size c.args.pattern.now c.args.words.now c.args.sorted.now c.args.along.now c.args.cells.now x) e) in
-    let h : i + 1 ≤ c.args.m = omega (arith, c.loop-i-test.true) in (
-      h,
-      a,
-      b,
-      joined-kept square_most f (λ k. refl) c.args.wholes.now (i + 1) _ a (omega (arith, c.requires.0)),
-      joined-kept square_most g (λ k. refl) c.args.floats.now (i + 1) _ b (omega (arith, c.requires.1)),
-    )
+    let a = joined-more square_most f (λ k. refl) c.args.wholes.now i c.loop-i.wholes c.child.new.whole c.loop-i.invariant.0
+    c.child.ensures.whole in
+    let b = joined-more square_most g (λ k. refl) c.args.floats.now i c.loop-i.floats c.child.new.float c.loop-i.invariant.1
+    c.child.ensures.float in
+    (a, b)
 
 pub returns : goal.returns
 returns c =
     let f : ℕ → List ℤ = λ k. whole_at c.args.d c.args.size c.args.pattern.now c.args.words.now c.args.sorted.now c.args.along.now c.args.cells.now (get_or c.args.firsts.now k 0) in
-    let g : ℕ → List Float = λ k. float_at c.args.d c.args.r c.args.size c.args.pattern.now c.args.words.now c.args.sorted.now c.args.along.now c.args.cells.now (get_or c.args.firsts.now k 0) in record { wholes = joined-full square_most f (λ k. refl) c.args.wholes.now c.args.m c.loop-i.i c.loop-i.wholes c.loop-i.invariant.1 (omega arith) c.requires.0; floats = joined-full square_most g (λ k. refl) c.args.floats.now c.args.m c.loop-i.i c.loop-i.floats c.loop-i.invariant.2 (omega arith) c.requires.1 }
+    let g : ℕ → List Float = λ k. float_at c.args.d c.args.r c.args.size c.args.pattern.now c.args.words.now c.args.sorted.now c.args.along.now c.args.cells.now (get_or c.args.firsts.now k 0) in record { wholes = joined-full square_most f (λ k. refl) c.args.wholes.now c.args.m c.loop-i.i c.loop-i.wholes c.loop-i.invariant.0 (omega arith) c.requires.0; floats = joined-full square_most g (λ k. refl) c.args.floats.now c.args.m c.loop-i.i c.loop-i.floats c.loop-i.invariant.1 (omega arith) c.requires.1 }

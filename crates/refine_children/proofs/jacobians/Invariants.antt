@@ -9,9 +9,5 @@ use Rattle.refine_children.proofs.jacobians.Given as goal
 
 abbrev pub invariant-loop-i : goal.invariant-loop-i
 invariant-loop-i l =
-    (l.i ≤ l.m) × (l.wholes ≡ joined l.i (λ k. whole_at l.d l.size l.pattern l.words l.sorted l.along l.cells (get_or l.firsts k 0)) ++ drop (l.i * square_most) l.initial.wholes)
+    (l.wholes ≡ joined l.i (λ k. whole_at l.d l.size l.pattern l.words l.sorted l.along l.cells (get_or l.firsts k 0)) ++ drop (l.i * square_most) l.initial.wholes)
     × (l.floats ≡ joined l.i (λ k. float_at l.d l.r l.size l.pattern l.words l.sorted l.along l.cells (get_or l.firsts k 0)) ++ drop (l.i * square_most) l.initial.floats)
-    × (length l.wholes ≡ length l.initial.wholes) × (length l.floats ≡ length l.initial.floats)
-
-abbrev pub decreases-loop-i : goal.decreases-loop-i
-decreases-loop-i l = l.m - l.i

@@ -9,19 +9,15 @@ use borrow.Author.Rules.{rules}
 use Rattle.refine_jacobian.proofs.Laws.{tab-store, tab-full}
 use Rattle.refine_children.proofs.parents.Goals as goal
 
-pub loop-i-init : goal.loop-i-init
-loop-i-init c = (search rules, refl, refl)
-
-pub overflow_cast-to : goal.overflow_cast-to
-overflow_cast-to c =
-    omega (arith, c.wide.ensures, c.shared_slice_known-in-loop-i-1.given c.loop-i.i, div-le_self c.wide.result c.args.size)
+pub overflow_cast-parent : goal.overflow_cast-parent
+overflow_cast-parent c = omega (arith, c.type_inv.firsts c.loop-i.i, div-le_self (get_or c.args.firsts.now c.loop-i.i 0) c.args.size)
 
 pub loop-i-preserved : goal.loop-i-preserved
 loop-i-preserved c =
     let f : ℕ → ℕ = λ k. get_or c.args.firsts.now k 0 / c.args.size in
-    let v = c.wide.result / c.args.size in
-    (search rules, ap (λ (t : List ℕ). set t c.loop-i.i v) c.loop-i.invariant.1 ∙ tab-store f c.args.to.now c.loop-i.i v (ap (λ (x : ℕ). x / c.args.size) c.wide.ensures) (omega arith), simp length-set c.loop-i.invariant.2)
+    let v = get_or c.args.firsts.now c.loop-i.i 0 / c.args.size in
+    ap (λ (t : List ℕ). set t c.loop-i.i v) c.loop-i.invariant ∙ tab-store f c.args.to.now c.loop-i.i v refl (omega arith)
 
 pub returns : goal.returns
 returns c =
-    c.loop-i.invariant.1 ∙ tab-full (λ k. get_or c.args.firsts.now k 0 / c.args.size) c.args.to.now (length c.args.to.now) c.loop-i.i (omega arith) refl
+    c.loop-i.invariant ∙ tab-full (λ k. get_or c.args.firsts.now k 0 / c.args.size) c.args.to.now (length c.args.to.now) c.loop-i.i (omega arith) refl

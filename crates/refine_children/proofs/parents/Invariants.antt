@@ -7,7 +7,4 @@ use Rattle.lists.specs.Tables.{tab}
 use Rattle.refine_children.proofs.parents.Given as goal
 
 abbrev pub invariant-loop-i : goal.invariant-loop-i
-invariant-loop-i l = (l.i ≤ length l.initial.to) × (l.to ≡ tab l.i (λ k. get_or l.firsts k 0 / l.size) ++ drop l.i l.initial.to) × (length l.to ≡ length l.initial.to)
-
-abbrev pub decreases-loop-i : goal.decreases-loop-i
-decreases-loop-i l = length l.initial.to - l.i
+invariant-loop-i l = l.to ≡ tab l.i (λ k. get_or l.firsts k 0 / l.size) ++ drop l.i l.initial.to

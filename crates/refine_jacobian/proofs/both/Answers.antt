@@ -29,7 +29,7 @@ pub overflow_mul-size : goal.overflow_mul-size
 overflow_mul-size c = omega (arith, mul-le-mul c.requires.2.dim c.requires.2.dim)
 
 pub loop-e-init : goal.loop-e-init
-loop-e-init c = (search rules, refl, refl, refl, refl)
+loop-e-init c = (refl, refl)
 
 pub loop-e-preserved-then-size-e : goal.loop-e-preserved-then-size-e
 unfolding of_bits
@@ -40,11 +40,8 @@ loop-e-preserved-then-size-e c =
     let F : ℕ → Float = λ k. float_step c.args.r W c.args.parent.now c.args.cell.now (k / c.args.d) (k % c.args.d) in
     let f : ℕ → Float = λ k. cond (ltb k (c.args.d * c.args.d)) (F k) nought in
     let e = c.loop-e.e in (
-      search rules,
-      ap (λ (t : List ℤ). set t e (pos 0)) c.loop-e.invariant.1 ∙ tab-store g c.args.whole.now e (pos 0) (entry_past c.args.d e (G e) (pos 0) c.if-size-e.true) (omega (arith, c.requires.0)),
-      simp length-set c.loop-e.invariant.2,
-      ap (λ (t : List Float). set t e nought) c.loop-e.invariant.3 ∙ tab-store f c.args.float.now e nought (entry_past c.args.d e (F e) nought c.if-size-e.true) (omega (arith, c.requires.1)),
-      simp length-set c.loop-e.invariant.4,
+      ap (λ (t : List ℤ). set t e (pos 0)) c.loop-e.invariant.0 ∙ tab-store g c.args.whole.now e (pos 0) (entry_past c.args.d e (G e) (pos 0) c.if-size-e.true) (omega (arith, c.requires.0)),
+      ap (λ (t : List Float). set t e nought) c.loop-e.invariant.1 ∙ tab-store f c.args.float.now e nought (entry_past c.args.d e (F e) nought c.if-size-e.true) (omega (arith, c.requires.1)),
     )
 
 pub step-s-requires : goal.step-s-requires
@@ -76,11 +73,8 @@ loop-e-preserved c =
     let hw : w ≡ F e =
     ap (λ (a : Float). sub binary64 a c.share-in-loop-e.result) (c.share.ensures ∙ ap (share_of c.args.r) to)
     ∙ ap (λ (b : Float). sub binary64 (share_of c.args.r x) b) (c.share-in-loop-e.ensures ∙ ap (share_of c.args.r) from) in (
-      omega (arith, under),
-      ap (λ (t : List ℤ). set t e v) c.loop-e.invariant.1 ∙ tab-store g c.args.whole.now e v (hv ∙ entry_in c.args.d e (G e) (pos 0) i) (omega (arith, under, c.requires.0)),
-      simp length-set c.loop-e.invariant.2,
-      ap (λ (t : List Float). set t e w) c.loop-e.invariant.3 ∙ tab-store f c.args.float.now e w (hw ∙ entry_in c.args.d e (F e) nought i) (omega (arith, under, c.requires.1)),
-      simp length-set c.loop-e.invariant.4,
+      ap (λ (t : List ℤ). set t e v) c.loop-e.invariant.0 ∙ tab-store g c.args.whole.now e v (hv ∙ entry_in c.args.d e (G e) (pos 0) i) (omega (arith, under, c.requires.0)),
+      ap (λ (t : List Float). set t e w) c.loop-e.invariant.1 ∙ tab-store f c.args.float.now e w (hw ∙ entry_in c.args.d e (F e) nought i) (omega (arith, under, c.requires.1)),
     )
 
 pub returns : goal.returns
@@ -90,6 +84,6 @@ returns c =
     let g : ℕ → ℤ = λ k. cond (ltb k (c.args.d * c.args.d)) (G k) (pos 0) in
     let F : ℕ → Float = λ k. float_step c.args.r W c.args.parent.now c.args.cell.now (k / c.args.d) (k % c.args.d) in
     let f : ℕ → Float = λ k. cond (ltb k (c.args.d * c.args.d)) (F k) nought in record {
-      whole = c.loop-e.invariant.1 ∙ tab-full g c.args.whole.now square_most c.loop-e.e (omega arith) c.requires.0;
-      float = c.loop-e.invariant.3 ∙ tab-full f c.args.float.now square_most c.loop-e.e (omega arith) c.requires.1;
+      whole = c.loop-e.invariant.0 ∙ tab-full g c.args.whole.now square_most c.loop-e.e (omega arith) c.requires.0;
+      float = c.loop-e.invariant.1 ∙ tab-full f c.args.float.now square_most c.loop-e.e (omega arith) c.requires.1;
     }

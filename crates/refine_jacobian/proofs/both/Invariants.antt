@@ -15,11 +15,5 @@ use Rattle.refine_jacobian.proofs.both.Given as goal
 
 abbrev pub invariant-loop-e : goal.invariant-loop-e
 invariant-loop-e l =
-    (l.e ≤ square_most)
-    × (l.whole ≡ tab l.e (λ k. cond (ltb k (l.d * l.d)) (jacobian (weight_of l.corners l.names l.word) l.parent l.cell (k / l.d) (k % l.d)) (pos 0)) ++ drop l.e l.initial.whole)
-    × (length l.whole ≡ length l.initial.whole)
+    (l.whole ≡ tab l.e (λ k. cond (ltb k (l.d * l.d)) (jacobian (weight_of l.corners l.names l.word) l.parent l.cell (k / l.d) (k % l.d)) (pos 0)) ++ drop l.e l.initial.whole)
     × (l.float ≡ tab l.e (λ k. cond (ltb k (l.d * l.d)) (float_step l.r (weight_of l.corners l.names l.word) l.parent l.cell (k / l.d) (k % l.d)) nought) ++ drop l.e l.initial.float)
-    × (length l.float ≡ length l.initial.float)
-
-abbrev pub decreases-loop-e : goal.decreases-loop-e
-decreases-loop-e l = square_most - l.e

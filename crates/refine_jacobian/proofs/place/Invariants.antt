@@ -6,7 +6,4 @@ use Rattle.refine_jacobian.specs.WorkWeights.{place_of}
 use Rattle.refine_jacobian.proofs.place.Given as goal
 
 abbrev pub invariant-loop-i : goal.invariant-loop-i
-invariant-loop-i l = (l.i ≤ length l.word) × (place_of l.word l.v ≡ l.i + place_of (drop l.i l.word) l.v)
-
-abbrev pub decreases-loop-i : goal.decreases-loop-i
-decreases-loop-i l = length l.word - l.i
+invariant-loop-i l = place_of l.word l.v ≡ l.i + place_of (drop l.i l.word) l.v

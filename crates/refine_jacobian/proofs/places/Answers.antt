@@ -9,7 +9,7 @@ use Rattle.refine_jacobian.proofs.Laws.{placed-more}
 use Rattle.refine_jacobian.proofs.places.Goals as goal
 
 pub loop-j-init : goal.loop-j-init
-loop-j-init c = (search rules, refl, λ k h. absurd (omega (arith, h)))
+loop-j-init c = (refl, λ k h. absurd (omega (arith, h)))
 
 pub bounds-to-j : goal.bounds-to-j
 bounds-to-j c = omega (arith, c.loop-j-test.true, c.requires)
@@ -17,10 +17,9 @@ bounds-to-j c = omega (arith, c.loop-j-test.true, c.requires)
 pub loop-j-preserved : goal.loop-j-preserved
 loop-j-preserved c =
     let t = c.loop-j-test.true in (
-      omega (arith, t),
-      simp length-set c.loop-j.invariant.1,
-      placed-more (λ k. place_of c.args.word.now (get_or c.args.list.now k 0)) c.loop-j.to c.loop-j.j c.place.result (omega (arith, t, c.requires, c.loop-j.invariant.1)) c.place.ensures c.loop-j.invariant.2,
+      simp length-set c.loop-j.invariant.0,
+      placed-more (λ k. place_of c.args.word.now (get_or c.args.list.now k 0)) c.loop-j.to c.loop-j.j c.place.result (omega (arith, t, c.requires, c.loop-j.invariant.0)) c.place.ensures c.loop-j.invariant.1,
     )
 
 pub returns : goal.returns
-returns c = λ j h. c.loop-j.invariant.2 j (omega (arith, h, c.loop-j-test.false))
+returns c = λ j h. c.loop-j.invariant.1 j (omega (arith, h, c.loop-j-test.false))

@@ -7,7 +7,4 @@ use Rattle.refine_jacobian.specs.WorkWeights.{place_of}
 use Rattle.refine_jacobian.proofs.places.Given as goal
 
 abbrev pub invariant-loop-j : goal.invariant-loop-j
-invariant-loop-j l = (l.j ≤ length l.list) × (length l.to ≡ row_most) × ((k : ℕ) → k < l.j → get_or l.to k 0 ≡ place_of l.word (get_or l.list k 0))
-
-abbrev pub decreases-loop-j : goal.decreases-loop-j
-decreases-loop-j l = length l.list - l.j
+invariant-loop-j l = (length l.to ≡ row_most) × ((k : ℕ) → k < l.j → get_or l.to k 0 ≡ place_of l.word (get_or l.list k 0))

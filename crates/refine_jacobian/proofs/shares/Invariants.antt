@@ -8,7 +8,4 @@ use Rattle.refine_jacobian.specs.Entries.{share_of}
 use Rattle.refine_jacobian.proofs.shares.Given as goal
 
 abbrev pub invariant-loop-i : goal.invariant-loop-i
-invariant-loop-i l = (l.i ≤ length l.weights) × (l.to ≡ tab l.i (λ j. share_of l.r (get_or l.weights j 0)) ++ drop l.i l.initial.to) × (length l.to ≡ length l.initial.to)
-
-abbrev pub decreases-loop-i : goal.decreases-loop-i
-decreases-loop-i l = length l.weights - l.i
+invariant-loop-i l = l.to ≡ tab l.i (λ j. share_of l.r (get_or l.weights j 0)) ++ drop l.i l.initial.to

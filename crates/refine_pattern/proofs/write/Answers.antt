@@ -1,39 +1,14 @@
 -- After i steps the points before the one reached are written. Assumes nothing.
-use mathlib.Core.Path.{◌≡◌, sym, ◌∙◌}
+use mathlib.Core.Path.{◌≡◌, ◌∙◌}
 use mathlib.Core.Bool.{true}
-use Prim.Native.Nat.{ℕ, ◌+◌, ◌≤◌, ◌<◌, ◌-◌}
+use Prim.Native.Nat.{◌+◌, ◌≤◌, ◌<◌, ◌-◌}
 use native.Mathlib.Omega.{arith}
 use native.Mathlib.Nat.{add-sub_cancel_left}
-use borrow.Rule.Slice.PartMut.{same_len_mid}
 use lib.ListN.{length, get_or, take, drop, length-drop}
 use lib.Seq.{length-take-le}
 use Rattle.refine_lattice.specs.Children.{qualifies}
-use Rattle.refine_pattern.proofs.Walked.{walked_none, walked-long, walked-qualifies, walked-point, walked-room, walked-axis, walked_low, walked_next, walked-left, walked-last}
+use Rattle.refine_pattern.proofs.Walked.{walked-qualifies, walked-point, walked-room, walked-axis, walked_low, walked_next, walked-left, walked-last}
 use Rattle.refine_pattern.proofs.write.Goals as goal
-
-pub overflow_add-n : goal.overflow_add-n
-overflow_add-n c = omega (arith, c.requires.stands.axes)
-
-pub loop-i-init : goal.loop-i-init
-loop-i-init c = walked_none _ _ _ _ c.requires
-
-pub overflow_add-end : goal.overflow_add-end
-overflow_add-end c =
-    let space : c.loop-i.at + (c.args.d + 1) ≤ length c.loop-i.to = walked-room _ _ _ _ c.requires _ _ _ _ c.loop-i.invariant in
-    let long : length c.loop-i.to ≡ length c.args.to.now = walked-long _ _ _ _ c.requires _ _ _ _ c.loop-i.invariant in
-    omega (arith, space, long, c.well_formed.1.1.1.0)
-
-pub slice_bounds-s-end : goal.slice_bounds-s-end
-slice_bounds-s-end c = c.loop-i.invariant.wide
-
-pub slice_bounds-weigh-end : goal.slice_bounds-weigh-end
-slice_bounds-weigh-end c = sym (length-take-le _ _ c.loop-i.invariant.wide)
-
-pub offset_bounds-to-at : goal.offset_bounds-to-at
-offset_bounds-to-at c =
-    let space : c.loop-i.at + (c.args.d + 1) ≤ length c.loop-i.to = walked-room _ _ _ _ c.requires _ _ _ _ c.loop-i.invariant in
-    let long : length c.loop-i.to ≡ length c.args.to.now = walked-long _ _ _ _ c.requires _ _ _ _ c.loop-i.invariant in
-    omega (arith, space, long, c.well_formed.1.1.1.0)
 
 pub slice_bounds-weigh-end-in-loop-i : goal.slice_bounds-weigh-end-in-loop-i
 slice_bounds-weigh-end-in-loop-i c =
@@ -48,10 +23,6 @@ weigh-requires c =
       qualified,
       rw add-sub_cancel_left (length-take-le (c.args.d + 1) (drop c.loop-i.at c.loop-i.to) (rw length-drop (omega (arith, space))) ∙ omega (arith, pointed)),
     )
-
-pub axis-j-requires : goal.axis-j-requires
-axis-j-requires c =
-    (c.requires.stands.axes, c.requires.stands.order, c.loop-i-test.true)
 
 pub offset_bounds-s-j : goal.offset_bounds-s-j
 offset_bounds-s-j c =
@@ -68,11 +39,6 @@ overflow_add-s c =
     let step-low : get_or c.loop-i.s c.axis-j.result 0 ≤ c.args.r = walked_low _ _ _ _ c.requires _ _ _ _ c.loop-i.invariant c.loop-i-test.true c.axis-j.result c.axis-j.ensures in
     omega (arith, step-low, c.requires.stands.most)
 
-pub offset_bounds-s-j-in-loop-i : goal.offset_bounds-s-j-in-loop-i
-offset_bounds-s-j-in-loop-i c =
-    let axis-low : c.axis-j.result < c.args.d = walked-axis _ _ _ _ c.requires _ _ _ _ c.loop-i.invariant c.loop-i-test.true c.axis-j.result c.axis-j.ensures in
-    omega (arith, axis-low)
-
 pub bounds-s-j-in-loop-i : goal.bounds-s-j-in-loop-i
 bounds-s-j-in-loop-i c =
     let axis-low : c.axis-j.result < c.args.d = walked-axis _ _ _ _ c.requires _ _ _ _ c.loop-i.invariant c.loop-i-test.true c.axis-j.result c.axis-j.ensures in
@@ -84,28 +50,6 @@ loop-i-preserved c =
     walked_next _ _ _ _ c.requires _ _ _ _ c.loop-i.invariant c.loop-i-test.true c.axis-j.result c.axis-j.ensures
     (c.loop-i.at + (c.args.d + 1) - c.loop-i.at) c.weigh.new.to (add-sub_cancel_left _ _) c.weigh.ensures
 
-pub slice_bounds-s-end-2 : goal.slice_bounds-s-end-2
-slice_bounds-s-end-2 c = c.loop-i.invariant.wide
-
-pub slice_bounds-weigh-end-2 : goal.slice_bounds-weigh-end-2
-slice_bounds-weigh-end-2 c = sym (length-take-le _ _ c.loop-i.invariant.wide)
-
-pub offset_bounds-to-at-2 : goal.offset_bounds-to-at-2
-offset_bounds-to-at-2 c =
-    let space : c.loop-i.at + (c.args.d + 1) ≤ length c.loop-i.to = walked-room _ _ _ _ c.requires _ _ _ _ c.loop-i.invariant in
-    let long : length c.loop-i.to ≡ length c.args.to.now = walked-long _ _ _ _ c.requires _ _ _ _ c.loop-i.invariant in
-    omega (arith, space, long, c.well_formed.1.1.1.0)
-
-pub slice_bounds-weigh-count-2 : goal.slice_bounds-weigh-count-2
-slice_bounds-weigh-count-2 c =
-    let space : c.loop-i.at + (c.args.d + 1) ≤ length c.loop-i.to = walked-room _ _ _ _ c.requires _ _ _ _ c.loop-i.invariant in
-    omega (arith, space)
-
-pub slice_bounds-weigh-start-2 : goal.slice_bounds-weigh-start-2
-slice_bounds-weigh-start-2 c =
-    let space : c.loop-i.at + (c.args.d + 1) ≤ length c.loop-i.to = walked-room _ _ _ _ c.requires _ _ _ _ c.loop-i.invariant in
-    omega (arith, space)
-
 pub weigh-requires-2 : goal.weigh-requires-2
 weigh-requires-2 c =
     let space : c.loop-i.at + (c.args.d + 1) ≤ length c.loop-i.to = walked-room _ _ _ _ c.requires _ _ _ _ c.loop-i.invariant in
@@ -116,12 +60,6 @@ weigh-requires-2 c =
       qualified,
       rw n (length-take-le (c.args.d + 1) (drop c.loop-i.at c.loop-i.to) (rw length-drop (omega (arith, space))) ∙ omega (arith, pointed)),
     )
-
-pub shape_of-to : goal.shape_of-to
-shape_of-to c =
-    let long : length c.loop-i.to ≡ length c.args.to.now = walked-long _ _ _ _ c.requires _ _ _ _ c.loop-i.invariant in
-    let f = c.weigh-2 in
-    same_len_mid {X = ℕ} c.loop-i.at (length c.loop-i.to - c.loop-i.at) c.loop-i.to c.weigh-2.new.to c.weigh-2.auto.to ∙ long
 
 pub returns : goal.returns
 returns c =

@@ -1,5 +1,5 @@
 -- `refine_results::finish` meets its contract: what each call asks, and how it ends, is told by proofs/Handing. Assumes nothing.
-use mathlib.Core.Path.{◌≡◌, sym, ap, ◌∙◌, subst}
+use mathlib.Core.Path.{refl, ◌≡◌, sym, ap, ◌∙◌, subst}
 use Prim.Native.Nat.{ℕ, suc, ◌+◌, ◌*◌, ◌^◌}
 use native.Mathlib.Omega.{arith}
 use native.Mathlib.Numerals.{add-one}
@@ -10,27 +10,27 @@ use Rattle.refine_results.proofs.Handing.{arranged, arranging, few, handed-short
 use Rattle.refine_results.proofs.finish.Goals as goal
 
 pub count-size-requires : goal.count-size-requires
-count-size-requires c = (c.requires.refining.dim, omega (arith, c.wide.ensures, c.requires.refining.most))
+count-size-requires c = (c.requires.refining.dim, omega (arith, c.requires.refining.most))
 
 pub overflow_mul-m : goal.overflow_mul-m
 overflow_mul-m c =
-    let sz : c.count-size.result ≡ c.args.r ^ c.args.d = c.count-size.ensures ∙ ap (λ (x : ℕ). x ^ c.args.d) c.wide.ensures in
+    let sz : c.count-size.result ≡ c.args.r ^ c.args.d = c.count-size.ensures in
     record { fits = omega (arith, c.requires.few_cells, ap (λ (x : ℕ). c.args.m * x) sz) }
 
 pub ordered-kinds-requires : goal.ordered-kinds-requires
 ordered-kinds-requires c =
-    let sz : c.count-size.result ≡ c.args.r ^ c.args.d = c.count-size.ensures ∙ ap (λ (x : ℕ). x ^ c.args.d) c.wide.ensures in
+    let sz : c.count-size.result ≡ c.args.r ^ c.args.d = c.count-size.ensures in
     (c.requires.few_vertices, arranging c.args.d c.args.r c.args.n c.args.m c.args.born c.args.coarse.now c.args.along.now c.args.pattern.now c.args.keys.now c.args.rows.now c.args.spare.now c.args.names.now c.args.sorted.now c.args.firsts.now c.args.buckets.now c.requires (c.args.d + 1) (add-one c.args.d) c.count-size.result sz)
 
 pub fits-requires : goal.fits-requires
 fits-requires c =
-    let sz : c.count-size.result ≡ c.args.r ^ c.args.d = c.count-size.ensures ∙ ap (λ (x : ℕ). x ^ c.args.d) c.wide.ensures in
+    let sz : c.count-size.result ≡ c.args.r ^ c.args.d = c.count-size.ensures in
     let a = arranged c.args.d c.args.m c.args.r (c.args.d + 1) c.count-size.result c.args.names.now c.ordered-kinds.new.sorted c.ordered-kinds.new.firsts c.ordered-kinds.result (add-one c.args.d) sz c.ordered-kinds.ensures in
-    (c.requires.refining.dim, omega (arith, few c.args.d c.args.r c.args.n c.args.m c.args.born c.args.coarse.now c.args.along.now c.args.pattern.now c.args.keys.now c.args.rows.now c.args.spare.now c.args.names.now c.args.sorted.now c.args.firsts.now c.args.buckets.now c.requires c.ordered-kinds.result c.ordered-kinds.new.sorted c.ordered-kinds.new.firsts a c.ordered-kinds.auto.firsts, c.requires.few_cells), omega (arith, c.wide-fresh.ensures, c.requires.few_vertices))
+    (c.requires.refining.dim, omega (arith, few c.args.d c.args.r c.args.n c.args.m c.args.born c.args.coarse.now c.args.along.now c.args.pattern.now c.args.keys.now c.args.rows.now c.args.spare.now c.args.names.now c.args.sorted.now c.args.firsts.now c.args.buckets.now c.requires c.ordered-kinds.result c.ordered-kinds.new.sorted c.ordered-kinds.new.firsts a c.ordered-kinds.auto.firsts, c.requires.few_cells), omega (arith, c.requires.few_vertices))
 
 pub overflow_cast-result : goal.overflow_cast-result
 overflow_cast-result c =
-    let sz : c.count-size.result ≡ c.args.r ^ c.args.d = c.count-size.ensures ∙ ap (λ (x : ℕ). x ^ c.args.d) c.wide.ensures in
+    let sz : c.count-size.result ≡ c.args.r ^ c.args.d = c.count-size.ensures in
     let a = arranged c.args.d c.args.m c.args.r (c.args.d + 1) c.count-size.result c.args.names.now c.ordered-kinds.new.sorted c.ordered-kinds.new.firsts c.ordered-kinds.result (add-one c.args.d) sz c.ordered-kinds.ensures in
     omega (arith, few c.args.d c.args.r c.args.n c.args.m c.args.born c.args.coarse.now c.args.along.now c.args.pattern.now c.args.keys.now c.args.rows.now c.args.spare.now c.args.names.now c.args.sorted.now c.args.firsts.now c.args.buckets.now c.requires c.ordered-kinds.result c.ordered-kinds.new.sorted c.ordered-kinds.new.firsts a c.ordered-kinds.auto.firsts, c.requires.few_cells)
 
@@ -51,29 +51,29 @@ shape_of-buckets c = c.ordered-kinds.auto.buckets
 
 pub returns-then-not-fits : goal.returns-then-not-fits
 returns-then-not-fits c =
-    let sz : c.count-size.result ≡ c.args.r ^ c.args.d = c.count-size.ensures ∙ ap (λ (x : ℕ). x ^ c.args.d) c.wide.ensures in
+    let sz : c.count-size.result ≡ c.args.r ^ c.args.d = c.count-size.ensures in
     let a = arranged c.args.d c.args.m c.args.r (c.args.d + 1) c.count-size.result c.args.names.now c.ordered-kinds.new.sorted c.ordered-kinds.new.firsts c.ordered-kinds.result (add-one c.args.d) sz c.ordered-kinds.ensures in
-    let t = subst (λ (x : ℕ). Fits c.args.d c.ordered-kinds.result x (lengths_of c.args.out_cells.now c.args.out_words.now c.args.parents.now c.args.jacobians.now c.args.wholes.now c.args.birth_vertices.now c.args.birth_weights.now c.args.birth_shares.now) c.fits.result) c.wide-fresh.ensures c.fits.ensures in
+    let t = c.fits.ensures in
     handed-short c.args.d c.args.r c.args.n c.args.m c.args.born c.args.coarse.now c.args.along.now c.args.pattern.now c.args.keys.now c.args.rows.now c.args.spare.now c.args.names.now c.args.sorted.now c.args.firsts.now c.args.buckets.now c.requires c.ordered-kinds.result c.ordered-kinds.new.sorted c.ordered-kinds.new.firsts a c.ordered-kinds.auto.firsts c.args.out_cells.now c.args.out_words.now c.args.parents.now c.args.jacobians.now c.args.wholes.now c.args.birth_vertices.now c.args.birth_weights.now c.args.birth_shares.now c.fits.result (c.if-not-fits.true) t
 
 pub write_children-requires : goal.write_children-requires
 write_children-requires c =
-    let sz : c.count-size.result ≡ c.args.r ^ c.args.d = c.count-size.ensures ∙ ap (λ (x : ℕ). x ^ c.args.d) c.wide.ensures in
+    let sz : c.count-size.result ≡ c.args.r ^ c.args.d = c.count-size.ensures in
     let a = arranged c.args.d c.args.m c.args.r (c.args.d + 1) c.count-size.result c.args.names.now c.ordered-kinds.new.sorted c.ordered-kinds.new.firsts c.ordered-kinds.result (add-one c.args.d) sz c.ordered-kinds.ensures in
-    let t = subst (λ (x : ℕ). Fits c.args.d c.ordered-kinds.result x (lengths_of c.args.out_cells.now c.args.out_words.now c.args.parents.now c.args.jacobians.now c.args.wholes.now c.args.birth_vertices.now c.args.birth_weights.now c.args.birth_shares.now) c.fits.result) c.wide-fresh.ensures c.fits.ensures in
+    let t = c.fits.ensures in
     to-children c.args.d c.args.r c.args.n c.args.m c.args.born c.args.coarse.now c.args.along.now c.args.pattern.now c.args.keys.now c.args.rows.now c.args.spare.now c.args.names.now c.args.sorted.now c.args.firsts.now c.args.buckets.now c.requires c.ordered-kinds.result c.ordered-kinds.new.sorted c.ordered-kinds.new.firsts a c.ordered-kinds.auto.firsts c.args.out_cells.now c.args.out_words.now c.args.parents.now c.args.jacobians.now c.args.wholes.now c.args.birth_vertices.now c.args.birth_weights.now c.args.birth_shares.now c.fits.result (c.if-not-fits.false) t c.count-size.result sz
 
 pub write_births-requires : goal.write_births-requires
 write_births-requires c =
-    let sz : c.count-size.result ≡ c.args.r ^ c.args.d = c.count-size.ensures ∙ ap (λ (x : ℕ). x ^ c.args.d) c.wide.ensures in
+    let sz : c.count-size.result ≡ c.args.r ^ c.args.d = c.count-size.ensures in
     let a = arranged c.args.d c.args.m c.args.r (c.args.d + 1) c.count-size.result c.args.names.now c.ordered-kinds.new.sorted c.ordered-kinds.new.firsts c.ordered-kinds.result (add-one c.args.d) sz c.ordered-kinds.ensures in
-    let t = subst (λ (x : ℕ). Fits c.args.d c.ordered-kinds.result x (lengths_of c.args.out_cells.now c.args.out_words.now c.args.parents.now c.args.jacobians.now c.args.wholes.now c.args.birth_vertices.now c.args.birth_weights.now c.args.birth_shares.now) c.fits.result) c.wide-fresh.ensures c.fits.ensures in
-    subst (λ (x : ℕ). Bears c.args.d x c.args.keys.now c.args.spare.now c.args.birth_vertices.now c.args.birth_weights.now c.args.birth_shares.now) (sym c.wide-fresh.ensures) (to-births c.args.d c.args.r c.args.n c.args.m c.args.born c.args.coarse.now c.args.along.now c.args.pattern.now c.args.keys.now c.args.rows.now c.args.spare.now c.args.names.now c.args.sorted.now c.args.firsts.now c.args.buckets.now c.requires c.ordered-kinds.result c.ordered-kinds.new.sorted c.ordered-kinds.new.firsts a c.ordered-kinds.auto.firsts c.args.out_cells.now c.args.out_words.now c.args.parents.now c.args.jacobians.now c.args.wholes.now c.args.birth_vertices.now c.args.birth_weights.now c.args.birth_shares.now c.fits.result (c.if-not-fits.false) t)
+    let t = c.fits.ensures in
+    to-births c.args.d c.args.r c.args.n c.args.m c.args.born c.args.coarse.now c.args.along.now c.args.pattern.now c.args.keys.now c.args.rows.now c.args.spare.now c.args.names.now c.args.sorted.now c.args.firsts.now c.args.buckets.now c.requires c.ordered-kinds.result c.ordered-kinds.new.sorted c.ordered-kinds.new.firsts a c.ordered-kinds.auto.firsts c.args.out_cells.now c.args.out_words.now c.args.parents.now c.args.jacobians.now c.args.wholes.now c.args.birth_vertices.now c.args.birth_weights.now c.args.birth_shares.now c.fits.result (c.if-not-fits.false) t
 
 pub returns : goal.returns
 returns c =
-    let sz : c.count-size.result ≡ c.args.r ^ c.args.d = c.count-size.ensures ∙ ap (λ (x : ℕ). x ^ c.args.d) c.wide.ensures in
+    let sz : c.count-size.result ≡ c.args.r ^ c.args.d = c.count-size.ensures in
     let a = arranged c.args.d c.args.m c.args.r (c.args.d + 1) c.count-size.result c.args.names.now c.ordered-kinds.new.sorted c.ordered-kinds.new.firsts c.ordered-kinds.result (add-one c.args.d) sz c.ordered-kinds.ensures in
-    let t = subst (λ (x : ℕ). Fits c.args.d c.ordered-kinds.result x (lengths_of c.args.out_cells.now c.args.out_words.now c.args.parents.now c.args.jacobians.now c.args.wholes.now c.args.birth_vertices.now c.args.birth_weights.now c.args.birth_shares.now) c.fits.result) c.wide-fresh.ensures c.fits.ensures in
+    let t = c.fits.ensures in
     handed-made c.args.d c.args.r c.args.n c.args.m c.args.born c.args.coarse.now c.args.along.now c.args.pattern.now c.args.keys.now c.args.rows.now c.args.spare.now c.args.names.now c.args.sorted.now c.args.firsts.now c.args.buckets.now c.requires c.ordered-kinds.result c.ordered-kinds.new.sorted c.ordered-kinds.new.firsts a c.ordered-kinds.auto.firsts c.args.out_cells.now c.args.out_words.now c.args.parents.now c.args.jacobians.now c.args.wholes.now c.args.birth_vertices.now c.args.birth_weights.now c.args.birth_shares.now c.fits.result (c.if-not-fits.false) t c.write_children.new.cells c.write_children.new.words c.write_children.new.parents c.write_children.new.jacobians c.write_children.new.wholes c.write_births.new.vertices c.write_births.new.weights c.write_births.new.shares c.count-size.result sz c.write_children.ensures
-    (λ bs u. c.write_births.ensures bs (subst (λ (x : ℕ). Supports (suc c.args.d) c.args.n x bs c.args.keys.now c.args.spare.now) (sym c.wide-fresh.ensures) u))
+    (λ bs u. c.write_births.ensures bs u)

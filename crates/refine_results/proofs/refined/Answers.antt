@@ -1,40 +1,42 @@
 -- `refine_results::refined` meets its contract: a refusal of the search is handed on, and what is found is what the rest asks (proofs/Found, proofs/Handing). Assumes nothing.
-use mathlib.Core.Path.{sym, ◌∙◌}
+use mathlib.Core.Path.{refl, sym, ◌∙◌}
 use lib.Seq.{length-take-le}
+use Rattle.refusal.proofs.Chain.{passed_on}
 use Rattle.refine_results.proofs.Found.{len-fits, names_long, sorted_long, finishing}
 use Rattle.refine_results.proofs.Handing.{handed-refused}
 use Rattle.refine_results.proofs.refined.Goals as goal
 
-pub seek-said-requires : goal.seek-said-requires
-seek-said-requires c = record { cells = c.args.coarse.now; sorted = c.args.sorted.now; firsts = c.args.firsts.now; buckets = c.args.buckets.now; ready = c.requires }
+pub seek-requires : goal.seek-requires
+seek-requires c = record { cells = c.args.coarse.now; sorted = c.args.sorted.now; firsts = c.args.firsts.now; buckets = c.args.buckets.now; ready = c.requires }
 
-pub returns-in_default : goal.returns-in_default
-returns-in_default c =
-    handed-refused c.args.d c.args.r c.args.n c.args.m c.args.coarse.now c.args.along.now c.seek-said.new.pattern c.seek-said.new.keys c.seek-said.new.spare c.seek-said.new.counts c.args.out_cells.now c.args.out_words.now c.args.parents.now c.args.jacobians.now c.args.wholes.now c.args.birth_vertices.now c.args.birth_weights.now c.args.birth_shares.now c.seek-said.result _ _ c.in_default.is c.seek-said.ensures
+pub returns-in_err-found : goal.returns-in_err-found
+returns-in_err-found c =
+    rw (passed_on c.from_residual.ensures.1)
+    (handed-refused c.args.d c.args.r c.args.n c.args.m c.args.coarse.now c.args.along.now c.seek.new.pattern c.seek.new.keys c.seek.new.spare c.seek.new.counts c.args.out_cells.now c.args.out_words.now c.args.parents.now c.args.jacobians.now c.args.wholes.now c.args.birth_vertices.now c.args.birth_weights.now c.args.birth_shares.now _ c.in_err-found.ensures)
 
 pub overflow_mul-len : goal.overflow_mul-len
 overflow_mul-len c =
-    record { fits = len-fits c.args.d c.args.r c.args.n c.args.m c.args.coarse.now c.args.along.now c.args.pattern.now c.args.keys.now c.args.rows.now c.args.spare.now c.args.counts.now c.args.sorted.now c.args.firsts.now c.args.buckets.now c.requires c.seek-said.new.pattern c.seek-said.new.keys c.seek-said.new.rows c.seek-said.new.spare c.seek-said.new.counts c.seek-said.result c.seek-said.ensures _ _ c.in-Made.is c.seek-said.auto.keys c.seek-said.auto.rows c.seek-said.auto.spare c.seek-said.auto.counts c.wide.result c.wide.ensures }
+    record { fits = len-fits c.args.d c.args.r c.args.n c.args.m c.args.coarse.now c.args.along.now c.args.pattern.now c.args.keys.now c.args.rows.now c.args.spare.now c.args.counts.now c.args.sorted.now c.args.firsts.now c.args.buckets.now c.requires c.seek.new.pattern c.seek.new.keys c.seek.new.rows c.seek.new.spare c.seek.new.counts c.in_ok-found.found c.in_ok-found.ensures c.seek.auto.keys c.seek.auto.rows c.seek.auto.spare c.seek.auto.counts _ refl }
 
 pub slice_bounds-finish-end : goal.slice_bounds-finish-end
 slice_bounds-finish-end c =
-    names_long c.args.d c.args.r c.args.n c.args.m c.args.coarse.now c.args.along.now c.args.pattern.now c.args.keys.now c.args.rows.now c.args.spare.now c.args.counts.now c.args.sorted.now c.args.firsts.now c.args.buckets.now c.requires c.seek-said.new.pattern c.seek-said.new.keys c.seek-said.new.rows c.seek-said.new.spare c.seek-said.new.counts c.seek-said.result c.seek-said.ensures _ _ c.in-Made.is c.seek-said.auto.keys c.seek-said.auto.rows c.seek-said.auto.spare c.seek-said.auto.counts c.wide.result c.wide.ensures
+    names_long c.args.d c.args.r c.args.n c.args.m c.args.coarse.now c.args.along.now c.args.pattern.now c.args.keys.now c.args.rows.now c.args.spare.now c.args.counts.now c.args.sorted.now c.args.firsts.now c.args.buckets.now c.requires c.seek.new.pattern c.seek.new.keys c.seek.new.rows c.seek.new.spare c.seek.new.counts c.in_ok-found.found c.in_ok-found.ensures c.seek.auto.keys c.seek.auto.rows c.seek.auto.spare c.seek.auto.counts _ refl
 
 pub slice_bounds-finish-end-2 : goal.slice_bounds-finish-end-2
 slice_bounds-finish-end-2 c =
-    sym (length-take-le _ _ (names_long c.args.d c.args.r c.args.n c.args.m c.args.coarse.now c.args.along.now c.args.pattern.now c.args.keys.now c.args.rows.now c.args.spare.now c.args.counts.now c.args.sorted.now c.args.firsts.now c.args.buckets.now c.requires c.seek-said.new.pattern c.seek-said.new.keys c.seek-said.new.rows c.seek-said.new.spare c.seek-said.new.counts c.seek-said.result c.seek-said.ensures _ _ c.in-Made.is c.seek-said.auto.keys c.seek-said.auto.rows c.seek-said.auto.spare c.seek-said.auto.counts c.wide.result c.wide.ensures))
+    sym (length-take-le _ _ (names_long c.args.d c.args.r c.args.n c.args.m c.args.coarse.now c.args.along.now c.args.pattern.now c.args.keys.now c.args.rows.now c.args.spare.now c.args.counts.now c.args.sorted.now c.args.firsts.now c.args.buckets.now c.requires c.seek.new.pattern c.seek.new.keys c.seek.new.rows c.seek.new.spare c.seek.new.counts c.in_ok-found.found c.in_ok-found.ensures c.seek.auto.keys c.seek.auto.rows c.seek.auto.spare c.seek.auto.counts _ refl))
 
 pub slice_bounds-finish-end-3 : goal.slice_bounds-finish-end-3
 slice_bounds-finish-end-3 c =
-    sorted_long c.args.d c.args.r c.args.n c.args.m c.args.coarse.now c.args.along.now c.args.pattern.now c.args.keys.now c.args.rows.now c.args.spare.now c.args.counts.now c.args.sorted.now c.args.firsts.now c.args.buckets.now c.requires c.seek-said.new.pattern c.seek-said.new.keys c.seek-said.new.rows c.seek-said.new.spare c.seek-said.new.counts c.seek-said.result c.seek-said.ensures _ _ c.in-Made.is c.seek-said.auto.keys c.seek-said.auto.rows c.seek-said.auto.spare c.seek-said.auto.counts c.wide.result c.wide.ensures
+    sorted_long c.args.d c.args.r c.args.n c.args.m c.args.coarse.now c.args.along.now c.args.pattern.now c.args.keys.now c.args.rows.now c.args.spare.now c.args.counts.now c.args.sorted.now c.args.firsts.now c.args.buckets.now c.requires c.seek.new.pattern c.seek.new.keys c.seek.new.rows c.seek.new.spare c.seek.new.counts c.in_ok-found.found c.in_ok-found.ensures c.seek.auto.keys c.seek.auto.rows c.seek.auto.spare c.seek.auto.counts _ refl
 
 pub slice_bounds-finish-end-4 : goal.slice_bounds-finish-end-4
 slice_bounds-finish-end-4 c =
-    sym (length-take-le _ _ (sorted_long c.args.d c.args.r c.args.n c.args.m c.args.coarse.now c.args.along.now c.args.pattern.now c.args.keys.now c.args.rows.now c.args.spare.now c.args.counts.now c.args.sorted.now c.args.firsts.now c.args.buckets.now c.requires c.seek-said.new.pattern c.seek-said.new.keys c.seek-said.new.rows c.seek-said.new.spare c.seek-said.new.counts c.seek-said.result c.seek-said.ensures _ _ c.in-Made.is c.seek-said.auto.keys c.seek-said.auto.rows c.seek-said.auto.spare c.seek-said.auto.counts c.wide.result c.wide.ensures))
+    sym (length-take-le _ _ (sorted_long c.args.d c.args.r c.args.n c.args.m c.args.coarse.now c.args.along.now c.args.pattern.now c.args.keys.now c.args.rows.now c.args.spare.now c.args.counts.now c.args.sorted.now c.args.firsts.now c.args.buckets.now c.requires c.seek.new.pattern c.seek.new.keys c.seek.new.rows c.seek.new.spare c.seek.new.counts c.in_ok-found.found c.in_ok-found.ensures c.seek.auto.keys c.seek.auto.rows c.seek.auto.spare c.seek.auto.counts _ refl))
 
 pub finish-requires : goal.finish-requires
 finish-requires c =
-    finishing c.args.d c.args.r c.args.n c.args.m c.args.coarse.now c.args.along.now c.args.pattern.now c.args.keys.now c.args.rows.now c.args.spare.now c.args.counts.now c.args.sorted.now c.args.firsts.now c.args.buckets.now c.requires c.seek-said.new.pattern c.seek-said.new.keys c.seek-said.new.rows c.seek-said.new.spare c.seek-said.new.counts c.seek-said.result c.seek-said.ensures _ _ c.in-Made.is c.seek-said.auto.keys c.seek-said.auto.rows c.seek-said.auto.spare c.seek-said.auto.counts c.wide.result c.wide.ensures
+    finishing c.args.d c.args.r c.args.n c.args.m c.args.coarse.now c.args.along.now c.args.pattern.now c.args.keys.now c.args.rows.now c.args.spare.now c.args.counts.now c.args.sorted.now c.args.firsts.now c.args.buckets.now c.requires c.seek.new.pattern c.seek.new.keys c.seek.new.rows c.seek.new.spare c.seek.new.counts c.in_ok-found.found c.in_ok-found.ensures c.seek.auto.keys c.seek.auto.rows c.seek.auto.spare c.seek.auto.counts _ refl
 
 pub shape_of-out_cells : goal.shape_of-out_cells
 shape_of-out_cells c = c.finish.auto.out_cells
@@ -61,19 +63,19 @@ pub shape_of-birth_shares : goal.shape_of-birth_shares
 shape_of-birth_shares c = c.finish.auto.birth_shares
 
 pub shape_of-pattern : goal.shape_of-pattern
-shape_of-pattern c = c.seek-said.auto.pattern
+shape_of-pattern c = c.seek.auto.pattern
 
 pub shape_of-keys : goal.shape_of-keys
-shape_of-keys c = c.seek-said.auto.keys
+shape_of-keys c = c.seek.auto.keys
 
 pub shape_of-rows : goal.shape_of-rows
-shape_of-rows c = c.finish.auto.rows ∙ c.seek-said.auto.rows
+shape_of-rows c = c.finish.auto.rows ∙ c.seek.auto.rows
 
 pub shape_of-spare : goal.shape_of-spare
-shape_of-spare c = c.seek-said.auto.spare
+shape_of-spare c = c.seek.auto.spare
 
 pub shape_of-counts : goal.shape_of-counts
-shape_of-counts c = c.seek-said.auto.counts
+shape_of-counts c = c.seek.auto.counts
 
 pub shape_of-firsts : goal.shape_of-firsts
 shape_of-firsts c = c.finish.auto.firsts

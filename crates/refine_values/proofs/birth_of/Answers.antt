@@ -5,10 +5,10 @@ use Rattle.refine_values.proofs.Laws.{word_end, birth-dimension, birth-none, ver
 use Rattle.refine_values.proofs.birth_of.Goals as goal
 
 pub returns-then-d-gt-MOST_DIMENSION : goal.returns-then-d-gt-MOST_DIMENSION
-returns-then-d-gt-MOST_DIMENSION c = birth-dimension c.args.d c.args.number c.args.vertices.now c.args.weights.now c.args.shares.now _ c.no_birth.ensures c.if-d-gt-MOST_DIMENSION.true
+returns-then-d-gt-MOST_DIMENSION c = birth-dimension c.args.d c.args.number c.args.vertices.now c.args.weights.now c.args.shares.now c.if-d-gt-MOST_DIMENSION.true
 
 pub returns-then-not-has_birth : goal.returns-then-not-has_birth
-returns-then-not-has_birth c = birth-none c.args.d c.args.number c.args.vertices.now c.args.weights.now c.args.shares.now c.if-d-gt-MOST_DIMENSION.false _ c.no_birth-then-not-has_birth.ensures (sym c.has_birth.ensures ∙ c.if-not-has_birth.true)
+returns-then-not-has_birth c = birth-none c.args.d c.args.number c.args.vertices.now c.args.weights.now c.args.shares.now c.if-d-gt-MOST_DIMENSION.false (sym c.has_birth.ensures ∙ c.if-not-has_birth.true)
 
 pub overflow_mul-at : goal.overflow_mul-at
 overflow_mul-at c = record { fits = omega (arith, word_end c.args.d c.args.number c.args.vertices.now c.if-d-gt-MOST_DIMENSION.false (omega (arith, c.ranges.number.fits))) }

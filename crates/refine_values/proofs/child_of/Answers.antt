@@ -4,7 +4,7 @@ use Rattle.refine_values.proofs.Laws.{child-none, parent_in, jacobian-in, whole_
 use Rattle.refine_values.proofs.child_of.Goals as goal
 
 pub returns-then-not-has_child : goal.returns-then-not-has_child
-returns-then-not-has_child c = child-none c.args.number c.args.parents.now c.args.jacobians.now c.args.wholes.now _ c.no_child.ensures (sym c.has_child.ensures ∙ c.if-not-has_child.true)
+returns-then-not-has_child c = child-none c.args.number c.args.parents.now c.args.jacobians.now c.args.wholes.now (sym c.has_child.ensures ∙ c.if-not-has_child.true)
 
 pub bounds-parents-k : goal.bounds-parents-k
 bounds-parents-k c = parent_in c.args.number c.args.parents.now c.args.jacobians.now c.args.wholes.now (sym c.has_child.ensures ∙ c.if-not-has_child.false)

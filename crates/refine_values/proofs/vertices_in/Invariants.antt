@@ -8,7 +8,4 @@ use Rattle.lists.specs.Words.{none}
 use Rattle.refine_values.proofs.vertices_in.Given as goal
 
 abbrev pub invariant-loop-i : goal.invariant-loop-i
-invariant-loop-i l = (l.i ≤ length l.row) × ((j : ℕ) → j < l.i → eqb (get_or l.row j 0) none ≡ false)
-
-abbrev pub decreases-loop-i : goal.decreases-loop-i
-decreases-loop-i l = length l.row - l.i
+invariant-loop-i l = (j : ℕ) → j < l.i → eqb (get_or l.row j 0) none ≡ false

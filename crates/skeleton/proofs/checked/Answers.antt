@@ -1,5 +1,6 @@
 -- `skeleton::checked` meets its contract, by its three ways out (proofs/Entry): a refusal and too little room touch nothing; else the work's end stands, and what was
 -- lent to it came back as zeros. Assumes nothing.
+use Rattle.refusal.proofs.Chain.{passed_on}
 use lib.Seq.{length-take-le}
 use Rattle.complex.specs.Cells.{cells_of}
 use Rattle.complex.proofs.Fine.{fine-passed}
@@ -12,21 +13,20 @@ use mathlib.Core.List.{[]}
 use lib.ListN.{length}
 use Rattle.skeleton.proofs.checked.Goals as goal
 
-pub returns-in-Refused : goal.returns-in-Refused
-returns-in-Refused c =
-    let k = c.check_cells-answer in
-    record { handed = []; call = out-refused [] (need_for c.args.part c.args.d (length c.args.words.now)) (Gives (words_for c.args.part c.args.d (cells_of c.args.d c.args.words.now)) (length c.args.out.now)) c.args.d c.args.words.now c.args.keys.now c.args.rows.now c.args.spare.now c.args.counts.now _ _ (sym c.check_cells-answer.ensures ∙ c.in-Refused.is); result = refl }
+pub returns-in_err-check_cells : goal.returns-in_err-check_cells
+returns-in_err-check_cells c = rw (passed_on c.from_residual.ensures.1) (let k = c.check_cells in
+    record { handed = []; call = out-refused [] (need_for c.args.part c.args.d (length c.args.words.now)) (Gives (words_for c.args.part c.args.d (cells_of c.args.d c.args.words.now)) (length c.args.out.now)) c.args.d c.args.words.now c.args.keys.now c.args.rows.now c.args.spare.now c.args.counts.now _ (sym c.check_cells.ensures ∙ c.in_err-check_cells.was); result = refl })
 
 pub need-need-requires : goal.need-need-requires
 need-need-requires c =
-    let p = fine-passed c.args.d c.args.words.now (sym c.check_cells-answer.ensures ∙ c.in_default.is) in
+    let p = fine-passed c.args.d c.args.words.now (sym c.check_cells.ensures ∙ c.in_ok-check_cells.was) in
     (p.small, few-corners c.args.d c.args.words.now p)
 
 pub returns-then-not-has_room : goal.returns-then-not-has_room
 returns-then-not-has_room c =
-    let k = c.check_cells-answer in
+    let k = c.check_cells in
     let n = c.need-need in
-    record { handed = []; call = out-cramped [] (need_for c.args.part c.args.d (length c.args.words.now)) (Gives (words_for c.args.part c.args.d (cells_of c.args.d c.args.words.now)) (length c.args.out.now)) c.args.d c.args.words.now c.args.keys.now c.args.rows.now c.args.spare.now c.args.counts.now (sym c.check_cells-answer.ensures ∙ c.in_default.is) c.need-need.result c.need-need.ensures (c.has_room.ensures.no (c.if-not-has_room.true)); result = refl }
+    record { handed = []; call = out-cramped [] (need_for c.args.part c.args.d (length c.args.words.now)) (Gives (words_for c.args.part c.args.d (cells_of c.args.d c.args.words.now)) (length c.args.out.now)) c.args.d c.args.words.now c.args.keys.now c.args.rows.now c.args.spare.now c.args.counts.now (sym c.check_cells.ensures ∙ c.in_ok-check_cells.was) c.need-need.result c.need-need.ensures (c.has_room.ensures.no (c.if-not-has_room.true)); result = refl }
 
 pub slice_bounds-cleared-end : goal.slice_bounds-cleared-end
 slice_bounds-cleared-end c =
@@ -62,7 +62,7 @@ slice_bounds-cleared-end-8 c =
 
 pub cleared-requires : goal.cleared-requires
 cleared-requires c =
-    working [] (need_for c.args.part c.args.d (length c.args.words.now)) (Gives (words_for c.args.part c.args.d (cells_of c.args.d c.args.words.now)) (length c.args.out.now)) c.args.d c.args.words.now c.args.keys.now c.args.rows.now c.args.spare.now c.args.counts.now (sym c.check_cells-answer.ensures ∙ c.in_default.is) c.need-need.result c.need-need.ensures (c.has_room.ensures.yes (c.if-not-has_room.false))
+    working [] (need_for c.args.part c.args.d (length c.args.words.now)) (Gives (words_for c.args.part c.args.d (cells_of c.args.d c.args.words.now)) (length c.args.out.now)) c.args.d c.args.words.now c.args.keys.now c.args.rows.now c.args.spare.now c.args.counts.now (sym c.check_cells.ensures ∙ c.in_ok-check_cells.was) c.need-need.result c.need-need.ensures (c.has_room.ensures.yes (c.if-not-has_room.false))
 
 pub returns : goal.returns
 returns c =
@@ -70,6 +70,6 @@ returns c =
     let v = c.cleared.ensures.work in
     record {
       handed = v.handed;
-      call = out-ended [] (need_for c.args.part c.args.d (length c.args.words.now)) (Gives (words_for c.args.part c.args.d (cells_of c.args.d c.args.words.now)) (length c.args.out.now)) c.args.d c.args.words.now c.args.keys.now c.args.rows.now c.args.spare.now c.args.counts.now (sym c.check_cells-answer.ensures ∙ c.in_default.is) c.need-need.result c.need-need.ensures (c.has_room.ensures.yes (c.if-not-has_room.false)) c.cleared.result v.handed _ _ _ _ v.ends c.cleared.ensures.room;
+      call = out-ended [] (need_for c.args.part c.args.d (length c.args.words.now)) (Gives (words_for c.args.part c.args.d (cells_of c.args.d c.args.words.now)) (length c.args.out.now)) c.args.d c.args.words.now c.args.keys.now c.args.rows.now c.args.spare.now c.args.counts.now (sym c.check_cells.ensures ∙ c.in_ok-check_cells.was) c.need-need.result c.need-need.ensures (c.has_room.ensures.yes (c.if-not-has_room.false)) c.cleared.result v.handed _ _ _ _ v.ends c.cleared.ensures.room;
       result = v.result;
     }

@@ -1,11 +1,7 @@
--- `figures_mesh_file::hex::line` meets its contract: the list keeps its length, and neither place passes an end. Assumes nothing.
-use Prim.Native.Nat.{◌≤◌, ◌-◌}
+-- `figures_mesh_file::hex::line` meets its contract: the place begins at `from` and never passes the end of the text. Assumes nothing.
+use Prim.Native.Nat.{◌≤◌}
 use lib.ListN.{length}
-use mathlib.Core.Path.{◌≡◌}
 use Rattle.figures_mesh_file.proofs.hex.line.Given as goal
 
 abbrev pub invariant-loop-i : goal.invariant-loop-i
-invariant-loop-i l = (l.i ≤ length l.to) × (length l.to ≡ length l.initial.to) × (l.from ≤ l.end) × (l.end ≤ length l.text)
-
-abbrev pub decreases-loop-i : goal.decreases-loop-i
-decreases-loop-i l = length l.initial.to - l.i
+invariant-loop-i l = (l.from ≤ l.end) × (l.end ≤ length l.text)

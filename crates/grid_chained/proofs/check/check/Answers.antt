@@ -1,13 +1,10 @@
--- `grid_chained::check::check` meets its contract: the first mode's check without 6. Assumes nothing.
+-- `grid_chained::check::check` meets its contract: it says what the first mode's check says without its last test. Assumes nothing.
 use mathlib.Core.Path.{sym, ◌∙◌}
-use Rattle.grid_chained.proofs.Taken.{shape-fine, shape-six, shape-other}
+use Rattle.grid_chained.proofs.Taken.{said-six, said-other}
 use Rattle.grid_chained.proofs.check.check.Goals as goal
 
-pub returns-in-Fine : goal.returns-in-Fine
-returns-in-Fine c = shape-fine _ (sym c.check-checked.ensures ∙ c.in-Fine.is)
+pub returns-then-eq : goal.returns-then-eq
+returns-then-eq c = said-six c.args.grid _ _ c.check-checked.ensures c.if-eq.ensures
 
-pub returns-then-number-eq-TOO_MANY_VERTICES : goal.returns-then-number-eq-TOO_MANY_VERTICES
-returns-then-number-eq-TOO_MANY_VERTICES c = shape-six _ _ _ (sym c.check-checked.ensures ∙ c.in-Refused.is) c.if-number-eq-TOO_MANY_VERTICES.true
-
-pub returns-else-number-eq-TOO_MANY_VERTICES : goal.returns-else-number-eq-TOO_MANY_VERTICES
-returns-else-number-eq-TOO_MANY_VERTICES c = shape-other _ _ _ (sym c.check-checked.ensures ∙ c.in-Refused.is) c.if-number-eq-TOO_MANY_VERTICES.false
+pub returns-else-eq : goal.returns-else-eq
+returns-else-eq c = said-other c.args.grid _ _ c.check-checked.ensures (sym c.if-eq.false ∙ c.eq.ensures)

@@ -1,5 +1,4 @@
 -- `grid_chained::engines::numbers` meets its contract: the least points, numbered. Assumes nothing.
-use Prim.Native.Nat.{◌-◌}
 use Rattle.grid_chained.proofs.Numbering.{labelled-leading, labelled-classes}
 use Rattle.grid_chained.proofs.engines.numbers.Goals as goal
 

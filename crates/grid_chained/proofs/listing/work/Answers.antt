@@ -1,10 +1,8 @@
 -- `grid_chained::listing::work` meets its contract: 6, then 12, then the numbers are copied. Assumes nothing.
-use mathlib.Core.Path.{sym, ◌∙◌}
-use mathlib.Core.Bool.{true, false}
-use Prim.Native.Nat.{◌-◌}
+use mathlib.Core.Path.{sym}
 use native.Mathlib.Omega.{arith}
 use lib.Seq.{length-take-le}
-use Rattle.grid_chained.proofs.Entry.{fits, part, back_fits, worked-many, worked-short, worked-all}
+use Rattle.grid_chained.proofs.Entry.{fits, part, worked-many, worked-short, worked-all}
 use Rattle.grid_chained.proofs.listing.work.Goals as goal
 
 pub slice_bounds-numbers-end : goal.slice_bounds-numbers-end
@@ -22,20 +20,5 @@ returns-then-m-gt-MOST_VERTICES c = worked-many c.args.grid _ c.requires _ c.poi
 pub returns-then-to-n : goal.returns-then-to-n
 returns-then-to-n c = worked-short c.args.grid _ c.requires _ c.points-n.ensures _ _ c.numbers-m.ensures _ (omega (arith, c.if-m-gt-MOST_VERTICES.false)) c.if-to-n.true
 
-pub slice_bounds-copy-end : goal.slice_bounds-copy-end
-slice_bounds-copy-end c = back_fits c.args.grid _ c.requires _ c.points-n.ensures _ _ c.numbers-m.ensures
-
-pub slice_bounds-copy-end-2 : goal.slice_bounds-copy-end-2
-slice_bounds-copy-end-2 c = sym (length-take-le _ _ (back_fits c.args.grid _ c.requires _ c.points-n.ensures _ _ c.numbers-m.ensures))
-
-pub slice_bounds-copy-end-4 : goal.slice_bounds-copy-end-4
-slice_bounds-copy-end-4 c = sym (length-take-le _ _ (omega (arith, c.if-to-n.false)))
-
-pub copy-requires : goal.copy-requires
-copy-requires c = length-take-le _ _ (omega (arith, c.if-to-n.false)) ∙ sym (length-take-le _ _ (back_fits c.args.grid _ c.requires _ c.points-n.ensures _ _ c.numbers-m.ensures))
-
-pub overflow_cast-result : goal.overflow_cast-result
-overflow_cast-result c = omega (arith, c.if-m-gt-MOST_VERTICES.false)
-
 pub returns : goal.returns
-returns c = worked-all c.args.grid _ c.requires _ c.points-n.ensures _ _ c.numbers-m.ensures _ (omega (arith, c.if-m-gt-MOST_VERTICES.false)) (omega (arith, c.if-to-n.false)) _ c.copy.ensures
+returns c = worked-all c.args.grid _ c.requires _ c.points-n.ensures _ _ c.numbers-m.ensures _ (omega (arith, c.if-m-gt-MOST_VERTICES.false)) (omega (arith, c.if-to-n.false)) _ c.copy_from_slice.ensures.after

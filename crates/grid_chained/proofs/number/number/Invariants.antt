@@ -1,12 +1,7 @@
 -- `grid_chained::number::number` meets its contract. The invariant: the points below v have their numbers, the others still their least points, and m classes are met.
 -- Assumes nothing.
-use Prim.Native.Nat.{◌-◌}
-use lib.ListN.{length}
 use Rattle.grid_chained.proofs.Numbering.{Going}
 use Rattle.grid_chained.proofs.number.number.Given as goal
 
 abbrev pub invariant-loop-v : goal.invariant-loop-v
 invariant-loop-v l = Going l.initial.labels l.labels l.m l.v
-
-abbrev pub decreases-loop-v : goal.decreases-loop-v
-decreases-loop-v l = length l.initial.labels - l.v

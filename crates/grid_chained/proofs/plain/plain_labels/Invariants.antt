@@ -2,7 +2,7 @@
 -- have even ends. The measure is the sum of the labels, and one more while rounds go on. Assumes nothing.
 use mathlib.Core.Path.{◌≡◌}
 use mathlib.Core.Bool.{false, cond}
-use Prim.Native.Nat.{ℕ, ◌+◌, ◌-◌, ◌<◌}
+use Prim.Native.Nat.{ℕ, ◌+◌, ◌<◌}
 use Rattle.quotient.specs.Points.{points_of}
 use Rattle.grid_chained.specs.WorkLevel.{total, Marked, Even}
 use Rattle.grid_chained.proofs.plain.plain_labels.Given as goal

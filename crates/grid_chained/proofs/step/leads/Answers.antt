@@ -1,51 +1,59 @@
 -- `grid_chained::step::leads` meets its contract. The invariant: s is the product of the points on the axes below k, and x the number that the stepped coordinates
 -- below k make, which is below s. Assumes nothing.
 use mathlib.Core.Path.{◌≡◌, refl}
-use Prim.Native.Nat.{◌-◌, ◌≤◌}
+use Prim.Native.Nat.{ℕ, ◌+◌, ◌*◌, ◌≤◌, ◌<◌}
 use native.Mathlib.Omega.{arith}
-use borrow.Author.Rules.{rules}
+use Rattle.refusal.specs.Says.{fine}
+use Rattle.refusal.specs.Limits.{most_corners}
+use Rattle.quotient.specs.declared.Grid.{Grid}
 use Rattle.quotient.specs.Fold.{product}
-use Rattle.quotient.specs.Shape.{cells_on}
+use Rattle.quotient.specs.Shape.{points_on}
 use Rattle.quotient.specs.Points.{from_digits, point_of}
 use Rattle.quotient.specs.Chain.{stepped_to}
+use Rattle.grid_chained.specs.Shape.{shape_of}
 use Rattle.grid_chained.proofs.Taken.{digit-turn, points-turn, few-points}
 use Rattle.grid_chained.proofs.Stepping.{stepped-le, stepped-lt}
 use Rattle.grid_chained.proofs.step.leads.Goals as goal
 
 pub loop-k-init : goal.loop-k-init
 unfolding product from_digits
-loop-k-init c = (omega arith, refl, refl, omega arith, search rules)
+loop-k-init c = record { points = refl; number = refl; below = omega arith }
+
+-- a turn of the loop
+turn : (g : Grid) (v a k s x t p : ℕ) → shape_of g ≡ fine → k < g.d → s ≡ product (points_on g) k → x ≡ from_digits (points_on g) (stepped_to g v a) k → x < s → t ≡ stepped_to g v a k → p ≡ points_on g k →
+    (x + s * t ≡ from_digits (points_on g) (stepped_to g v a) (k + 1)) × (x + s * t < s * p) × (s * p ≤ most_corners) × (s * t ≤ most_corners)
+turn g v a k s x t p fine h hs hx l ht hp = digit-turn g fine (stepped_to g v a) k s x t p h hs hx l ht (rw ht (stepped-le g v a k)) hp
 
 pub overflow_mul-x : goal.overflow_mul-x
 overflow_mul-x c =
-    let stepped-small : c.coordinate.result ≤ cells_on c.args.grid c.loop-k.k = rw c.coordinate.ensures (stepped-le c.args.grid c.args.v c.args.a c.loop-k.k) in
-    let t = digit-turn c.args.grid c.requires (stepped_to c.args.grid c.args.v c.args.a) _ _ _ _ _ c.loop-k-test.true c.loop-k.invariant.1 c.loop-k.invariant.2 c.loop-k.invariant.3 c.coordinate.ensures (stepped-small) refl in
+    let i = c.loop-k.invariant in
+    let t = turn _ _ _ _ _ _ _ _ c.requires c.loop-k-test.true i.points i.number i.below c.coordinate.ensures refl in
     omega (arith, t.3)
 
 pub overflow_add-x : goal.overflow_add-x
 overflow_add-x c =
-    let stepped-small : c.coordinate.result ≤ cells_on c.args.grid c.loop-k.k = rw c.coordinate.ensures (stepped-le c.args.grid c.args.v c.args.a c.loop-k.k) in
-    let t = digit-turn c.args.grid c.requires (stepped_to c.args.grid c.args.v c.args.a) _ _ _ _ _ c.loop-k-test.true c.loop-k.invariant.1 c.loop-k.invariant.2 c.loop-k.invariant.3 c.coordinate.ensures (stepped-small) refl in
+    let i = c.loop-k.invariant in
+    let t = turn _ _ _ _ _ _ _ _ c.requires c.loop-k-test.true i.points i.number i.below c.coordinate.ensures refl in
     omega (arith, t.1, t.2)
 
 pub overflow_mul-s : goal.overflow_mul-s
 overflow_mul-s c =
-    let t = points-turn c.args.grid c.requires _ _ _ c.loop-k-test.true c.loop-k.invariant.1 c.points_on-s.ensures in
+    let t = points-turn c.args.grid c.requires _ _ _ c.loop-k-test.true c.loop-k.invariant.points c.points_on-s.ensures in
     omega (arith, t.1)
 
 pub loop-k-preserved : goal.loop-k-preserved
 loop-k-preserved c =
-    let stepped-small : c.coordinate.result ≤ cells_on c.args.grid c.loop-k.k = rw c.coordinate.ensures (stepped-le c.args.grid c.args.v c.args.a c.loop-k.k) in
-    let t = digit-turn c.args.grid c.requires (stepped_to c.args.grid c.args.v c.args.a) _ _ _ _ _ c.loop-k-test.true c.loop-k.invariant.1 c.loop-k.invariant.2 c.loop-k.invariant.3 c.coordinate.ensures (stepped-small) c.points_on-s.ensures in
-    let p = points-turn c.args.grid c.requires _ _ _ c.loop-k-test.true c.loop-k.invariant.1 c.points_on-s.ensures in
-    (omega arith, p.0, t.0, t.1, c.loop-k.invariant.4)
+    let i = c.loop-k.invariant in
+    let t = turn _ _ _ _ _ _ _ _ c.requires c.loop-k-test.true i.points i.number i.below c.coordinate.ensures c.points_on-s.ensures in
+    let p = points-turn c.args.grid c.requires _ _ _ c.loop-k-test.true i.points c.points_on-s.ensures in
+    record { points = p.0; number = t.0; below = t.1 }
+
+-- all coordinates are added when the loop ends
+whole : (c : goal.After-loop-k) → c.loop-k.x ≡ point_of c.args.grid (stepped_to c.args.grid c.args.v c.args.a)
+whole c = let e : c.loop-k.k ≡ c.args.grid.d = omega arith in rw e at c.loop-k.invariant.number
 
 pub overflow_cast-result : goal.overflow_cast-result
-overflow_cast-result c =
-    let is-stepped : c.loop-k.x ≡ point_of c.args.grid (stepped_to c.args.grid c.args.v c.args.a) = let e : c.loop-k.k ≡ c.args.grid.d = omega arith in rw e at c.loop-k.invariant.2 in
-    omega (arith, is-stepped, stepped-lt c.args.grid c.args.v c.args.a, few-points c.args.grid c.requires)
+overflow_cast-result c = omega (arith, whole c, stepped-lt c.args.grid c.args.v c.args.a, few-points c.args.grid c.requires)
 
 pub returns : goal.returns
-returns c =
-    let is-stepped : c.loop-k.x ≡ point_of c.args.grid (stepped_to c.args.grid c.args.v c.args.a) = let e : c.loop-k.k ≡ c.args.grid.d = omega arith in rw e at c.loop-k.invariant.2 in
-    (is-stepped, omega (arith, is-stepped, stepped-lt c.args.grid c.args.v c.args.a))
+returns c = (whole c, omega (arith, whole c, stepped-lt c.args.grid c.args.v c.args.a))

@@ -4,10 +4,10 @@ use Rattle.grid_sides.proofs.Runs.{squares-more, squares-first}
 use Rattle.grid_sides.proofs.Sides.length_sq.Goals as goal
 
 pub loop-i-init : goal.loop-i-init
-loop-i-init c = (omega arith, squares-first _ _ _ _ _ c.along.ensures c.side.ensures c.square-x.ensures, omega arith)
+loop-i-init c = (squares-first _ _ _ _ _ c.along.ensures c.side.ensures c.square-x.ensures, omega arith)
 
 pub loop-i-preserved : goal.loop-i-preserved
-loop-i-preserved c = let l = c.loop-i.invariant in (omega arith, squares-more _ _ _ _ _ _ _ _ l.0 l.1 c.along-in-loop-i.ensures c.side-in-loop-i.ensures c.square-x-in-loop-i.ensures refl, omega arith)
+loop-i-preserved c = (squares-more _ _ _ _ _ _ _ _ c.loop-i.auto.i c.loop-i.invariant.0 c.along-in-loop-i.ensures c.side-in-loop-i.ensures c.square-x-in-loop-i.ensures refl, omega arith)
 
 pub returns : goal.returns
-returns c = let l = c.loop-i.invariant in let e : c.loop-i.i - 1 ≡ c.args.d - 1 = omega arith in rw e at l.1
+returns c = let e : c.loop-i.i - 1 ≡ c.args.d - 1 = omega arith in rw e at c.loop-i.invariant.0

@@ -4,7 +4,4 @@ use Rattle.grid_sides.specs.Lengths.{squares_to}
 use Rattle.grid_sides.proofs.Sides.length_sq.Given as goal
 
 abbrev pub invariant-loop-i : goal.invariant-loop-i
-invariant-loop-i l = (1 ≤ l.i) × (l.x ≡ squares_to l.self l.step (l.i - 1)) × (l.i - 1 ≤ l.d - 1)
-
-abbrev pub decreases-loop-i : goal.decreases-loop-i
-decreases-loop-i l = l.d - l.i
+invariant-loop-i l = (l.x ≡ squares_to l.self l.step (l.i - 1)) × (l.i - 1 ≤ l.d - 1)

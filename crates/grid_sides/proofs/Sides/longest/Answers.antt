@@ -6,10 +6,10 @@ use Rattle.grid_sides.proofs.Sides.longest.Goals as goal
 
 pub loop-i-init : goal.loop-i-init
 unfolding longest_to
-loop-i-init c = (omega arith, c.side-x.ensures, omega arith)
+loop-i-init c = (c.side-x.ensures, omega arith)
 
 pub loop-i-preserved : goal.loop-i-preserved
-loop-i-preserved c = let l = c.loop-i.invariant in (omega arith, longest-more _ _ _ _ _ l.0 l.1 c.side.ensures c.larger-x.ensures, omega arith)
+loop-i-preserved c = (longest-more _ _ _ _ _ c.loop-i.auto.i c.loop-i.invariant.0 c.side.ensures c.larger-x.ensures, omega arith)
 
 pub returns : goal.returns
-returns c = let l = c.loop-i.invariant in let e : c.loop-i.i - 1 ≡ c.args.d - 1 = omega arith in rw e at l.1
+returns c = let e : c.loop-i.i - 1 ≡ c.args.d - 1 = omega arith in rw e at c.loop-i.invariant.0

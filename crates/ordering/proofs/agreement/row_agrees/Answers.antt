@@ -1,6 +1,6 @@
 -- `ordering::agreement::row_agrees` meets its contract: the two words and the two dropped vertices stand in the list (proofs/Reading). Assumes nothing.
 use mathlib.Core.Path.{◌∙◌}
-use Prim.Native.Nat.{◌+◌, ◌*◌, ◌-◌, ◌/◌}
+use Prim.Native.Nat.{◌+◌, ◌*◌, ◌/◌}
 use native.Mathlib.Omega.{arith}
 use Rattle.ordering.proofs.Reading.{placed, reread}
 use Rattle.ordering.proofs.agreement.row_agrees.Goals as goal

@@ -1,7 +1,7 @@
 -- `ordering::agreement::same_without` meets its contract. The loop's invariant: what is left from i and from j on decides. Assumes nothing.
 use mathlib.Core.Path.{refl, sym, ap, ◌∙◌}
 use mathlib.Core.List.{List, []}
-use Prim.Native.Nat.{ℕ, ◌-◌}
+use Prim.Native.Nat.{ℕ}
 use native.Mathlib.Omega.{arith}
 use borrow.Author.Rules.{rules}
 use Rattle.lists.proofs.Words.{tail-part}

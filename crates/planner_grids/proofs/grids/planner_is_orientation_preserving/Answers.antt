@@ -5,4 +5,4 @@ use Rattle.planner_grids.proofs.Laws.{called}
 use Rattle.planner_grids.proofs.grids.planner_is_orientation_preserving.Goals as goal
 
 pub returns : goal.returns
-returns c = called parity_code parity_of c.parity.ensures c.is_orientation_preserving.ensures c.plain-g.ensures
+returns c = called parity_code parity_of c.verdict.ensures c.is_orientation_preserving.ensures c.plain-g.ensures

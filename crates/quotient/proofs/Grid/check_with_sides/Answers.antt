@@ -1,4 +1,5 @@
 -- `quotient::Grid::check_with_sides` meets its contract. Assumes nothing.
+use Rattle.refusal.proofs.Chain.{passed_on}
 use mathlib.Core.Path.{sym, ◌∙◌}
 use Rattle.quotient.proofs.Checks.{check-refused, check-fine, sides-1, sides-1-too, sides-10, sides-rest}
 use Rattle.quotient.proofs.Grid.check_with_sides.Goals as goal
@@ -12,12 +13,13 @@ returns-then-d-gt-MOST_DIMENSION c = sides-1-too _ c.if-d-lt1.false c.if-d-gt-MO
 pub returns-then-b-d : goal.returns-then-b-d
 returns-then-b-d c = sides-10 _ c.if-d-lt1.false c.if-d-gt-MOST_DIMENSION.false _ c.bad_side-b.ensures c.if-b-d.true
 
-pub returns-in-Refused : goal.returns-in-Refused
-returns-in-Refused c =
-    sides-rest _ c.if-d-lt1.false c.if-d-gt-MOST_DIMENSION.false _ c.bad_side-b.ensures c.if-b-d.false _
-    (check-refused _ _ _ _ (sym c.in-Refused.is ∙ c.shape-c.ensures))
+pub returns-in_err-shape : goal.returns-in_err-shape
+returns-in_err-shape c =
+    rw (passed_on c.from_residual.ensures.1)
+    (sides-rest _ c.if-d-lt1.false c.if-d-gt-MOST_DIMENSION.false _ c.bad_side-b.ensures c.if-b-d.false _
+    (check-refused _ _ _ (sym c.in_err-shape.was ∙ c.shape.ensures)))
 
-pub returns-in-Count : goal.returns-in-Count
-returns-in-Count c =
+pub returns : goal.returns
+returns c =
     sides-rest _ c.if-d-lt1.false c.if-d-gt-MOST_DIMENSION.false _ c.bad_side-b.ensures c.if-b-d.false _
-    (check-fine _ _ _ (sym c.in-Count.is ∙ c.shape-c.ensures))
+    (check-fine _ _ _ (sym c.in_ok-shape.was ∙ c.shape.ensures))

@@ -1,13 +1,11 @@
--- `quotient::Grid::is_orientation_preserving` meets its contract.  Assumes nothing.
+-- `quotient::Grid::is_orientation_preserving` meets its contract. Assumes nothing.
+use Rattle.refusal.proofs.Chain.{passed_on}
 use mathlib.Core.Path.{sym, ◌∙◌}
-use Rattle.quotient.proofs.Checks.{parity-refused, parity-odd, parity-even}
+use Rattle.quotient.proofs.Checks.{parity-refused, parity-is}
 use Rattle.quotient.proofs.Grid.is_orientation_preserving.Goals as goal
 
-pub returns-in-Refused : goal.returns-in-Refused
-returns-in-Refused c = parity-refused _ _ _ (sym c.in-Refused.is ∙ c.check-a.ensures)
+pub returns-in_err-check : goal.returns-in_err-check
+returns-in_err-check c = rw (passed_on c.from_residual.ensures.1) (parity-refused _ _ (sym c.in_err-check.was ∙ c.check.ensures))
 
-pub returns-then-some_odd : goal.returns-then-some_odd
-returns-then-some_odd c = parity-odd _ (sym c.in-Fine.is ∙ c.check-a.ensures) (sym c.some_odd.ensures ∙ c.if-some_odd.true)
-
-pub returns-else-some_odd : goal.returns-else-some_odd
-returns-else-some_odd c = parity-even _ (sym c.in-Fine.is ∙ c.check-a.ensures) (sym c.some_odd.ensures ∙ c.if-some_odd.false)
+pub returns : goal.returns
+returns c = parity-is _ (sym c.in_ok-check.was ∙ c.check.ensures) c.some_odd.ensures

@@ -1,8 +1,7 @@
 -- `quotient::Grid::number` meets its contract. The invariant: s is the product of the places below k, x the number so far, and x is below s. Assumes nothing.
 use mathlib.Core.Path.{◌≡◌}
-use Prim.Native.Nat.{◌-◌, ◌≤◌, ◌<◌}
+use Prim.Native.Nat.{◌<◌}
 use lib.ListN.{get_or}
-use Rattle.refusal.specs.Limits.{most_dimension}
 use Rattle.quotient.specs.Fold.{product}
 use Rattle.quotient.specs.Shape.{glued_on}
 use Rattle.quotient.specs.Points.{from_digits}
@@ -11,7 +10,4 @@ use Rattle.quotient.proofs.Grid.number.Given as goal
 
 abbrev pub invariant-loop-k : goal.invariant-loop-k
 invariant-loop-k l =
-    (l.k ≤ l.d) × (l.s ≡ product (glued_on l.self) l.k) × (l.x ≡ from_digits (glued_on l.self) (λ j. folded_by l.self l.m j (get_or l.coordinates j 0)) l.k) × (l.x < l.s) × (l.d ≤ most_dimension)
-
-abbrev pub decreases-loop-k : goal.decreases-loop-k
-decreases-loop-k l = l.d - l.k
+    (l.s ≡ product (glued_on l.self) l.k) × (l.x ≡ from_digits (glued_on l.self) (λ j. folded_by l.self l.m j (get_or l.coordinates j 0)) l.k) × (l.x < l.s)

@@ -1,6 +1,6 @@
 -- `quotient::Grid::points_on` meets its contract.  Assumes nothing.
 use mathlib.Core.Path.{ap}
-use Prim.Native.Nat.{◌+◌, ◌-◌}
+use Prim.Native.Nat.{◌+◌}
 use Rattle.quotient.specs.declared.Axis.{Axis}
 use Rattle.quotient.proofs.Grid.points_on.Goals as goal
 

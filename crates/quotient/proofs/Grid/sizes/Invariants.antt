@@ -1,14 +1,10 @@
 -- `quotient::Grid::sizes` meets its contract. The invariant: cells and vertices are the capped products so far. Assumes nothing.
 use mathlib.Core.Path.{◌≡◌}
-use Prim.Native.Nat.{suc, ◌+◌, ◌-◌, ◌*◌, ◌^◌, ◌≤◌, ◌<◌, min}
+use Prim.Native.Nat.{suc, ◌+◌, ◌*◌, min}
 use Rattle.quotient.specs.Fold.{product}
 use Rattle.quotient.specs.Shape.{cells_on, glued_on}
-use Rattle.quotient.specs.Work.{FewWithin}
 use Rattle.quotient.proofs.Grid.sizes.Given as goal
 
 abbrev pub invariant-loop-i : goal.invariant-loop-i
 invariant-loop-i l =
-    (l.i ≤ l.d) × (l.n ≡ min (product suc l.i * product (cells_on l.self) l.i) (l.cells + 1)) × (l.m ≡ min (product (glued_on l.self) l.i) (l.vertices + 1)) × (l.d < 2 ^ 32) × FewWithin l.cells l.vertices
-
-abbrev pub decreases-loop-i : goal.decreases-loop-i
-decreases-loop-i l = l.d - l.i
+    (l.n ≡ min (product suc l.i * product (cells_on l.self) l.i) (l.cells + 1)) × (l.m ≡ min (product (glued_on l.self) l.i) (l.vertices + 1))

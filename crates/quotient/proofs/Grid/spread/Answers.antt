@@ -1,7 +1,6 @@
 -- `quotient::Grid::spread` meets its contract. The invariant, `Spreading`: what is left of the number, the coordinates and both sets are those of the axes below k. Assumes nothing.
 use borrow.Author.Rules.{rules}
 use mathlib.Core.Path.{◌≡◌, refl, ap}
-use Prim.Native.Nat.{◌-◌}
 use native.Mathlib.Omega.{arith}
 use Rattle.quotient.specs.declared.Axis.{Axis}
 use Rattle.quotient.proofs.Taken.{few_cells}
@@ -42,9 +41,6 @@ overflow_add-wrapped c =
     let x = c.axis-a.ensures in
     let w = c.whole_part-q.ensures in
     record { fits = spread-byte _ _ _ _ _ _ _ _ s l _ x w _ _ (spread-coordinate _ _ _ _ _ _ _ _ s l _ x w) c.ends-ends.ensures _ c.only-wrapped.ensures }
-
-pub overflow_add-k : goal.overflow_add-k
-overflow_add-k c = let h = c.loop-k.invariant.high in omega arith
 
 pub loop-k-preserved : goal.loop-k-preserved
 loop-k-preserved c =

@@ -1,12 +1,8 @@
 -- `refine_births::visits::write` meets its contract. The loop's invariant: the rows of the first x visits are written. Assumes nothing.
 use mathlib.Core.Path.{◌≡◌}
-use Prim.Native.Nat.{◌*◌, ◌-◌, ◌≤◌}
 use lib.ListN.{length}
 use Rattle.refine_births.specs.WorkVisits.{Visited}
 use Rattle.refine_births.proofs.visits.write.Given as goal
 
 abbrev pub invariant-loop-x : goal.invariant-loop-x
-invariant-loop-x l = (l.x ≤ l.m * l.p) × (length l.keys ≡ length l.initial.keys) × Visited l.size l.n l.p l.words l.pattern l.keys l.x
-
-abbrev pub decreases-loop-x : goal.decreases-loop-x
-decreases-loop-x l = l.m * l.p - l.x
+invariant-loop-x l = (length l.keys ≡ length l.initial.keys) × Visited l.size l.n l.p l.words l.pattern l.keys l.x

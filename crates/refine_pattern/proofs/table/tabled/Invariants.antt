@@ -1,10 +1,6 @@
 -- After i turns the first i corners are written. Assumes nothing.
-use Prim.Native.Nat.{◌-◌}
 use Rattle.refine_pattern.proofs.Rows.{Rowed}
 use Rattle.refine_pattern.proofs.table.tabled.Given as goal
 
 abbrev pub invariant-loop-i : goal.invariant-loop-i
 invariant-loop-i l = Rowed l.d l.r l.initial.to l.i l.at l.to
-
-abbrev pub decreases-loop-i : goal.decreases-loop-i
-decreases-loop-i l = l.count - l.i

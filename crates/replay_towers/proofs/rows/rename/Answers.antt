@@ -1,19 +1,18 @@
 -- `replay_towers::rows::rename` meets its contract: the first i numbers are renamed. Assumes nothing.
 use mathlib.Core.Path.{◌≡◌, refl}
-use Prim.Native.Nat.{ℕ, ◌-◌}
+use Prim.Native.Nat.{ℕ}
 use native.Mathlib.Omega.{arith}
 use Rattle.replay_towers.proofs.Naming.{named_more}
-use borrow.Author.Rules.{rules}
 use Rattle.replay_towers.proofs.rows.rename.Goals as goal
 
 pub loop-i-init : goal.loop-i-init
-loop-i-init c = (search rules, refl, λ k h. absurd (omega arith))
+loop-i-init c = λ k h. absurd (omega arith)
 
 pub returns-then-v-names : goal.returns-then-v-names
 returns-then-v-names c = λ e. let z : ◌≡◌ {A = ℕ} 0 1 = cc in absurd (omega arith)
 
 pub loop-i-preserved : goal.loop-i-preserved
-loop-i-preserved c = (search rules, search rules, named_more c.args.names.now c.args.words.now c.loop-i.renamed c.loop-i.i c.wide-v.result c.wide-v.ensures (omega arith) (omega arith) c.loop-i.invariant.2)
+loop-i-preserved c = named_more c.args.names.now c.args.words.now c.loop-i.renamed c.loop-i.i _ refl (omega arith) (omega arith) c.loop-i.invariant
 
 pub returns : goal.returns
-returns c = λ e. record { named = λ k h. (c.loop-i.invariant.2 k (omega arith)).0; renamed_at = λ k h. (c.loop-i.invariant.2 k (omega arith)).1 }
+returns c = λ e. record { named = λ k h. (c.loop-i.invariant k (omega arith)).0; renamed_at = λ k h. (c.loop-i.invariant k (omega arith)).1 }

@@ -1,11 +1,7 @@
--- `text::Text::word` meets its contract. The invariant: the first i bytes of the word are added. Assumes nothing.
-use Prim.Native.Nat.{◌≤◌, ◌-◌}
-use lib.ListN.{length, take}
+-- `text::Text::word` meets its contract. The invariant: the first bytes of the word, as many as the loop has passed, are added. Assumes nothing.
+use lib.ListN.{take}
 use Rattle.text.specs.Adds.{Adds}
 use Rattle.text.proofs.Text.word.Given as goal
 
-abbrev pub invariant-loop-i : goal.invariant-loop-i
-invariant-loop-i l = (l.i ≤ length l.w) × Adds (take l.i l.w) l.initial.t l.t
-
-abbrev pub decreases-loop-i : goal.decreases-loop-i
-decreases-loop-i l = length l.w - l.i
+abbrev pub invariant-loop-b : goal.invariant-loop-b
+invariant-loop-b l = Adds (take l.b-index l.w) l.initial.t l.t

@@ -1,8 +1,0 @@
--- `grid_chained::listing::cleared` meets its contract: the work's end stands, and the room keeps its length until it is cleared. Assumes nothing.
-use mathlib.Core.Path.{ap, ◌∙◌}
-use Prim.Native.Nat.{ℕ, ◌-◌}
-use lib.ListN.{replicate}
-use Rattle.grid_chained.proofs.listing.cleared.Goals as goal
-
-pub returns : goal.returns
-returns c = record { work = c.work-said.ensures; room = c.clear.ensures ∙ ap (λ (n : ℕ). replicate n 0) c.work-said.auto.room }

@@ -1,1 +1,0 @@
--- `planner_grids::grids::planner_crossing` meets its contract: the grid is the one given, and the answer and the sets are the call's. Assumes nothing.

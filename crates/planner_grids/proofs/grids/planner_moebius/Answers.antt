@@ -1,1 +1,0 @@
--- `planner_grids::grids::planner_moebius` meets its contract: the answer is the call's. Assumes nothing.

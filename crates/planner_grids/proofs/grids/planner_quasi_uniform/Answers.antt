@@ -1,1 +1,0 @@
--- `planner_grids::grids::planner_quasi_uniform` meets its contract: sides and gluings are those given, and the answer is the call's. Assumes nothing.

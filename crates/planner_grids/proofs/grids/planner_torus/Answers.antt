@@ -1,1 +1,0 @@
--- `planner_grids::grids::planner_torus` meets its contract: the sides are those given, and the answer is the call's. Assumes nothing.

@@ -1,1 +1,0 @@
--- `planner_grids::lengths::planner_edge_length_sq` meets its contract: the grid is the one given, and the answer is the call's. Assumes nothing.

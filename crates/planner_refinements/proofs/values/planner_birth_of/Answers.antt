@@ -1,1 +1,0 @@
--- `planner_birth_of` hands out what `birth_of` says. Assumes nothing.

@@ -1,1 +1,0 @@
--- `planner_child_of` hands out what `child_of` says. Assumes nothing.

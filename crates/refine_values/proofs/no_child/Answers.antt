@@ -1,8 +1,0 @@
--- `no_child` meets its contract: by computing. Assumes nothing.
-use mathlib.Core.Path.{refl}
-use lib.Ieee.{of_bits}
-use Rattle.refine_values.proofs.no_child.Goals as goal
-
-pub returns : goal.returns
-unfolding of_bits
-returns c = refl
