@@ -19,7 +19,7 @@ pub fn cells(
     let n = d + 1;
     let len = words.len();
     let count = len / n;
-    keys[..len].copy_from_slice(words);
+    lists::copy(words, &mut keys[..len]);
     multiindex::word::sort_words(keys, n, count);
     sorting::sort_rows(keys, n, count, len, rows, spare, counts);
     let m = sorting::distinct(keys, n, count, rows, spare, counts);

@@ -58,7 +58,7 @@ fn number_words(
     let n = d + 1;
     let len = words.len();
     let count = len / n;
-    keys[..len].copy_from_slice(words);
+    lists::copy(words, &mut keys[..len]);
     multiindex::word::sort_words(keys, n, count);
     sorting::sort_rows(keys, n, count, len, rows, spare, counts);
     sorting::distinct(keys, n, count, rows, spare, counts);
@@ -163,7 +163,7 @@ fn hand_out(
         return Err(Refusal::TooShort);
     }
     rename(numbers, corners, &mut kept[..len]);
-    old[..vertices].copy_from_slice(places);
+    lists::copy(places, &mut old[..vertices]);
     Ok(Dropped {
         words: staying as u32,
         vertices: vertices as u32,

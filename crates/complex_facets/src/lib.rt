@@ -48,7 +48,7 @@ fn classes(
     let total = m * k;
     sorting::sort_rows(keys, d, total, b, rows, spare, counts);
     let count = sorting::distinct(keys, d, total, rows, spare, counts);
-    rows[..total].fill(NONE);
+    lists::fill(&mut rows[..total], NONE);
     if !complex_mates::pair_up(total, spare, counts, rows) {
         return None;
     }
@@ -188,7 +188,7 @@ pub fn records(
         return false;
     };
     others(f, spare, rows, keys);
-    rows[..f].copy_from_slice(&keys[..f]);
+    lists::copy(&keys[..f], &mut rows[..f]);
     write_records(d, complex_mates::slots(d), f, spare, rows, keys);
     true
 }

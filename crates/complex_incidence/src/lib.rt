@@ -76,7 +76,7 @@ fn by_vertex(
     requires { Sorting long vertices keys.old rows.old spare.old counts.old }
     ensures { ByVertex vertices long keys.new rows.new × (take long keys.new ≡ take long rows.old) }
 {
-    keys[..long].copy_from_slice(&rows[..long]);
+    lists::copy(&rows[..long], &mut keys[..long]);
     sorting::sort_rows(keys, 1, long, vertices, rows, spare, counts);
 }
 

@@ -6,18 +6,30 @@ ghost use Rattle.std.specs.Prelude.{true, false, ◌≡◌, ℕ, suc, ◌+◌, �
 ghost use Rattle.lists.specs.Rows.{cut, row};
 ghost use Rattle.complex.specs.Facets.{facet_at, slots, Cells, Crowded};
 ghost use Rattle.lists.specs.Words.{none};
-ghost use Rattle.complex_mates.specs.Table.{Written, Writing, Grouped, Paired, Three, MateTable, Across, Crossing, Meeting};
+ghost use Rattle.complex_mates.specs.Table.{Kept, Written, Writing, Grouped, Paired, Three, MateTable, Across, Crossing, Meeting};
 
 // No row: a facet in one cell has no mate.
 pub const NONE: u32 = 4294967295;
+
+// Where number j of the facet stands in the cell.
+fn kept(skip: usize, j: usize) -> usize
+    requires { j < 4294967296 }
+    ensures { Kept skip j result }
+{
+    if j < skip {
+        return j;
+    }
+    j + 1
+}
 
 // Writes the cell w without its number at skip.
 fn facet(w: &[u32], skip: usize, to: &mut [u32])
     requires { (length w.now ≡ length to.old + 1) × (skip ≤ length to.old) × (length to.old < 4294967296) }
     ensures { to.new ≡ facet_at w.now skip }
 {
-    to[..skip].copy_from_slice(&w[..skip]);
-    to[skip..].copy_from_slice(&w[skip + 1..]);
+    for j in 0..to.len() {
+        to[j] = w[kept(skip, j)];
+    }
 }
 
 // How many facets a cell has.
@@ -85,7 +97,7 @@ pub fn mates(
     let total = m * k;
     sorting::sort_rows(keys, d, total, b, rows, spare, counts);
     sorting::distinct(keys, d, total, rows, spare, counts);
-    rows[..total].fill(NONE);
+    lists::fill(&mut rows[..total], NONE);
     pair_up(total, spare, counts, rows)
 }
 

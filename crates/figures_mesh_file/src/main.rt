@@ -10,10 +10,14 @@ ghost use Rattle.std.specs.Prelude.{◌≤◌, ◌<◌, length};
 use arrayvec::ArrayString;
 use file_mesh_read::Reading;
 use refusal::Refusal;
-use std::fmt::Write;
+use std::fmt::{Display, Write};
 
-// A line of the output: the longest has 5 numbers and 512 bytes.
-type Line = ArrayString<1536>;
+// A piece of a line. Each goes out by itself: an output that takes no more keeps what it took before.
+fn piece<T: Display + Drop>(x: T) {
+    let mut text = ArrayString::<32>::new();
+    let _ = write!(text, "{x}");
+    io::write_all(1, text.as_bytes());
+}
 
 // How many numbers the words of so many cells have.
 fn corners(d: u32, cells: usize) -> usize
@@ -28,12 +32,14 @@ fn corners(d: u32, cells: usize) -> usize
 }
 
 // The refusal's number and place.
-fn refused(why: Refusal, line: &mut Line) {
-    let _ = write!(line, "{} {}", why.number(), why.place());
+fn refused(why: Refusal) {
+    piece(why.number());
+    piece(" ");
+    piece(why.place());
 }
 
 // The bytes that writing these lists gives, or the refusal.
-fn written(d: u32, words: &[u32], births: &[u32], pairs: &[u32], line: &mut Line) {
+fn written(d: u32, words: &[u32], births: &[u32], pairs: &[u32]) {
     let mut bytes = [7u8; 512];
     let mut keys = [7u32; 512];
     let mut rows = [7u32; 256];
@@ -53,25 +59,28 @@ fn written(d: u32, words: &[u32], births: &[u32], pairs: &[u32], line: &mut Line
     match said {
         Ok(n) => {
             for byte in bytes.iter().take(n as usize) {
-                let _ = write!(line, "{byte:02x}");
+                let mut pair = ArrayString::<2>::new();
+                let _ = write!(pair, "{byte:02x}");
+                io::write_all(1, pair.as_bytes());
             }
         }
-        Err(why) => refused(why, line),
+        Err(why) => refused(why),
     }
 }
 
 // What was read, and the bytes that writing it gives.
-fn again(read: Reading, words: &[u32], births: &[u32], pairs: &[u32], line: &mut Line) {
-    let _ = write!(
-        line,
-        "0 {} {} {} {} ",
-        read.dimension, read.cells, read.births, read.pairs
-    );
+fn again(read: Reading, words: &[u32], births: &[u32], pairs: &[u32]) {
+    piece("0");
+    for n in [read.dimension, read.cells, read.births, read.pairs] {
+        piece(" ");
+        piece(n);
+    }
+    piece(" ");
     let words = words.get(..corners(read.dimension, read.cells as usize));
     let births = births.get(..read.births as usize * 3);
     let pairs = pairs.get(..read.pairs as usize * 2);
     if let (Some(words), Some(births), Some(pairs)) = (words, births, pairs) {
-        written(read.dimension, words, births, pairs, line);
+        written(read.dimension, words, births, pairs);
     }
 }
 
@@ -84,7 +93,6 @@ fn file(bytes: &[u8]) {
     let mut rows = [7u32; 256];
     let mut spare = [7u32; 256];
     let mut counts = [7u32; 256];
-    let mut line = Line::new();
     let said = file_mesh_read::read_mesh(
         bytes,
         &mut words,
@@ -96,11 +104,10 @@ fn file(bytes: &[u8]) {
         &mut counts,
     );
     match said {
-        Err(why) => refused(why, &mut line),
-        Ok(read) => again(read, &words, &births, &pairs, &mut line),
+        Err(why) => refused(why),
+        Ok(read) => again(read, &words, &births, &pairs),
     }
-    let _ = writeln!(line);
-    io::write_all(1, line.as_bytes());
+    piece("\n");
 }
 
 // The file in the line that begins at `from`; where the next line begins.

@@ -109,7 +109,7 @@ fn sorted(w: &[u32]) -> [u32; CORNERS]
 {
     let n = w.len();
     let mut a = [0u32; CORNERS];
-    a[..n].copy_from_slice(w);
+    lists::copy(w, &mut a[..n]);
     multiindex::word::sort(&mut a[..n]);
     a
 }

@@ -414,7 +414,7 @@ fn hand_out(
     if pairs.len() < p {
         return Err(Refusal::TooShort);
     }
-    words[..len].copy_from_slice(corners);
+    lists::copy(corners, &mut words[..len]);
     let from = 10 + scanned.count as usize * (10 + 4 * scanned.d as usize);
     list_births(
         scanned.births,

@@ -20,7 +20,7 @@ fn work(grid: Grid, plainly: bool, to: &mut [u32], room: &mut [u32]) -> Result<u
     if to.len() < n {
         return Err(Refusal::TooShort);
     }
-    to[..n].copy_from_slice(&room[..n]);
+    lists::copy(&room[..n], &mut to[..n]);
     Ok(m as u32)
 }
 

@@ -43,10 +43,10 @@ fn lay_out(
     let n = grid.d as usize + 1;
     let size = m * n;
     let end = size + size;
-    list[size..end].copy_from_slice(&rows[..size]);
+    lists::copy(&rows[..size], &mut list[size..end]);
     grid_words::write_words(grid, rows, table);
     sorting::gather(rows, n, spare, m, list);
-    rows[..size].copy_from_slice(&list[size..end]);
+    lists::copy(&list[size..end], &mut rows[..size]);
 }
 
 // Whether the words are an order that agrees on every facet of two cells: as many cells as words, and no clash by the table of mates.
@@ -77,14 +77,14 @@ fn hand_out(
     }
     let end = size + size;
     if !ordered {
-        cells[..size].copy_from_slice(&list[size..end]);
+        lists::copy(&list[size..end], &mut cells[..size]);
         return Ok(Triangulated::Unordered(m as u32));
     }
     if order.len() < size {
         return Err(Refusal::TooShort);
     }
-    cells[..size].copy_from_slice(&list[size..end]);
-    order[..size].copy_from_slice(&list[..size]);
+    lists::copy(&list[size..end], &mut cells[..size]);
+    lists::copy(&list[..size], &mut order[..size]);
     Ok(Triangulated::Ordered(m as u32))
 }
 

@@ -76,7 +76,7 @@ fn order_work(
         return Err(Refusal::TooShort);
     }
     let end = at + size;
-    listed[..size].copy_from_slice(&keys[at..end]);
+    lists::copy(&keys[at..end], &mut listed[..size]);
     if !agreement::agree(d, count, rows, &keys[at..]) {
         return Ok(Ordered::Differ(m));
     }

@@ -21,8 +21,8 @@ fn lay_out(n: usize, m: usize, order: &[u32], cells: &[u32], keys: &mut [u32])
 {
     let len = order.len();
     let end = len + len;
-    keys[..len].copy_from_slice(order);
-    keys[len..end].copy_from_slice(&cells[..len]);
+    lists::copy(order, &mut keys[..len]);
+    lists::copy(&cells[..len], &mut keys[len..end]);
     multiindex::word::sort_words(keys, n, m);
 }
 
@@ -49,7 +49,7 @@ fn matched(
     if classes != m {
         return false;
     }
-    cells[..len] == keys[len..end]
+    lists::same(&cells[..len], &keys[len..end])
 }
 
 // Whether `order` is an order of the m cells in `cells`, whose numbers are below b. If it is, its words by cell stand in `keys`, and behind them the cells.
@@ -77,7 +77,7 @@ pub fn arrange(
     }
     let fits = matched(n, m, b, order, keys, cells, spare, counts);
     let end = len + len;
-    cells[..len].copy_from_slice(&keys[len..end]);
+    lists::copy(&keys[len..end], &mut cells[..len]);
     if !fits {
         return false;
     }

@@ -33,7 +33,7 @@ fn list(
 {
     let m = complex_cells::cells(d, words, keys, rows, spare, counts);
     let len = m * (d + 1);
-    cells[..len].copy_from_slice(&rows[..len]);
+    lists::copy(&rows[..len], &mut cells[..len]);
     if !complex_mates::mates(d, m, words.len(), keys, rows, spare, counts) {
         return Err(Refusal::CrowdedFacet);
     }
@@ -60,7 +60,7 @@ fn ordered(
         return false;
     }
     let len = m * (d + 1);
-    along[..len].copy_from_slice(&keys[..len]);
+    lists::copy(&keys[..len], &mut along[..len]);
     true
 }
 
@@ -85,7 +85,7 @@ fn name(
         return ordered(d, m, given, order, cells, along, keys, spare, counts);
     }
     let len = m * (d + 1);
-    along[..len].copy_from_slice(&cells[..len]);
+    lists::copy(&cells[..len], &mut along[..len]);
     true
 }
 

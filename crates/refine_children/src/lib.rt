@@ -26,7 +26,7 @@ pub fn colex(
     requires { Arranging n count b words.now sorted.old order.old firsts.old buckets.old }
     ensures { Arranged n count words.now result sorted.new firsts.new }
 {
-    sorted.copy_from_slice(words);
+    lists::copy(words, sorted);
     multiindex::word::sort_words(sorted, n, count);
     sorting::sort_rows(sorted, n, count, b, order, firsts, buckets);
     sorting::distinct(sorted, n, count, order, firsts, buckets)

@@ -63,7 +63,7 @@ pub fn hand_out(m: usize, from: &[u32], out: &mut [u32]) -> Result<u32, Refusal>
     if out.len() < long {
         return Err(Refusal::TooShort);
     }
-    out[..long].copy_from_slice(from);
+    lists::copy(from, &mut out[..long]);
     Ok(m as u32)
 }
 

@@ -17,30 +17,30 @@ use native.Mathlib.Omega.{arith}
 use lib.ListN.{length, get_or, take, drop}
 use Rattle.complex_cells.proofs.cells.Goals as goal
 
-pub slice_bounds-copy_from_slice-end-2 : goal.slice_bounds-copy_from_slice-end-2
-slice_bounds-copy_from_slice-end-2 c = sym (length-take-le _ _ c.requires.keys_long)
+pub slice_bounds-copy-end-2 : goal.slice_bounds-copy-end-2
+slice_bounds-copy-end-2 c = sym (length-take-le _ _ c.requires.keys_long)
 
-pub copy_from_slice-requires : goal.copy_from_slice-requires
-copy_from_slice-requires c = length-take-le _ _ c.requires.keys_long
+pub copy-requires : goal.copy-requires
+copy-requires c = length-take-le _ _ c.requires.keys_long
 
 pub sort_words-requires : goal.sort_words-requires
-sort_words-requires c = omega (arith, ap length c.copy_from_slice.ensures.after, length-append c.copy_from_slice.new.self (drop (length c.args.words.now) c.args.keys.now), whole_words c.args.d c.args.words.now c.requires.passed)
+sort_words-requires c = omega (arith, ap length c.copy.ensures, length-append c.copy.new.dst (drop (length c.args.words.now) c.args.keys.now), whole_words c.args.d c.args.words.now c.requires.passed)
 
 pub sort_rows-requires : goal.sort_rows-requires
 sort_rows-requires c =
-    let key-is : c.sort_words.new.ws ≡ sort_words (c.args.d + 1) (length c.args.words.now / (c.args.d + 1)) (c.args.words.now ++ drop (length c.args.words.now) c.args.keys.now) = c.sort_words.ensures ∙ ap (λ (p : List ℕ). sort_words (c.args.d + 1) (length c.args.words.now / (c.args.d + 1)) (p ++ drop (length c.args.words.now) c.args.keys.now)) c.copy_from_slice.ensures.after in
+    let key-is : c.sort_words.new.ws ≡ sort_words (c.args.d + 1) (length c.args.words.now / (c.args.d + 1)) (c.args.words.now ++ drop (length c.args.words.now) c.args.keys.now) = c.sort_words.ensures ∙ ap (λ (p : List ℕ). sort_words (c.args.d + 1) (length c.args.words.now / (c.args.d + 1)) (p ++ drop (length c.args.words.now) c.args.keys.now)) c.copy.ensures in
     let v = div-le_self (length c.args.words.now) (c.args.d + 1) in record { table = subst (λ (k : List ℕ). Table k (c.args.d + 1) (length c.args.words.now / (c.args.d + 1)) (length c.args.words.now)) (sym (key-is)) (words-table c.args.d c.args.words.now c.requires.passed (drop (length c.args.words.now) c.args.keys.now)); n_in_bounds = (omega (arith, c.requires.rows_long), omega (arith, c.requires.spare_long), c.requires.counts_long) }
 
 pub distinct-m-requires : goal.distinct-m-requires
 distinct-m-requires c =
-    let key-is : c.sort_words.new.ws ≡ sort_words (c.args.d + 1) (length c.args.words.now / (c.args.d + 1)) (c.args.words.now ++ drop (length c.args.words.now) c.args.keys.now) = c.sort_words.ensures ∙ ap (λ (p : List ℕ). sort_words (c.args.d + 1) (length c.args.words.now / (c.args.d + 1)) (p ++ drop (length c.args.words.now) c.args.keys.now)) c.copy_from_slice.ensures.after in
+    let key-is : c.sort_words.new.ws ≡ sort_words (c.args.d + 1) (length c.args.words.now / (c.args.d + 1)) (c.args.words.now ++ drop (length c.args.words.now) c.args.keys.now) = c.sort_words.ensures ∙ ap (λ (p : List ℕ). sort_words (c.args.d + 1) (length c.args.words.now / (c.args.d + 1)) (p ++ drop (length c.args.words.now) c.args.keys.now)) c.copy.ensures in
     let key-long : length c.args.words.now ≤ length c.sort_words.new.ws = omega (arith, ap length (key-is), words-length (c.args.d + 1) (length c.args.words.now / (c.args.d + 1)) (c.args.words.now ++ drop (length c.args.words.now) c.args.keys.now), length-append c.args.words.now (drop (length c.args.words.now) c.args.keys.now)) in
     let v = div-le_self (length c.args.words.now) (c.args.d + 1) in
     let k = c.sort_rows.auto in record { sorted = c.sort_rows.ensures.sorted; n_bound = (omega (arith, few-corners c.args.d c.args.words.now c.requires.passed), omega (arith, key-long, whole_words c.args.d c.args.words.now c.requires.passed), omega (arith, c.requires.rows_long, k), omega (arith, c.requires.spare_long, k), omega (arith, c.requires.counts_long, k)) }
 
 pub gather-requires : goal.gather-requires
 gather-requires c =
-    let key-is : c.sort_words.new.ws ≡ sort_words (c.args.d + 1) (length c.args.words.now / (c.args.d + 1)) (c.args.words.now ++ drop (length c.args.words.now) c.args.keys.now) = c.sort_words.ensures ∙ ap (λ (p : List ℕ). sort_words (c.args.d + 1) (length c.args.words.now / (c.args.d + 1)) (p ++ drop (length c.args.words.now) c.args.keys.now)) c.copy_from_slice.ensures.after in
+    let key-is : c.sort_words.new.ws ≡ sort_words (c.args.d + 1) (length c.args.words.now / (c.args.d + 1)) (c.args.words.now ++ drop (length c.args.words.now) c.args.keys.now) = c.sort_words.ensures ∙ ap (λ (p : List ℕ). sort_words (c.args.d + 1) (length c.args.words.now / (c.args.d + 1)) (p ++ drop (length c.args.words.now) c.args.keys.now)) c.copy.ensures in
     let key-long : length c.args.words.now ≤ length c.sort_words.new.ws = omega (arith, ap length (key-is), words-length (c.args.d + 1) (length c.args.words.now / (c.args.d + 1)) (c.args.words.now ++ drop (length c.args.words.now) c.args.keys.now), length-append c.args.words.now (drop (length c.args.words.now) c.args.keys.now)) in
     let t = c.distinct-m.ensures.distinct in
     let v = div-le_self (length c.args.words.now) (c.args.d + 1) in
@@ -50,7 +50,7 @@ gather-requires c =
 
 pub returns : goal.returns
 returns c =
-    let key-is : c.sort_words.new.ws ≡ sort_words (c.args.d + 1) (length c.args.words.now / (c.args.d + 1)) (c.args.words.now ++ drop (length c.args.words.now) c.args.keys.now) = c.sort_words.ensures ∙ ap (λ (p : List ℕ). sort_words (c.args.d + 1) (length c.args.words.now / (c.args.d + 1)) (p ++ drop (length c.args.words.now) c.args.keys.now)) c.copy_from_slice.ensures.after in
+    let key-is : c.sort_words.new.ws ≡ sort_words (c.args.d + 1) (length c.args.words.now / (c.args.d + 1)) (c.args.words.now ++ drop (length c.args.words.now) c.args.keys.now) = c.sort_words.ensures ∙ ap (λ (p : List ℕ). sort_words (c.args.d + 1) (length c.args.words.now / (c.args.d + 1)) (p ++ drop (length c.args.words.now) c.args.keys.now)) c.copy.ensures in
     let t = c.distinct-m.ensures.distinct in
     let n = c.args.d + 1 in
     let count = length c.args.words.now / n in

@@ -21,11 +21,14 @@ slice_bounds-rename-end-2 c = sym (length-take-le _ _ c.if-kept-len.false)
 pub rename-requires : goal.rename-requires
 rename-requires c = (length-take-le _ _ c.if-kept-len.false, c.requires.low)
 
-pub copy_from_slice-requires : goal.copy_from_slice-requires
-copy_from_slice-requires c = length-take-le _ _ c.if-old-vertices.false
+pub slice_bounds-copy-end-2 : goal.slice_bounds-copy-end-2
+slice_bounds-copy-end-2 c = sym (length-take-le _ _ c.if-old-vertices.false)
+
+pub copy-requires : goal.copy-requires
+copy-requires c = length-take-le _ _ c.if-old-vertices.false
 
 pub returns : goal.returns
 returns c =
     all_out c.if-kept-len.false c.if-old-vertices.false
     (renamed-onto c.args.staying c.args.corners.now c.args.numbers.now c.args.places.now c.args.kept.now _ c.requires c.rename.ensures)
-    (ap (λ (l : List ℕ). l ++ drop (length c.args.places.now) c.args.old.now) c.copy_from_slice.ensures.after)
+    (ap (λ (l : List ℕ). l ++ drop (length c.args.places.now) c.args.old.now) c.copy.ensures)

@@ -20,27 +20,27 @@ sorted-is : (d : ℕ) (words keys front : List ℕ) → front ≡ words → (sor
     sorted ≡ sort_words (d + 1) (length words / (d + 1)) (words ++ drop (length words) keys)
 sorted-is d words keys front e sorted s = rw e at s
 
-pub copy_from_slice-requires : goal.copy_from_slice-requires
-copy_from_slice-requires c = length-take-le _ _ c.requires.keys_long
+pub copy-requires : goal.copy-requires
+copy-requires c = length-take-le _ _ c.requires.keys_long
 
 pub sort_words-requires : goal.sort_words-requires
-sort_words-requires c = omega (arith, ap length c.copy_from_slice.ensures.after, length-append c.copy_from_slice.new.self (drop (length c.args.words.now) c.args.keys.now), whole_words c.args.d c.args.words.now c.requires.passed)
+sort_words-requires c = omega (arith, ap length c.copy.ensures, length-append c.copy.new.dst (drop (length c.args.words.now) c.args.keys.now), whole_words c.args.d c.args.words.now c.requires.passed)
 
 pub sort_rows-requires : goal.sort_rows-requires
 sort_rows-requires c =
-    let key-is = sorted-is c.args.d c.args.words.now c.args.keys.now c.copy_from_slice.new.self c.copy_from_slice.ensures.after c.sort_words.new.ws c.sort_words.ensures in
+    let key-is = sorted-is c.args.d c.args.words.now c.args.keys.now c.copy.new.dst c.copy.ensures c.sort_words.new.ws c.sort_words.ensures in
     let v = div-le_self (length c.args.words.now) (c.args.d + 1) in record { table = subst (λ (k : List ℕ). Table k (c.args.d + 1) (length c.args.words.now / (c.args.d + 1)) (length c.args.words.now)) (sym (key-is)) (words-table c.args.d c.args.words.now c.requires.passed (drop (length c.args.words.now) c.args.keys.now)); n_in_bounds = (omega (arith, c.requires.rows_long), omega (arith, c.requires.spare_long), c.requires.counts_long) }
 
 pub distinct-requires : goal.distinct-requires
 distinct-requires c =
-    let key-is = sorted-is c.args.d c.args.words.now c.args.keys.now c.copy_from_slice.new.self c.copy_from_slice.ensures.after c.sort_words.new.ws c.sort_words.ensures in
+    let key-is = sorted-is c.args.d c.args.words.now c.args.keys.now c.copy.new.dst c.copy.ensures c.sort_words.new.ws c.sort_words.ensures in
     let key-long : length c.args.words.now ≤ length c.sort_words.new.ws = omega (arith, ap length (key-is), words-length (c.args.d + 1) (length c.args.words.now / (c.args.d + 1)) (c.args.words.now ++ drop (length c.args.words.now) c.args.keys.now), length-append c.args.words.now (drop (length c.args.words.now) c.args.keys.now)) in
     let v = div-le_self (length c.args.words.now) (c.args.d + 1) in
     let k = c.sort_rows.auto in record { sorted = c.sort_rows.ensures.sorted; n_bound = (omega (arith, few-corners c.args.d c.args.words.now c.requires.passed), omega (arith, key-long, whole_words c.args.d c.args.words.now c.requires.passed), omega (arith, c.requires.rows_long, k), omega (arith, c.requires.spare_long, k), omega (arith, c.requires.counts_long, k)) }
 
 pub returns : goal.returns
 returns c =
-    let key-is = sorted-is c.args.d c.args.words.now c.args.keys.now c.copy_from_slice.new.self c.copy_from_slice.ensures.after c.sort_words.new.ws c.sort_words.ensures in
+    let key-is = sorted-is c.args.d c.args.words.now c.args.keys.now c.copy.new.dst c.copy.ensures c.sort_words.new.ws c.sort_words.ensures in
     let n = c.args.d + 1 in
     let t = c.distinct.ensures.distinct in
     word_cells c.args.d c.args.words.now c.requires.passed (drop (length c.args.words.now) c.args.keys.now) c.distinct.result c.distinct.new.reps c.distinct.new.ids

@@ -6,7 +6,6 @@ use native.Mathlib.Omega.{arith}
 use mathlib.Core.Path.{◌≡◌, subst}
 use Rattle.complex_facets.specs.WorkClasses.{Classed}
 use Prim.Native.Nat.{ℕ, suc, ◌*◌, ◌≤◌}
-use borrow.Author.Rules.{rules}
 use Rattle.lists.specs.Words.{none}
 use Rattle.complex_facets.proofs.classes.Goals.{After-slots-k}
 use Rattle.complex_facets.proofs.classes.Goals as goal
@@ -28,7 +27,7 @@ pub distinct-count-requires : goal.distinct-count-requires
 distinct-count-requires c = let z = most_rows (goal.at.distinct-count-requires c).After-slots-k in let r = meeting-writing c.args.d c.args.m c.args.b c.args.keys.now c.args.rows.now c.args.spare.now c.args.counts.now c.requires c.slots-k.result c.slots-k.ensures in record { sorted = c.sort_rows.ensures.sorted; n_bound = (omega (arith, z, c.requires.few), omega (arith, r.room, c.facet_rows.auto), omega (arith, z, c.requires.rows_long, c.sort_rows.auto), omega (arith, z, c.requires.spare_long, c.sort_rows.auto), omega (arith, z, c.requires.counts_long, c.sort_rows.auto)) }
 
 pub pair_up-requires : goal.pair_up-requires
-pair_up-requires c = let z = most_rows (goal.at.pair_up-requires c).After-slots-k in let l : c.args.m * c.slots-k.result ≤ length c.sort_rows.new.order = omega (arith, z, c.requires.rows_long, c.sort_rows.auto) in record { grouped = grouped _ _ _ _ _ _ c.distinct-count.ensures.distinct (omega (arith, z, c.requires.few)) (omega (arith, z, c.requires.spare_long, c.sort_rows.auto, c.distinct-count.auto)) (omega (arith, z, c.requires.counts_long, c.sort_rows.auto, c.distinct-count.auto)); total_in_bounds = (meeting-room (c.args.m * c.slots-k.result) none _ c.fill.new.self l (search rules), meeting-free c.args.d c.args.m c.args.b c.args.keys.now c.args.rows.now c.args.spare.now c.args.counts.now c.requires c.slots-k.result c.slots-k.ensures c.sort_rows.new.order c.fill.new.self c.sort_rows.auto.order (search rules)) }
+pair_up-requires c = let z = most_rows (goal.at.pair_up-requires c).After-slots-k in let l : c.args.m * c.slots-k.result ≤ length c.sort_rows.new.order = omega (arith, z, c.requires.rows_long, c.sort_rows.auto) in record { grouped = grouped _ _ _ _ _ _ c.distinct-count.ensures.distinct (omega (arith, z, c.requires.few)) (omega (arith, z, c.requires.spare_long, c.sort_rows.auto, c.distinct-count.auto)) (omega (arith, z, c.requires.counts_long, c.sort_rows.auto, c.distinct-count.auto)); total_in_bounds = (meeting-room (c.args.m * c.slots-k.result) none _ c.fill.new.list l c.fill.ensures, meeting-free c.args.d c.args.m c.args.b c.args.keys.now c.args.rows.now c.args.spare.now c.args.counts.now c.requires c.slots-k.result c.slots-k.ensures c.sort_rows.new.order c.fill.new.list c.sort_rows.auto.order c.fill.ensures) }
 
 pub shape_of-keys : goal.shape_of-keys
 shape_of-keys c = c.facet_rows.auto.keys

@@ -2,7 +2,6 @@
 use Rattle.complex_mates.proofs.Meeting.{grouped, meeting-most, meeting-writing, meeting-table, meeting-free, meeting-done, meeting-crowd, meeting-room}
 use Prim.Native.Nat.{suc, ◌*◌, ◌≤◌}
 use native.Mathlib.Omega.{arith}
-use borrow.Author.Rules.{rules}
 use lib.ListN.{length}
 use Rattle.lists.specs.Words.{none}
 use Rattle.complex_mates.proofs.mates.Goals.{After-slots-k}
@@ -43,7 +42,7 @@ pair_up-requires-clause-total_in_bounds c =
     let most = most_rows (goal.at.pair_up-requires-clause-total_in_bounds c).After-slots-k in
     let k = c.sort_rows.auto in
     let l : c.args.m * c.slots-k.result ≤ length c.sort_rows.new.order = omega (arith, most, c.requires.rows_long, k) in
-    (meeting-room (c.args.m * c.slots-k.result) none _ c.fill.new.self l (search rules), meeting-free c.args.d c.args.m c.args.b c.args.keys.now c.args.rows.now c.args.spare.now c.args.counts.now c.requires c.slots-k.result c.slots-k.ensures c.sort_rows.new.order c.fill.new.self k.order (search rules))
+    (meeting-room (c.args.m * c.slots-k.result) none _ c.fill.new.list l c.fill.ensures, meeting-free c.args.d c.args.m c.args.b c.args.keys.now c.args.rows.now c.args.spare.now c.args.counts.now c.requires c.slots-k.result c.slots-k.ensures c.sort_rows.new.order c.fill.new.list k.order c.fill.ensures)
 
 pub returns : goal.returns
 returns c =

@@ -24,11 +24,11 @@ returns-then-births-b c = handing-births c.args.bytes.now (mesh_in (read_file c.
 pub returns-then-pairs-p : goal.returns-then-pairs-p
 returns-then-pairs-p c = handing-pairs c.args.bytes.now (mesh_in (read_file c.args.bytes.now)) c.args.scanned.d c.args.scanned.count c.args.scanned.births c.args.scanned.pairs (scanned-gives c.args.bytes.now c.args.scanned c.requires.0) c.args.corners.now c.requires.1 c.requires.2 c.args.words.now c.args.births.now c.args.pairs.now c.if-pairs-p.true
 
-pub slice_bounds-copy_from_slice-end-2 : goal.slice_bounds-copy_from_slice-end-2
-slice_bounds-copy_from_slice-end-2 c = sym (length-take-le (length c.args.corners.now) c.args.words.now (omega (arith, c.if-words-len.false)))
+pub slice_bounds-copy-end-2 : goal.slice_bounds-copy-end-2
+slice_bounds-copy-end-2 c = sym (length-take-le (length c.args.corners.now) c.args.words.now (omega (arith, c.if-words-len.false)))
 
-pub copy_from_slice-requires : goal.copy_from_slice-requires
-copy_from_slice-requires c = length-take-le (length c.args.corners.now) c.args.words.now (omega (arith, c.if-words-len.false))
+pub copy-requires : goal.copy-requires
+copy-requires c = length-take-le (length c.args.corners.now) c.args.words.now (omega (arith, c.if-words-len.false))
 
 pub overflow_mul-from-2 : goal.overflow_mul-from-2
 overflow_mul-from-2 c = let f = (scanned-gives c.args.bytes.now c.args.scanned c.requires.0) in omega (arith, f.words_inside, c.well_formed)
@@ -52,4 +52,4 @@ pub overflow_cast-result-2 : goal.overflow_cast-result-2
 overflow_cast-result-2 c = omega (arith, (counts-small c.args.bytes.now (mesh_in (read_file c.args.bytes.now)) c.args.scanned.d c.args.scanned.count c.args.scanned.births c.args.scanned.pairs (scanned-gives c.args.bytes.now c.args.scanned c.requires.0) c.args.corners.now c.requires.1 c.requires.2).1)
 
 pub returns : goal.returns
-returns c = handing-read c.args.bytes.now (mesh_in (read_file c.args.bytes.now)) c.args.scanned.d c.args.scanned.count c.args.scanned.births c.args.scanned.pairs (scanned-gives c.args.bytes.now c.args.scanned c.requires.0) c.args.corners.now c.requires.1 c.requires.2 c.args.words.now c.args.births.now c.args.pairs.now (omega (arith, c.if-words-len.false)) (omega (arith, c.if-births-b.false)) (omega (arith, c.if-pairs-p.false)) c.copy_from_slice.new.self c.list_births.new.births c.list_births.new.pairs c.copy_from_slice.ensures.after c.list_births.ensures.of_births c.list_births.ensures.of_pairs
+returns c = handing-read c.args.bytes.now (mesh_in (read_file c.args.bytes.now)) c.args.scanned.d c.args.scanned.count c.args.scanned.births c.args.scanned.pairs (scanned-gives c.args.bytes.now c.args.scanned c.requires.0) c.args.corners.now c.requires.1 c.requires.2 c.args.words.now c.args.births.now c.args.pairs.now (omega (arith, c.if-words-len.false)) (omega (arith, c.if-births-b.false)) (omega (arith, c.if-pairs-p.false)) c.copy.new.dst c.list_births.new.births c.list_births.new.pairs c.copy.ensures c.list_births.ensures.of_births c.list_births.ensures.of_pairs

@@ -25,17 +25,17 @@ overflow_add-end c = omega (arith, end-small c.args.d c.args.at c.args.words.now
 pub offset_bounds-keys-at : goal.offset_bounds-keys-at
 offset_bounds-keys-at c = omega (arith, end-small c.args.d c.args.at c.args.words.now c.args.keys.now c.args.rows.now c.args.spare.now c.args.counts.now c.requires c.args.order.now c.prepare.new.keys c.prepare.new.rows c.prepare.auto.keys c.prepare.auto.rows c.prepare.result c.prepare.ensures _ c.in_ok-m.was _ refl)
 
-pub slice_bounds-copy_from_slice-end-3 : goal.slice_bounds-copy_from_slice-end-3
-slice_bounds-copy_from_slice-end-3 c = end_fits c.args.d c.args.at c.args.words.now c.args.keys.now c.args.rows.now c.args.spare.now c.args.counts.now c.requires c.args.order.now c.prepare.new.keys c.prepare.new.rows c.prepare.auto.keys c.prepare.auto.rows c.prepare.result c.prepare.ensures _ c.in_ok-m.was _ refl
+pub slice_bounds-copy-end : goal.slice_bounds-copy-end
+slice_bounds-copy-end c = end_fits c.args.d c.args.at c.args.words.now c.args.keys.now c.args.rows.now c.args.spare.now c.args.counts.now c.requires c.args.order.now c.prepare.new.keys c.prepare.new.rows c.prepare.auto.keys c.prepare.auto.rows c.prepare.result c.prepare.ensures _ c.in_ok-m.was _ refl
 
-pub slice_bounds-copy_from_slice-end : goal.slice_bounds-copy_from_slice-end
-slice_bounds-copy_from_slice-end c = c.if-listed-size.false
+pub slice_bounds-copy-end-2 : goal.slice_bounds-copy-end-2
+slice_bounds-copy-end-2 c = c.if-listed-size.false
 
-pub slice_bounds-copy_from_slice-end-2 : goal.slice_bounds-copy_from_slice-end-2
-slice_bounds-copy_from_slice-end-2 c = sym (length-take-le _ _ c.if-listed-size.false)
+pub slice_bounds-copy-end-3 : goal.slice_bounds-copy-end-3
+slice_bounds-copy-end-3 c = sym (length-take-le _ _ c.if-listed-size.false)
 
-pub copy_from_slice-requires : goal.copy_from_slice-requires
-copy_from_slice-requires c = length-take-le _ _ c.if-listed-size.false ∙ sym (part_length c.args.d c.args.at c.args.words.now c.args.keys.now c.args.rows.now c.args.spare.now c.args.counts.now c.requires c.args.order.now c.prepare.new.keys c.prepare.new.rows c.prepare.auto.keys c.prepare.auto.rows c.prepare.result c.prepare.ensures _ c.in_ok-m.was _ refl)
+pub copy-requires : goal.copy-requires
+copy-requires c = length-take-le _ _ c.if-listed-size.false ∙ sym (part_length c.args.d c.args.at c.args.words.now c.args.keys.now c.args.rows.now c.args.spare.now c.args.counts.now c.requires c.args.order.now c.prepare.new.keys c.prepare.new.rows c.prepare.auto.keys c.prepare.auto.rows c.prepare.result c.prepare.ensures _ c.in_ok-m.was _ refl)
 
 pub offset_bounds-keys-at-2 : goal.offset_bounds-keys-at-2
 offset_bounds-keys-at-2 c = omega (arith, end-small c.args.d c.args.at c.args.words.now c.args.keys.now c.args.rows.now c.args.spare.now c.args.counts.now c.requires c.args.order.now c.prepare.new.keys c.prepare.new.rows c.prepare.auto.keys c.prepare.auto.rows c.prepare.result c.prepare.ensures _ c.in_ok-m.was _ refl)
@@ -47,10 +47,10 @@ pub agree-requires : goal.agree-requires
 agree-requires c = agreeing c.args.d c.args.at c.args.words.now c.args.keys.now c.args.rows.now c.args.spare.now c.args.counts.now c.requires c.args.order.now c.prepare.new.keys c.prepare.new.rows c.prepare.auto.keys c.prepare.auto.rows c.prepare.result c.prepare.ensures _ c.in_ok-m.was _ refl _ (tail-part c.prepare.new.keys c.args.at)
 
 pub returns-then-not-agree : goal.returns-then-not-agree
-returns-then-not-agree c = ended-differs c.args.d c.args.at c.args.words.now c.args.keys.now c.args.rows.now c.args.spare.now c.args.counts.now c.requires c.args.order.now c.prepare.new.keys c.prepare.new.rows c.prepare.auto.keys c.prepare.auto.rows c.prepare.result c.prepare.ensures _ c.in_ok-m.was _ refl c.args.listed.now c.copy_from_slice.new.self c.copy_from_slice.ensures.after c.if-listed-size.false _ (tail-part c.prepare.new.keys c.args.at) (c.agree.ensures.clash (c.if-not-agree.true))
+returns-then-not-agree c = ended-differs c.args.d c.args.at c.args.words.now c.args.keys.now c.args.rows.now c.args.spare.now c.args.counts.now c.requires c.args.order.now c.prepare.new.keys c.prepare.new.rows c.prepare.auto.keys c.prepare.auto.rows c.prepare.result c.prepare.ensures _ c.in_ok-m.was _ refl c.args.listed.now c.copy.new.dst c.copy.ensures c.if-listed-size.false _ (tail-part c.prepare.new.keys c.args.at) (c.agree.ensures.clash (c.if-not-agree.true))
 
 pub returns-in_err-m : goal.returns-in_err-m
 returns-in_err-m c = rw (passed_on c.from_residual.ensures.1) (ended-refused c.args.d c.args.at c.args.words.now c.args.order.now c.prepare.new.keys c.prepare.new.rows c.prepare.result c.prepare.ensures _ c.in_err-m.was c.args.listed.now)
 
 pub returns : goal.returns
-returns c = ended-agreed c.args.d c.args.at c.args.words.now c.args.keys.now c.args.rows.now c.args.spare.now c.args.counts.now c.requires c.args.order.now c.prepare.new.keys c.prepare.new.rows c.prepare.auto.keys c.prepare.auto.rows c.prepare.result c.prepare.ensures _ c.in_ok-m.was _ refl c.args.listed.now c.copy_from_slice.new.self c.copy_from_slice.ensures.after c.if-listed-size.false _ (tail-part c.prepare.new.keys c.args.at) (c.agree.ensures.all (c.if-not-agree.false))
+returns c = ended-agreed c.args.d c.args.at c.args.words.now c.args.keys.now c.args.rows.now c.args.spare.now c.args.counts.now c.requires c.args.order.now c.prepare.new.keys c.prepare.new.rows c.prepare.auto.keys c.prepare.auto.rows c.prepare.result c.prepare.ensures _ c.in_ok-m.was _ refl c.args.listed.now c.copy.new.dst c.copy.ensures c.if-listed-size.false _ (tail-part c.prepare.new.keys c.args.at) (c.agree.ensures.all (c.if-not-agree.false))

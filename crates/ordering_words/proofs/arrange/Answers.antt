@@ -28,23 +28,20 @@ overflow_add-end c = omega (arith, size_fits c.args.d c.args.m c.args.b c.args.k
 pub offset_bounds-keys-len : goal.offset_bounds-keys-len
 offset_bounds-keys-len c = omega (arith, size_fits c.args.d c.args.m c.args.b c.args.keys.now c.args.cells.now c.args.spare.now c.args.counts.now c.requires c.args.order.now)
 
-pub slice_bounds-copy_from_slice-end : goal.slice_bounds-copy_from_slice-end
-slice_bounds-copy_from_slice-end c = omega (arith, room-cells c.args.d c.args.m c.args.b c.args.keys.now c.args.cells.now c.args.spare.now c.args.counts.now c.requires c.args.order.now, c.matched-fits.auto.cells)
+pub slice_bounds-copy-end-2 : goal.slice_bounds-copy-end-2
+slice_bounds-copy-end-2 c = omega (arith, room-cells c.args.d c.args.m c.args.b c.args.keys.now c.args.cells.now c.args.spare.now c.args.counts.now c.requires c.args.order.now, c.matched-fits.auto.cells)
 
-pub slice_bounds-copy_from_slice-end-2 : goal.slice_bounds-copy_from_slice-end-2
-slice_bounds-copy_from_slice-end-2 c = sym (length-take-le _ _ (omega (arith, room-cells c.args.d c.args.m c.args.b c.args.keys.now c.args.cells.now c.args.spare.now c.args.counts.now c.requires c.args.order.now, c.matched-fits.auto.cells)))
+pub slice_bounds-copy-end-3 : goal.slice_bounds-copy-end-3
+slice_bounds-copy-end-3 c = sym (length-take-le _ _ (omega (arith, room-cells c.args.d c.args.m c.args.b c.args.keys.now c.args.cells.now c.args.spare.now c.args.counts.now c.requires c.args.order.now, c.matched-fits.auto.cells)))
 
-pub slice_bounds-copy_from_slice-end-3 : goal.slice_bounds-copy_from_slice-end-3
-slice_bounds-copy_from_slice-end-3 c = omega (arith, room-keys c.args.d c.args.m c.args.b c.args.keys.now c.args.cells.now c.args.spare.now c.args.counts.now c.requires c.args.order.now, c.matched-fits.auto.keys)
-
-pub copy_from_slice-requires : goal.copy_from_slice-requires
-copy_from_slice-requires c = length-take-le _ _ (omega (arith, room-cells c.args.d c.args.m c.args.b c.args.keys.now c.args.cells.now c.args.spare.now c.args.counts.now c.requires c.args.order.now, c.matched-fits.auto.cells)) ∙ sym (part-size c.matched-fits.new.keys (c.args.m * (c.args.d + 1)) (c.args.m * (c.args.d + 1)) (omega (arith, room-keys c.args.d c.args.m c.args.b c.args.keys.now c.args.cells.now c.args.spare.now c.args.counts.now c.requires c.args.order.now, c.matched-fits.auto.keys)))
+pub copy-requires : goal.copy-requires
+copy-requires c = length-take-le _ _ (omega (arith, room-cells c.args.d c.args.m c.args.b c.args.keys.now c.args.cells.now c.args.spare.now c.args.counts.now c.requires c.args.order.now, c.matched-fits.auto.cells)) ∙ sym (part-size c.matched-fits.new.keys (c.args.m * (c.args.d + 1)) (c.args.m * (c.args.d + 1)) (omega (arith, room-keys c.args.d c.args.m c.args.b c.args.keys.now c.args.cells.now c.args.spare.now c.args.counts.now c.requires c.args.order.now, c.matched-fits.auto.keys)))
 
 pub returns-then-not-fits : goal.returns-then-not-fits
-returns-then-not-fits c = out-other c.args.d c.args.m c.args.b c.args.keys.now c.args.cells.now c.args.spare.now c.args.counts.now c.requires c.args.order.now c.if-order-len.false c.matched-fits.result c.matched-fits.new.keys c.matched-fits.new.spare c.matched-fits.ensures c.copy_from_slice.new.self c.matched-fits.new.cells c.copy_from_slice.ensures.after (c.if-not-fits.true) _
+returns-then-not-fits c = out-other c.args.d c.args.m c.args.b c.args.keys.now c.args.cells.now c.args.spare.now c.args.counts.now c.requires c.args.order.now c.if-order-len.false c.matched-fits.result c.matched-fits.new.keys c.matched-fits.new.spare c.matched-fits.ensures c.copy.new.dst c.matched-fits.new.cells c.copy.ensures (c.if-not-fits.true) _
 
 pub gather-requires : goal.gather-requires
-gather-requires c = record { by_index = reps-rows c.args.d c.args.m c.args.b c.args.keys.now c.args.cells.now c.args.spare.now c.args.counts.now c.requires c.args.order.now c.if-order-len.false c.matched-fits.result c.matched-fits.new.keys c.matched-fits.new.spare c.matched-fits.ensures c.copy_from_slice.new.self c.matched-fits.new.cells c.copy_from_slice.ensures.after (c.if-not-fits.false); m_in_bounds = (omega (arith, room-spare c.args.d c.args.m c.args.b c.args.keys.now c.args.cells.now c.args.spare.now c.args.counts.now c.requires c.args.order.now, c.matched-fits.auto.spare), omega (arith, room-keys c.args.d c.args.m c.args.b c.args.keys.now c.args.cells.now c.args.spare.now c.args.counts.now c.requires c.args.order.now, c.matched-fits.auto.keys)) }
+gather-requires c = record { by_index = reps-rows c.args.d c.args.m c.args.b c.args.keys.now c.args.cells.now c.args.spare.now c.args.counts.now c.requires c.args.order.now c.if-order-len.false c.matched-fits.result c.matched-fits.new.keys c.matched-fits.new.spare c.matched-fits.ensures c.copy.new.dst c.matched-fits.new.cells c.copy.ensures (c.if-not-fits.false); m_in_bounds = (omega (arith, room-spare c.args.d c.args.m c.args.b c.args.keys.now c.args.cells.now c.args.spare.now c.args.counts.now c.requires c.args.order.now, c.matched-fits.auto.spare), omega (arith, room-keys c.args.d c.args.m c.args.b c.args.keys.now c.args.cells.now c.args.spare.now c.args.counts.now c.requires c.args.order.now, c.matched-fits.auto.keys)) }
 
 pub returns : goal.returns
-returns c = out-arranged c.args.d c.args.m c.args.b c.args.keys.now c.args.cells.now c.args.spare.now c.args.counts.now c.requires c.args.order.now c.if-order-len.false c.matched-fits.result c.matched-fits.new.keys c.matched-fits.new.spare c.matched-fits.ensures c.copy_from_slice.new.self c.matched-fits.new.cells c.copy_from_slice.ensures.after (c.if-not-fits.false) (omega (arith, room-spare c.args.d c.args.m c.args.b c.args.keys.now c.args.cells.now c.args.spare.now c.args.counts.now c.requires c.args.order.now, c.matched-fits.auto.spare)) _ c.gather.ensures
+returns c = out-arranged c.args.d c.args.m c.args.b c.args.keys.now c.args.cells.now c.args.spare.now c.args.counts.now c.requires c.args.order.now c.if-order-len.false c.matched-fits.result c.matched-fits.new.keys c.matched-fits.new.spare c.matched-fits.ensures c.copy.new.dst c.matched-fits.new.cells c.copy.ensures (c.if-not-fits.false) (omega (arith, room-spare c.args.d c.args.m c.args.b c.args.keys.now c.args.cells.now c.args.spare.now c.args.counts.now c.requires c.args.order.now, c.matched-fits.auto.spare)) _ c.gather.ensures

@@ -10,17 +10,17 @@ use Rattle.lists.proofs.Rows.{part-size}
 use Rattle.ordering_words.proofs.Lists.{laid}
 use Rattle.ordering_words.proofs.lay_out.Goals as goal
 
-pub slice_bounds-copy_from_slice-end-2 : goal.slice_bounds-copy_from_slice-end-2
-slice_bounds-copy_from_slice-end-2 c = sym (length-take-le _ _ (omega (arith, c.requires.2)))
+pub slice_bounds-copy-end-2 : goal.slice_bounds-copy-end-2
+slice_bounds-copy-end-2 c = sym (length-take-le _ _ (omega (arith, c.requires.2)))
 
-pub copy_from_slice-requires : goal.copy_from_slice-requires
-copy_from_slice-requires c = length-take-le _ _ (omega (arith, c.requires.2))
+pub copy-requires : goal.copy-requires
+copy-requires c = length-take-le _ _ (omega (arith, c.requires.2))
 
-pub slice_bounds-copy_from_slice-end-3 : goal.slice_bounds-copy_from_slice-end-3
-slice_bounds-copy_from_slice-end-3 c = omega (arith, length-append c.copy_from_slice.new.self (drop (length c.args.order.now) c.args.keys.now), length-drop (length c.args.order.now) c.args.keys.now, ap length c.copy_from_slice.ensures.after, c.requires.2)
+pub slice_bounds-copy-end-3 : goal.slice_bounds-copy-end-3
+slice_bounds-copy-end-3 c = sym (length-take-le _ _ c.requires.1)
 
-pub copy_from_slice-requires-2 : goal.copy_from_slice-requires-2
-copy_from_slice-requires-2 c = part-size (c.copy_from_slice.new.self ++ drop (length c.args.order.now) c.args.keys.now) (length c.args.order.now) (length c.args.order.now) (omega (arith, length-append c.copy_from_slice.new.self (drop (length c.args.order.now) c.args.keys.now), length-drop (length c.args.order.now) c.args.keys.now, ap length c.copy_from_slice.ensures.after, c.requires.2)) ∙ sym (length-take-le _ _ c.requires.1)
+pub copy-requires-2 : goal.copy-requires-2
+copy-requires-2 c = part-size (c.copy.new.dst ++ drop (length c.args.order.now) c.args.keys.now) (length c.args.order.now) (length c.args.order.now) (omega (arith, length-append c.copy.new.dst (drop (length c.args.order.now) c.args.keys.now), length-drop (length c.args.order.now) c.args.keys.now, ap length c.copy.ensures, c.requires.2)) ∙ sym (length-take-le _ _ c.requires.1)
 
 pub returns : goal.returns
-returns c = c.sort_words.ensures ∙ ap (sort_words c.args.n c.args.m) (laid c.args.order.now c.args.cells.now c.args.keys.now c.copy_from_slice.new.self c.copy_from_slice-2.new.self c.copy_from_slice.ensures.after c.copy_from_slice-2.ensures.after)
+returns c = c.sort_words.ensures ∙ ap (sort_words c.args.n c.args.m) (laid c.args.order.now c.args.cells.now c.args.keys.now c.copy.new.dst c.copy-2.new.dst c.copy.ensures c.copy-2.ensures)

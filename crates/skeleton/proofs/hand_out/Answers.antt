@@ -10,14 +10,14 @@ pub returns-then-out-long : goal.returns-then-out-long
 returns-then-out-long c =
     λ ws f e. handed-short ws _ (omega (arith, ap length f, c.if-out-long.true))
 
-pub slice_bounds-copy_from_slice-end-2 : goal.slice_bounds-copy_from_slice-end-2
-slice_bounds-copy_from_slice-end-2 c =
+pub slice_bounds-copy-end-2 : goal.slice_bounds-copy-end-2
+slice_bounds-copy-end-2 c =
     sym (length-take-le _ _ c.if-out-long.false)
 
-pub copy_from_slice-requires : goal.copy_from_slice-requires
-copy_from_slice-requires c =
+pub copy-requires : goal.copy-requires
+copy-requires c =
     length-take-le _ _ c.if-out-long.false
 
 pub returns : goal.returns
 returns c =
-    λ ws f e. handed-copy ws c.args.m c.args.from.now c.args.out.now _ f e c.if-out-long.false c.copy_from_slice.ensures.after
+    λ ws f e. handed-copy ws c.args.m c.args.from.now c.args.out.now _ f e c.if-out-long.false c.copy.ensures

@@ -21,4 +21,4 @@ pub returns-then-to-n : goal.returns-then-to-n
 returns-then-to-n c = worked-short c.args.grid _ c.requires _ c.points-n.ensures _ _ c.numbers-m.ensures _ (omega (arith, c.if-m-gt-MOST_VERTICES.false)) c.if-to-n.true
 
 pub returns : goal.returns
-returns c = worked-all c.args.grid _ c.requires _ c.points-n.ensures _ _ c.numbers-m.ensures _ (omega (arith, c.if-m-gt-MOST_VERTICES.false)) (omega (arith, c.if-to-n.false)) _ c.copy_from_slice.ensures.after
+returns c = worked-all c.args.grid _ c.requires _ c.points-n.ensures _ _ c.numbers-m.ensures _ (omega (arith, c.if-m-gt-MOST_VERTICES.false)) (omega (arith, c.if-to-n.false)) _ c.copy.ensures
