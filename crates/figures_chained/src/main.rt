@@ -1,34 +1,28 @@
 // Figures of honest gluing: the number of classes and each point's class, by the quick engine and by the plain one; and refusals.
 #![tactic(auto)]
 
-use arrayvec::ArrayString;
 use grid_chained::{ClassVertex, calls};
 use grid_sides::Sides;
 use quotient::{Axis, Glue, Grid, GridVertex};
 use refusal::Refusal;
-use std::fmt::Write;
+use replay_reading::printing::numbers;
 
-type Line = ArrayString<1024>;
-
-fn write_refusal(line: &mut Line, why: Refusal) {
-    let _ = write!(line, " refused {} {}", why.number(), why.place());
+fn write_refusal(why: Refusal) {
+    io::write_all(1, b" refused");
+    numbers(&[why.number(), why.place()], 2);
 }
 
-fn write_counted(line: &mut Line, said: Result<u32, Refusal>) {
+fn write_counted(said: Result<u32, Refusal>) {
     match said {
-        Ok(n) => {
-            let _ = write!(line, " {n}");
-        }
-        Err(why) => write_refusal(line, why),
+        Ok(n) => numbers(&[n], 1),
+        Err(why) => write_refusal(why),
     }
 }
 
-fn write_classed(line: &mut Line, said: Result<ClassVertex, Refusal>) {
+fn write_classed(said: Result<ClassVertex, Refusal>) {
     match said {
-        Ok(class) => {
-            let _ = write!(line, " {}", class.0);
-        }
-        Err(why) => write_refusal(line, why),
+        Ok(class) => numbers(&[class.0], 1),
+        Err(why) => write_refusal(why),
     }
 }
 
@@ -52,28 +46,22 @@ fn grid(d: u32, first: Axis, second: Axis, third: Axis) -> Grid {
 
 // The count of classes, the class of point 1 and of a point past the last.
 fn ask(g: Grid, past: u32, room: &mut [u32]) {
-    let mut line = Line::new();
-    let _ = write!(line, "nvertices");
-    write_counted(&mut line, calls::nvertices(g, room));
-    let _ = write!(line, ", point 1");
-    write_classed(&mut line, calls::reduce(g, GridVertex(1), room));
-    let _ = write!(line, ", past the last");
-    write_classed(&mut line, calls::reduce(g, GridVertex(past), room));
-    let _ = writeln!(line);
-    io::write_all(1, line.as_bytes());
+    io::write_all(1, b"nvertices");
+    write_counted(calls::nvertices(g, room));
+    io::write_all(1, b", point 1");
+    write_classed(calls::reduce(g, GridVertex(1), room));
+    io::write_all(1, b", past the last");
+    write_classed(calls::reduce(g, GridVertex(past), room));
+    io::write_all(1, b"\n");
 }
 
 // The call's name, what it says, and the list of classes.
-fn list(name: &str, said: Result<u32, Refusal>, classes: &[u32]) {
-    let mut line = Line::new();
-    let _ = write!(line, "{name}");
-    write_counted(&mut line, said);
-    let _ = write!(line, ":");
-    for class in classes {
-        let _ = write!(line, " {class}");
-    }
-    let _ = writeln!(line);
-    io::write_all(1, line.as_bytes());
+fn list(name: &[u8], said: Result<u32, Refusal>, classes: &[u32]) {
+    io::write_all(1, name);
+    write_counted(said);
+    io::write_all(1, b":");
+    numbers(classes, classes.len());
+    io::write_all(1, b"\n");
 }
 
 // All calls, with lists for so many points and so much room.
@@ -85,9 +73,9 @@ fn show(g: Grid, past: u32, points: usize, room: usize) {
     let closed = &mut closed[..points.min(82)];
     let work = &mut work[..room.min(8192)];
     ask(g, past, work);
-    list("classes", calls::classes(g, classes, work), classes);
+    list(b"classes", calls::classes(g, classes, work), classes);
     list(
-        "closed_classes",
+        b"closed_classes",
         calls::closed_classes(g, closed, work),
         closed,
     );

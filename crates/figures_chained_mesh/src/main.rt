@@ -2,25 +2,30 @@
 // least and greatest numbers afterwards. Before the call the word list is full of 777 and the working lists of 5.
 #![tactic(auto)]
 
-use arrayvec::ArrayString;
 use grid_sides::Sides;
 use quotient::{Axis, Glue, Grid};
-use std::fmt::Write;
+use refusal::Refusal;
+use replay_reading::printing::numbers;
 
-type Line = ArrayString<512>;
-
-fn write_list(line: &mut Line, list: &[u32]) {
-    for x in list {
-        let _ = write!(line, " {x}");
+fn write_said(said: Result<u32, Refusal>) {
+    match said {
+        Ok(n) => {
+            io::write_all(1, b"count");
+            numbers(&[n], 1);
+        }
+        Err(why) => {
+            io::write_all(1, b"refused");
+            numbers(&[why.number(), why.place()], 2);
+        }
     }
-    let _ = writeln!(line);
+    io::write_all(1, b"\n");
 }
 
 // The least and the greatest number of a list.
-fn write_ends(line: &mut Line, list: &[u32]) {
+fn write_ends(list: &[u32]) {
     let least = list.iter().copied().min().unwrap_or(9999);
     let greatest = list.iter().copied().max().unwrap_or(0);
-    let _ = write!(line, " {least} {greatest}");
+    numbers(&[least, greatest], 2);
 }
 
 fn axis(count: u32, glue: Glue) -> Axis {
@@ -53,20 +58,16 @@ fn show(g: Grid, words: usize, keys: usize, rows: usize, spare: usize, counts: u
     let rows = &mut some_rows[..rows.min(8192)];
     let spare = &mut some_spare[..spare.min(8192)];
     let counts = &mut some_counts[..counts.min(8192)];
-    let mut line = Line::new();
-    let _ = match grid_chained_mesh::cell_words(g, words, keys, rows, spare, counts) {
-        Ok(n) => writeln!(line, "count {n}"),
-        Err(why) => writeln!(line, "refused {} {}", why.number(), why.place()),
-    };
-    let _ = write!(line, "words");
-    write_list(&mut line, words);
-    let _ = write!(line, "room");
-    write_ends(&mut line, keys);
-    write_ends(&mut line, rows);
-    write_ends(&mut line, spare);
-    write_ends(&mut line, counts);
-    let _ = writeln!(line);
-    io::write_all(1, line.as_bytes());
+    write_said(grid_chained_mesh::cell_words(g, words, keys, rows, spare, counts));
+    io::write_all(1, b"words");
+    numbers(words, words.len());
+    io::write_all(1, b"\n");
+    io::write_all(1, b"room");
+    write_ends(keys);
+    write_ends(rows);
+    write_ends(spare);
+    write_ends(counts);
+    io::write_all(1, b"\n");
 }
 
 fn main() {

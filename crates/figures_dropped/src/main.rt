@@ -2,29 +2,41 @@
 #![tactic(auto)]
 
 use arrayvec::ArrayString;
+use complex_dropped::Dropped;
+use refusal::Refusal;
 use std::fmt::Write;
 
-type Line = ArrayString<64>;
-
-fn digits(line: &mut Line, numbers: &[u32]) {
+// The numbers, each by itself and with nothing between them.
+fn digits(numbers: &[u32]) {
     for n in numbers {
-        let _ = write!(line, "{n}");
+        let mut text = ArrayString::<32>::new();
+        let _ = write!(text, "{n}");
+        io::write_all(1, text.as_bytes());
     }
 }
 
-// What one call says that hands out to these two lists and works in the third.
-fn said(
-    d: u32,
-    words: &[u32],
-    gone: &[u32],
-    kept: &mut [u32],
-    old: &mut [u32],
-    spare: &mut [u32],
-) -> Line {
+// What is said.
+fn head(said: Result<Dropped, Refusal>) {
+    let mut text = ArrayString::<32>::new();
+    let _ = match said {
+        Ok(dropped) => {
+            io::write_all(1, b"kept ");
+            write!(text, "{} {} ", dropped.words, dropped.vertices)
+        }
+        Err(why) => {
+            io::write_all(1, b"refused ");
+            write!(text, "{:02} ", why.number())
+        }
+    };
+    io::write_all(1, text.as_bytes());
+}
+
+// One call that hands out to these two lists and works in the third, and what it says.
+fn call(d: u32, words: &[u32], gone: &[u32], kept: &mut [u32], old: &mut [u32], spare: &mut [u32]) {
     let mut keys = [7u32; 64];
     let mut rows = [7u32; 32];
     let mut counts = [7u32; 32];
-    let said = complex_dropped::drop_cells(
+    head(complex_dropped::drop_cells(
         d,
         words,
         gone,
@@ -34,13 +46,7 @@ fn said(
         &mut rows,
         spare,
         &mut counts,
-    );
-    let mut line = Line::new();
-    let _ = match said {
-        Ok(dropped) => write!(line, "kept {} {} ", dropped.words, dropped.vertices),
-        Err(why) => write!(line, "refused {:02} ", why.number()),
-    };
-    line
+    ));
 }
 
 // One call with result lists of nine numbers and of `most`, at most six.
@@ -49,12 +55,11 @@ fn hand_out(d: u32, words: &[u32], gone: &[u32], most: usize) {
     let mut numbers = [7u32; 6];
     let old = &mut numbers[..most.min(6)];
     let mut spare = [7u32; 32];
-    let mut line = said(d, words, gone, &mut kept, old, &mut spare);
-    digits(&mut line, &kept);
-    let _ = write!(line, " ");
-    digits(&mut line, old);
-    let _ = writeln!(line);
-    io::write_all(1, line.as_bytes());
+    call(d, words, gone, &mut kept, old, &mut spare);
+    digits(&kept);
+    io::write_all(1, b" ");
+    digits(old);
+    io::write_all(1, b"\n");
 }
 
 fn line(d: u32, words: &[u32], gone: &[u32]) {
@@ -71,10 +76,9 @@ fn little_room(d: u32, words: &[u32], gone: &[u32]) {
     let mut kept = [7u32; 9];
     let mut old = [7u32; 6];
     let mut spare = [7u32; 8];
-    let mut line = said(d, words, gone, &mut kept, &mut old, &mut spare);
-    digits(&mut line, &spare);
-    let _ = writeln!(line);
-    io::write_all(1, line.as_bytes());
+    call(d, words, gone, &mut kept, &mut old, &mut spare);
+    digits(&spare);
+    io::write_all(1, b"\n");
 }
 
 fn main() {

@@ -22,24 +22,27 @@ fn check(list: &[u32]) -> u32 {
     sum % 1000003
 }
 
+// What one path says of its list, and what comes after it, as one piece.
+fn line(said: Result<u32, Refusal>, list: &[u32], end: &str) {
+    let mut text = ArrayString::<32>::new();
+    let _ = write!(
+        text,
+        "{:02} {:04} {:07}{end}",
+        number(said),
+        said.unwrap_or(0),
+        check(list)
+    );
+    io::write_all(1, text.as_bytes());
+}
+
 // Both paths, each into a list that holds sevens.
 fn both(d: u32, r: u32) {
     let mut ready = [7u32; 2048];
     let mut steps = [7u32; 2048];
     let said = refine_pattern::corners(d, r, &mut ready);
     let stepping = refine_pattern::corners_stepping(d, r, &mut steps);
-    let mut line = ArrayString::<64>::new();
-    let _ = writeln!(
-        line,
-        "{:02} {:04} {:07} {:02} {:04} {:07}",
-        number(said),
-        said.unwrap_or(0),
-        check(&ready),
-        number(stepping),
-        stepping.unwrap_or(0),
-        check(&steps)
-    );
-    io::write_all(1, line.as_bytes());
+    line(said, &ready, " ");
+    line(stepping, &steps, "\n");
 }
 
 fn main() {

@@ -18,21 +18,28 @@ fn number(said: Result<u32, Refusal>) -> u32 {
     }
 }
 
-fn show(said: Result<u32, Refusal>, records: &[u32]) {
-    let mut line = ArrayString::<64>::new();
-    let _ = write!(line, "{:02} {:02}", number(said), said.unwrap_or(0));
-    for record in records.chunks(5).take(5) {
-        let _ = write!(line, " ");
-        for &n in record {
-            let _ = match n {
-                NO_CELL => write!(line, "-"),
-                UNWRITTEN => write!(line, "."),
-                _ => write!(line, "{n}"),
-            };
-        }
+// A space and a record's numbers, as one piece.
+fn five(record: &[u32]) {
+    let mut text = ArrayString::<64>::new();
+    let _ = write!(text, " ");
+    for &n in record {
+        let _ = match n {
+            NO_CELL => write!(text, "-"),
+            UNWRITTEN => write!(text, "."),
+            _ => write!(text, "{n}"),
+        };
     }
-    let _ = writeln!(line);
-    io::write_all(1, line.as_bytes());
+    io::write_all(1, text.as_bytes());
+}
+
+fn show(said: Result<u32, Refusal>, records: &[u32]) {
+    let mut text = ArrayString::<32>::new();
+    let _ = write!(text, "{:02} {:02}", number(said), said.unwrap_or(0));
+    io::write_all(1, text.as_bytes());
+    for record in records.chunks(5).take(5) {
+        five(record);
+    }
+    io::write_all(1, b"\n");
 }
 
 // The records of a list of words.

@@ -4,6 +4,7 @@
 use arrayvec::ArrayString;
 use grid_sides::Sides;
 use quotient::{Axis, Glue, Grid, GridVertex};
+use replay_reading::printing::numbers;
 use std::fmt::Write;
 
 fn axis(count: u32, glue: Glue) -> Axis {
@@ -25,16 +26,18 @@ fn grid(d: u32, first: Axis, second: Axis, third: Axis) -> Grid {
 }
 
 fn point(g: Grid, v: u32) {
-    let mut line = ArrayString::<64>::new();
-    let _ = match g.reduce(GridVertex(v)) {
-        Err(why) => writeln!(line, "{v}: {} {}", why.number(), why.place()),
-        Ok(class) => writeln!(
-            line,
-            "{v}: 0 {} {} {}",
-            class.vertex.0, class.wrapped, class.reversed
-        ),
-    };
-    io::write_all(1, line.as_bytes());
+    let mut text = ArrayString::<32>::new();
+    let _ = write!(text, "{v}");
+    io::write_all(1, text.as_bytes());
+    io::write_all(1, b":");
+    match g.reduce(GridVertex(v)) {
+        Err(why) => numbers(&[why.number(), why.place()], 2),
+        Ok(class) => {
+            numbers(&[0, class.vertex.0], 2);
+            numbers(&[class.wrapped, class.reversed], 2);
+        }
+    }
+    io::write_all(1, b"\n");
 }
 
 fn points(g: Grid, vertices: &[u32]) {

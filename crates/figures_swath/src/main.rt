@@ -1,11 +1,10 @@
 // Swaths, run: the refusal's number and place, or 0 and 0, and the list of five numbers afterwards, which held 6 in every place.
 #![tactic(auto)]
 
-use arrayvec::ArrayString;
 use grid_sides::Sides;
 use quotient::{Axis, Glue, Grid};
 use refusal::Refusal;
-use std::fmt::Write;
+use replay_reading::printing::numbers;
 
 fn axis(count: u32, glue: Glue) -> Axis {
     Axis { count, glue }
@@ -38,13 +37,10 @@ fn told(said: Result<(), Refusal>) -> (u32, u32) {
 fn line(grid: Grid, points: &[u32], room: usize) {
     let mut glued = [6u32; 5];
     let (number, place) = told(grid_swath::swath(grid, points, &mut glued[..room.min(5)]));
-    let mut line = ArrayString::<96>::new();
-    let _ = write!(line, " {number} {place} :");
-    for n in glued {
-        let _ = write!(line, " {n}");
-    }
-    let _ = writeln!(line);
-    io::write_all(1, line.as_bytes());
+    numbers(&[number, place], 2);
+    io::write_all(1, b" :");
+    numbers(&glued, 5);
+    io::write_all(1, b"\n");
 }
 
 fn main() {

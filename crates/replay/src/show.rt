@@ -1,5 +1,6 @@
 // What a call said, and the signs that it handed out, on standard output.
 use arrayvec::ArrayString;
+use replay_reading::printing::numbers;
 use std::fmt::Write;
 
 // The first n signs of the list.
@@ -11,9 +12,10 @@ pub(crate) fn signs(list: &[i32], n: usize) {
 
 // The refusal's number and place, or 0 and the answer.
 pub(crate) fn answer(said: u64) {
-    let mut line = ArrayString::<64>::new();
-    let _ = write!(line, "{} {}", said / 4294967296, said % 4294967296);
-    io::write_all(1, line.as_bytes());
+    let mut text = ArrayString::<32>::new();
+    let _ = write!(text, "{}", said / 4294967296);
+    io::write_all(1, text.as_bytes());
+    numbers(&[said % 4294967296], 1);
 }
 
 // How many rows were handed out.

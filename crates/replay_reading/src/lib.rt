@@ -1,4 +1,4 @@
-// Added by the port: how the programs that replay stored requests read them and print the answers. Numbers in a text are decimal, with anything but digits between them.
+// Added by the port: how the programs that replay stored requests read them and print the answers; some of the figures print by it too. Numbers in a text are decimal, with anything but digits between them.
 #![tactic(auto)]
 
 pub mod printing;

@@ -1,11 +1,12 @@
-// How the programs that replay stored requests print what was handed out.
+// How the programs of the gate print what was handed out, piece by piece: an output that takes no more keeps what it took before.
 use arrayvec::ArrayString;
 use std::fmt::{Display, Write};
 
 // A space and a number.
 fn number<T: Display>(x: &T) {
     let mut text = ArrayString::<32>::new();
-    let _ = write!(text, " {x}");
+    let _ = write!(text, "{x}");
+    io::write_all(1, b" ");
     io::write_all(1, text.as_bytes());
 }
 

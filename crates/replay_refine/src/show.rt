@@ -3,7 +3,7 @@ use arrayvec::ArrayString;
 use refine_results::Refinement;
 use refusal::Refusal;
 use replay_reading::printing::{floats, numbers};
-use std::fmt::{Display, Write};
+use std::fmt::Write;
 
 // How many children and births were handed out, and how many numbers a word has.
 #[derive(Clone, Copy)]
@@ -14,9 +14,19 @@ pub(crate) struct Sizes {
 }
 
 // A bar, and the first n numbers of the list.
-fn part<T: Display>(list: &[T], n: usize) {
+fn part(list: &[u32], n: usize) {
     io::write_all(1, b" |");
     numbers(list, n);
+}
+
+// A bar, and the first n whole numbers of the list, each one piece with its space.
+fn whole_part(list: &[i32], n: usize) {
+    io::write_all(1, b" |");
+    for x in list.iter().take(n) {
+        let mut text = ArrayString::<32>::new();
+        let _ = write!(text, " {x}");
+        io::write_all(1, text.as_bytes());
+    }
 }
 
 // A bar, and the bit patterns of the first n numbers of the list.
@@ -45,10 +55,12 @@ fn born(vertices: u32, top: u32) -> usize {
 
 // The refusal's number and place, or 0 and how many children and vertices there are.
 pub(crate) fn answer(said: Result<Refinement, Refusal>, d: u32, words: &[u32]) -> Sizes {
-    let mut line = ArrayString::<64>::new();
-    let sizes = match said {
+    match said {
         Err(why) => {
-            let _ = write!(line, "{} {}", why.number(), why.place());
+            let mut text = ArrayString::<32>::new();
+            let _ = write!(text, "{}", why.number());
+            io::write_all(1, text.as_bytes());
+            numbers(&[why.place()], 1);
             Sizes {
                 children: 0,
                 births: 0,
@@ -56,16 +68,15 @@ pub(crate) fn answer(said: Result<Refinement, Refusal>, d: u32, words: &[u32]) -
             }
         }
         Ok(Refinement { children, vertices }) => {
-            let _ = write!(line, "0 {children} {vertices}");
+            io::write_all(1, b"0");
+            numbers(&[children, vertices], 2);
             Sizes {
                 children: children as usize,
                 births: born(vertices, largest(words)),
                 width: width(d),
             }
         }
-    };
-    io::write_all(1, line.as_bytes());
-    sizes
+    }
 }
 
 // The children: cells, words, parents, Jacobians as floats and in whole numbers.
@@ -83,7 +94,7 @@ pub(crate) fn children(
     part(words, corners);
     part(parents, s.children);
     float_part(jacobians, entries);
-    part(whole, entries);
+    whole_part(whole, entries);
 }
 
 // The births: vertices, weights, shares; and the line's end.
